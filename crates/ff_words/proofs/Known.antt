@@ -1,6 +1,6 @@
 -- What the lists say of written words.
 use Rattle.std.proofs.Common.{◌≡◌, ℕ, inl, inr, Bool, true, false, ◌&&◌, Some, None, Ok, List, [], ◌∷◌, refl, sym, ap, subst, ◌∙◌}
-use Rattle.std.specs.Prelude.{codes, map, if◌then◌else◌}
+use Rattle.std.specs.Prelude.{codes, if◌then◌else◌}
 use Rattle.std.specs.Str.{bytes_eq}
 use Rattle.std.proofs.lemmas.Bool.{cases_Bool}
 use Rattle.std.proofs.lemmas.Slice.Eq.{bytes_eq-Decides}
@@ -20,13 +20,13 @@ use Rattle.ff_words.specs.declared.table.Kind.{Kind}
 use Rattle.ff_words.specs.declared.table.Kind.TheVariants as kind
 use Rattle.ff_words.specs.declared.table.Named.{Named}
 use Rattle.ff_words.specs.declared.table.Rule.{Rule}
-use Rattle.ff_words.specs.declared.table.TheConstants.{OPTIONS}
 use Rattle.ff_words.specs.declared.value.Micros.{Micros}
 use Rattle.ff_words.specs.declared.value.Value.TheVariants as value
 use Rattle.ff_words.specs.Table.{rule_in, option_named, format_named, audio_codec, video_codec}
 use Rattle.ff_words.specs.Values.{Reads, or_bad, format_value, codec_value, hash_value}
 use Rattle.ff_words.specs.Words.{is_dashed}
-use Rattle.ff_words.specs.Writing.{format_name, codec_name, hash_name, micros_text, map_text, IsFineMap, IsFineGraph, IsSoundCodec}
+use Rattle.ff_words.specs.Options.{options, format_name, codec_name, hash_name}
+use Rattle.ff_words.specs.Writing.{micros_text, map_text, IsFineMap, IsFineGraph, IsSoundCodec}
 use Rattle.ff_words.proofs.Spellings.{is-duration, is-map}
 
 -- ---- options
@@ -137,9 +137,7 @@ none-in (line ∷ list) word h d =
 
 pub no-option : (word : List ℕ) → is_dashed word ≡ false → option_named word ≡ None
 unfolding option_named
-no-option word d =
-    let list : List (List ℕ × Concern × Kind) = map (λ line. (line.0.now, line.1, line.2)) OPTIONS in
-    none-in list word refl d
+no-option word d = none-in options word refl d
 
 -- ---- values
 

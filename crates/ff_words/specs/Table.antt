@@ -9,7 +9,7 @@ use Rattle.ff_words.specs.declared.table.Concern.{Concern}
 use Rattle.ff_words.specs.declared.table.Kind.{Kind}
 use Rattle.ff_words.specs.declared.table.Rule.{Rule}
 use Rattle.ff_words.specs.declared.table.Named.{Named}
-use Rattle.ff_words.specs.declared.table.TheConstants.{OPTIONS, FORMATS, AUDIO_CODECS, VIDEO_CODECS, LEVELS}
+use Rattle.ff_words.specs.Options.{options, file_formats, audio_codecs, video_codecs, log_levels}
 
 -- the option of this name
 abbrev pub rule_in : List (List ℕ × Concern × Kind) → List ℕ → Option Rule
@@ -17,7 +17,7 @@ rule_in [] word = None
 rule_in (line ∷ list) word = if bytes_eq line.0 word then Some (record { concern = line.1; kind = line.2 }) else rule_in list word
 
 unfoldable pub option_named : List ℕ → Option Rule
-option_named word = rule_in (map (λ line. (line.0.now, line.1, line.2)) OPTIONS) word
+option_named word = rule_in options word
 
 abbrev pub named : List ℕ × List ℕ × FileFormat × Bool × Bool → Named
 named line = record { format = line.2; read = line.3; written = line.4 }
@@ -28,7 +28,7 @@ format_in [] word = None
 format_in (line ∷ list) word = if bytes_eq line.0 word then Some (named line) else format_in list word
 
 unfoldable pub format_named : List ℕ → Option Named
-format_named word = format_in (map (λ line. (line.0.now, line.1.now, line.2, line.3, line.4)) FORMATS) word
+format_named word = format_in file_formats word
 
 -- the format that is written to a file with a name that ends so; the empty ending tells none
 abbrev pub ending_in : List (List ℕ × List ℕ × FileFormat × Bool × Bool) → List ℕ → Option FileFormat
@@ -37,7 +37,7 @@ ending_in (line ∷ list) name =
     if line.4 && (nat_lt 0 (length line.1) && ends_with nat_eq name line.1) then Some line.2 else ending_in list name
 
 unfoldable pub format_ending : List ℕ → Option FileFormat
-format_ending name = ending_in (map (λ line. (line.0.now, line.1.now, line.2, line.3, line.4)) FORMATS) name
+format_ending name = ending_in file_formats name
 
 -- the codec of this name
 abbrev pub codec_in : List (List ℕ × Codec) → List ℕ → Option Codec
@@ -45,17 +45,17 @@ codec_in [] word = None
 codec_in (line ∷ list) word = if bytes_eq line.0 word then Some line.1 else codec_in list word
 
 unfoldable pub audio_codec : List ℕ → Option Codec
-audio_codec word = codec_in (map (λ line. (line.0.now, line.1)) AUDIO_CODECS) word
+audio_codec word = codec_in audio_codecs word
 
 unfoldable pub video_codec : List ℕ → Option Codec
-video_codec word = codec_in (map (λ line. (line.0.now, line.1)) VIDEO_CODECS) word
+video_codec word = codec_in video_codecs word
 
 abbrev pub level_in : List (List ℕ) → List ℕ → Bool
 level_in [] word = false
 level_in (name ∷ list) word = if bytes_eq name word then true else level_in list word
 
 unfoldable pub is_level : List ℕ → Bool
-is_level word = level_in (map (λ name. name.now) LEVELS) word
+is_level word = level_in log_levels word
 
 -- the lines of a list of the code
 abbrev pub lines : List (Bor (List ℕ) × Concern × Kind) → List (List ℕ × Concern × Kind)

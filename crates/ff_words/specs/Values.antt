@@ -1,5 +1,5 @@
 -- What a value reads as, or what is wrong with it.
-use Rattle.std.specs.Prelude.{◌≡◌, ℕ, ◌≤◌, ◌<◌, ◌^◌, ◌⊎◌, Bool, if◌then◌else◌, Option, Some, None, Result, Ok, Err, List, length, codes, map}
+use Rattle.std.specs.Prelude.{◌≡◌, ℕ, ◌≤◌, ◌<◌, ◌^◌, ◌⊎◌, Bool, if◌then◌else◌, Option, Some, None, Result, Ok, Err, List, length, map}
 use Rattle.std.specs.Str.{bytes_eq}
 use Rattle.std.specs.Char.{to_ascii_lowercase}
 use Rattle.ff_frame.specs.declared.head.Codec.{Codec}
@@ -21,6 +21,7 @@ use Rattle.ff_words.specs.declared.table.Kind.TheVariants as kind
 use Rattle.ff_words.specs.declared.value.Micros.{Micros}
 use Rattle.ff_words.specs.declared.value.Value.{Value}
 use Rattle.ff_words.specs.declared.value.Value.TheVariants as value
+use Rattle.ff_words.specs.Options.{hash_name}
 use Rattle.ff_words.specs.Table.{format_named, audio_codec, video_codec, is_level}
 
 -- a value, or that it is outside its set
@@ -45,8 +46,8 @@ is_spelled text name = bytes_eq (map to_ascii_lowercase text) (map to_ascii_lowe
 
 abbrev pub hash_value : List ℕ → Option Value
 hash_value text =
-    if is_spelled text (codes "SHA256") then Some (value.Hash Sha256) else
-    (if is_spelled text (codes "MD5") then Some (value.Hash Md5) else None)
+    if is_spelled text (hash_name Sha256) then Some (value.Hash Sha256) else
+    (if is_spelled text (hash_name Md5) then Some (value.Hash Md5) else None)
 
 -- a whole number of 1 to 9 digits in its range
 abbrev pub ReadsWhole : ℕ → ℕ → List ℕ → Result ℕ WordKind → Type 0

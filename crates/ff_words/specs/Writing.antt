@@ -5,7 +5,6 @@ use Rattle.std.specs.Fmt.{decimal}
 use Rattle.ff_frame.specs.declared.head.Codec.{Codec}
 use Rattle.ff_frame.specs.declared.head.Codec.TheVariants as codec
 use Rattle.ff_frame.specs.declared.hash.HashKind.{HashKind}
-use Rattle.ff_frame.specs.declared.hash.HashKind.TheVariants.{Sha256, Md5}
 use Rattle.ff_lang.specs.declared.graph.Graph.{Graph}
 use Rattle.ff_lang.specs.Grammar.{IsLabel}
 use Rattle.ff_lang.specs.Printing.{printed, IsSound}
@@ -24,30 +23,13 @@ use Rattle.ff_words.specs.declared.job.Command.{Command}
 use Rattle.ff_words.specs.declared.job.Command.TheVariants as asked
 use Rattle.ff_words.specs.declared.job.Solo.{Solo}
 use Rattle.ff_words.specs.declared.job.Solo.TheVariants.{Help, Version, SelfRun}
+use Rattle.ff_words.specs.Options.{format_name, codec_name, hash_name}
 use Rattle.ff_words.specs.Words.{is_dashed, same_name}
 
 -- ---- values
 
 abbrev pub micros_text : ℕ → List ℕ
 micros_text us = decimal us ++ codes "us"
-
-abbrev pub format_name : FileFormat → List ℕ
-format_name format.Wav = codes "wav"
-format_name format.Flac = codes "flac"
-format_name format.Y4m = codes "yuv4mpegpipe"
-format_name format.FrameHash = codes "framehash"
-
-abbrev pub codec_name : Codec → List ℕ
-codec_name codec.PcmU8 = codes "pcm_u8"
-codec_name codec.PcmS16le = codes "pcm_s16le"
-codec_name codec.PcmS24le = codes "pcm_s24le"
-codec_name codec.PcmS32le = codes "pcm_s32le"
-codec_name codec.Flac = codes "flac"
-codec_name codec.RawVideo = codes "rawvideo"
-
-abbrev pub hash_name : HashKind → List ℕ
-hash_name Sha256 = codes "SHA256"
-hash_name Md5 = codes "MD5"
 
 abbrev pub pick_text : Pick → List ℕ
 pick_text pick.All = []

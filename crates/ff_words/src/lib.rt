@@ -7,11 +7,11 @@
 //! (c)      inputs: in.wav, cut from 1 s on        outputs: out.txt, maps 0:a and [v]        graphs: G
 //! ```
 //!
-//! `table` has the options as one list. `specs/Words` says what words mean in three layers, each readable alone: (a) the words
-//! fall into options with their values, inputs and outputs; (b) each file has the options between it and the file before; (c) the
-//! fields of a job are those options' values. It says for each word, each file and the end what is wrong there by itself; the
-//! answer is the first in order of reading. It has no options that wait and no state: `read_words` has them, and goes over the
-//! words once.
+//! `table` has the options as one list, that of `specs/Options`. `specs/Words` says what words mean in three layers, each
+//! readable alone: (a) the words fall into options with their values, inputs and outputs; (b) each file has the options between
+//! it and the file before; (c) the fields of a job are those options' values. It says for each word, each file and the end what
+//! is wrong there by itself; the answer is the first in order of reading. It has no options that wait and no state: `read_words`
+//! has them, and goes over the words once.
 #![tactic(auto)]
 
 mod cuts;
@@ -26,6 +26,8 @@ mod value;
 
 pub use error::{WordError, WordKind};
 pub use job::{Command, FileFormat, InputJob, Job, OutputJob, Solo};
-pub use laws::{a_fault_stays, words_have_one_answer, written_commands_are_read};
+pub use laws::{
+    a_fault_stays, the_lists_are_as_defined, words_have_one_answer, written_commands_are_read,
+};
 pub use read::read_words;
 pub use table::{AUDIO_CODECS, Concern, FORMATS, Kind, OPTIONS, VIDEO_CODECS};

@@ -1,0 +1,102 @@
+-- The options of the command line and the values that their lists allow, as plain lists. `-h` tells them in this order.
+use Rattle.std.specs.Prelude.{ℕ, Bool, true, false, List, ◌∷◌, [], codes}
+use Rattle.ff_frame.specs.declared.head.Codec.{Codec}
+use Rattle.ff_frame.specs.declared.head.Codec.TheVariants as codec
+use Rattle.ff_frame.specs.declared.hash.HashKind.{HashKind}
+use Rattle.ff_frame.specs.declared.hash.HashKind.TheVariants.{Sha256, Md5}
+use Rattle.ff_words.specs.declared.job.FileFormat.{FileFormat}
+use Rattle.ff_words.specs.declared.job.FileFormat.TheVariants as format
+use Rattle.ff_words.specs.declared.table.Concern.{Concern}
+use Rattle.ff_words.specs.declared.table.Concern.TheVariants.{All, Alone, File, Output, Itself}
+use Rattle.ff_words.specs.declared.table.Kind.{Kind}
+use Rattle.ff_words.specs.declared.table.Kind.TheVariants as kind
+
+-- each option, whom it concerns, and its kind of value
+abbrev pub options : List (List ℕ × Concern × Kind)
+options =
+    (codes "-y", All, kind.Nothing) ∷
+    (codes "-hide_banner", All, kind.Nothing) ∷
+    (codes "-nostdin", All, kind.Nothing) ∷
+    (codes "-nostats", All, kind.NoStats) ∷
+    (codes "-loglevel", All, kind.Level) ∷
+    (codes "-v", All, kind.Level) ∷
+    (codes "-filter_complex", All, kind.Complex) ∷
+    (codes "-lavfi", All, kind.Complex) ∷
+    (codes "-thread_queue_size", All, kind.Queue) ∷
+    (codes "-sched_trace", All, kind.Trace) ∷
+    (codes "-h", Alone, kind.Help) ∷
+    (codes "-version", Alone, kind.Version) ∷
+    (codes "-selfrun", Alone, kind.SelfRun) ∷
+    (codes "-f", File, kind.Format) ∷
+    (codes "-ss", File, kind.Start) ∷
+    (codes "-t", File, kind.Length) ∷
+    (codes "-i", Itself, kind.Input) ∷
+    (codes "-map", Output, kind.Map) ∷
+    (codes "-c:a", Output, kind.AudioCodec) ∷
+    (codes "-codec:a", Output, kind.AudioCodec) ∷
+    (codes "-acodec", Output, kind.AudioCodec) ∷
+    (codes "-c:v", Output, kind.VideoCodec) ∷
+    (codes "-codec:v", Output, kind.VideoCodec) ∷
+    (codes "-vcodec", Output, kind.VideoCodec) ∷
+    (codes "-vf", Output, kind.VideoGraph) ∷
+    (codes "-filter:v", Output, kind.VideoGraph) ∷
+    (codes "-af", Output, kind.AudioGraph) ∷
+    (codes "-filter:a", Output, kind.AudioGraph) ∷
+    (codes "-vn", Output, kind.NoVideo) ∷
+    (codes "-an", Output, kind.NoAudio) ∷
+    (codes "-shortest", Output, kind.Shortest) ∷
+    (codes "-hash", Output, kind.Hash) ∷
+    []
+
+abbrev pub format_name : FileFormat → List ℕ
+format_name format.Wav = codes "wav"
+format_name format.Flac = codes "flac"
+format_name format.Y4m = codes "yuv4mpegpipe"
+format_name format.FrameHash = codes "framehash"
+
+-- each format with its name, how the names of its files end (empty where no ending tells it), and whether an input and an
+-- output may have it
+abbrev pub file_formats : List (List ℕ × List ℕ × FileFormat × Bool × Bool)
+file_formats =
+    (format_name format.Wav, codes ".wav", format.Wav, true, true) ∷
+    (format_name format.Flac, codes ".flac", format.Flac, true, true) ∷
+    (format_name format.Y4m, codes ".y4m", format.Y4m, true, true) ∷
+    (format_name format.FrameHash, [], format.FrameHash, false, true) ∷
+    []
+
+abbrev pub codec_name : Codec → List ℕ
+codec_name codec.PcmU8 = codes "pcm_u8"
+codec_name codec.PcmS16le = codes "pcm_s16le"
+codec_name codec.PcmS24le = codes "pcm_s24le"
+codec_name codec.PcmS32le = codes "pcm_s32le"
+codec_name codec.Flac = codes "flac"
+codec_name codec.RawVideo = codes "rawvideo"
+
+abbrev pub audio_codecs : List (List ℕ × Codec)
+audio_codecs =
+    (codec_name codec.PcmU8, codec.PcmU8) ∷
+    (codec_name codec.PcmS16le, codec.PcmS16le) ∷
+    (codec_name codec.PcmS24le, codec.PcmS24le) ∷
+    (codec_name codec.PcmS32le, codec.PcmS32le) ∷
+    (codec_name codec.Flac, codec.Flac) ∷
+    []
+
+abbrev pub video_codecs : List (List ℕ × Codec)
+video_codecs = (codec_name codec.RawVideo, codec.RawVideo) ∷ []
+
+abbrev pub hash_name : HashKind → List ℕ
+hash_name Sha256 = codes "SHA256"
+hash_name Md5 = codes "MD5"
+
+-- how much is logged
+abbrev pub log_levels : List (List ℕ)
+log_levels =
+    codes "quiet" ∷
+    codes "panic" ∷
+    codes "fatal" ∷
+    codes "error" ∷
+    codes "warning" ∷
+    codes "info" ∷
+    codes "verbose" ∷
+    codes "debug" ∷
+    []
