@@ -1,4 +1,4 @@
-// A source that waits for a sink or fails before it, or gives a few bytes a read.
+// A source that waits for a sink or fails before it, or gives a few bytes a read. A sink that waits for a source.
 ghost use Rattle.std.specs.Prelude.{◌≡◌, ◌+◌, ◌<◌, ◌≤◌, ℕ, List, length, None, Some, false, string_bytes};
 
 use ff_host::{Failed, Sink, SinkError, Source};
@@ -10,24 +10,32 @@ use std::thread::yield_now;
 /// So many appends of its sinks open a gate: what stands before the first packet, and the first packet.
 const OPENING: u64 = 2;
 
-// Whether the gate is open, at the latest after so many further looks.
-fn opens(appends: &AtomicU64, looks: u32) -> bool {
+/// What the sources and the sinks of a host know of each other: how many appends were made, and how many bytes were read.
+#[derive(Drop)]
+pub struct Gate {
+    appends: AtomicU64,
+    read: AtomicU64,
+}
+
+// Whether a count comes to so much, at the latest after so many further looks.
+fn comes(count: &AtomicU64, wanted: u64, looks: u32) -> bool {
     for _ in 0..looks {
-        if appends.load(Ordering::SeqCst) >= OPENING {
+        if count.load(Ordering::SeqCst) >= wanted {
             return true;
         }
         yield_now();
     }
-    appends.load(Ordering::SeqCst) >= OPENING
+    count.load(Ordering::SeqCst) >= wanted
 }
 
-/// How reads go: those that begin at or past the offset fail unless the gate is open, for which they look again so often, and each
-/// gives at most so many bytes.
+/// How calls go. Reads that begin at or past the offset fail unless the gate is open, for which they look again so often; each gives at
+/// most so many bytes. A sink's first append fails unless so many bytes were read before.
 #[derive(Clone, Copy)]
 pub struct Pace {
     pub offset: usize,
     pub looks: u32,
     pub most: usize,
+    pub read_before: u64,
 }
 
 /// A source in memory whose reads go at this pace, and fail where the gate stays closed.
@@ -37,13 +45,13 @@ pub struct GateSource {
     bytes: Vec<u8>,
     at: usize,
     pace: Pace,
-    appends: Arc<AtomicU64>,
+    gate: Arc<Gate>,
     faults: u64,
     failed: bool,
 }
 
 impl GateSource {
-    pub fn new(name: String, bytes: Vec<u8>, pace: Pace, appends: Arc<AtomicU64>) -> GateSource
+    pub fn new(name: String, bytes: Vec<u8>, pace: Pace, gate: Arc<Gate>) -> GateSource
         ensures name { string_bytes result.name ≡ string_bytes name }
         ensures faults { result.faults ≡ 0 }
         ensures failed { result.failed ≡ false }
@@ -53,7 +61,7 @@ impl GateSource {
             bytes,
             at: 0,
             pace,
-            appends,
+            gate,
             faults: 0,
             failed: false,
         }
@@ -87,9 +95,11 @@ impl Source for GateSource {
     ghost name = { λ s. Some (string_bytes s.name) };
 
     fn read(&mut self, buf: &mut [u8]) -> Result<usize, Failed> {
-        if !self.failed && (self.at < self.pace.offset || opens(&self.appends, self.pace.looks)) {
+        let early = self.at < self.pace.offset;
+        if !self.failed && (early || comes(&self.gate.appends, OPENING, self.pace.looks)) {
             let count = copy_from(buf, &self.bytes, self.at, self.pace.most);
             self.at = self.at.saturating_add(count);
+            self.gate.read.fetch_add(count as u64, Ordering::SeqCst);
             return Ok(count);
         }
         self.failed = true;
@@ -98,18 +108,19 @@ impl Source for GateSource {
     }
 }
 
-/// A sink in memory that counts its appends, which open the gate.
+/// A sink in memory that counts its appends, which open the gate, and whose first one waits at this pace.
 #[derive(Drop)]
 pub struct GateSink {
     name: String,
     bytes: Vec<u8>,
-    appends: Arc<AtomicU64>,
+    pace: Pace,
+    gate: Arc<Gate>,
     faults: u64,
     failed: bool,
 }
 
 impl GateSink {
-    pub fn new(alloc: Global, name: String, appends: Arc<AtomicU64>) -> GateSink
+    pub fn new(alloc: Global, name: String, pace: Pace, gate: Arc<Gate>) -> GateSink
         ensures name { string_bytes result.name ≡ string_bytes name }
         ensures faults { result.faults ≡ 0 }
         ensures failed { result.failed ≡ false }
@@ -117,7 +128,8 @@ impl GateSink {
         GateSink {
             name,
             bytes: Vec::new(alloc),
-            appends,
+            pace,
+            gate,
             faults: 0,
             failed: false,
         }
@@ -146,12 +158,15 @@ impl Sink for GateSink {
     ghost name = { λ s. Some (string_bytes s.name) };
 
     fn append(&mut self, bytes: &[u8]) -> Result<(), SinkError> {
-        if self.failed {
+        let waits = self.bytes.is_empty();
+        let wanted = self.pace.read_before;
+        if self.failed || waits && !comes(&self.gate.read, wanted, self.pace.looks) {
+            self.failed = true;
             self.faults = self.faults.saturating_add(1);
             return Err(SinkError::Failed);
         }
         self.bytes.extend_from_slice(bytes)?;
-        self.appends.fetch_add(1, Ordering::SeqCst);
+        self.gate.appends.fetch_add(1, Ordering::SeqCst);
         Ok(())
     }
 
@@ -167,7 +182,9 @@ impl Sink for GateSink {
     }
 }
 
-/// A gate that is closed: no append was counted.
-pub fn closed(alloc: Global) -> Result<Arc<AtomicU64>, AllocError> {
-    Ok(Arc::new(alloc, AtomicU64::new(0))?)
+/// A gate that is closed: no append was counted, and no byte read.
+pub fn closed(alloc: Global) -> Result<Arc<Gate>, AllocError> {
+    let appends = AtomicU64::new(0);
+    let read = AtomicU64::new(0);
+    Ok(Arc::new(alloc, Gate { appends, read })?)
 }

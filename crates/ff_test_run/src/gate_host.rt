@@ -2,12 +2,11 @@
 ghost use Rattle.std.specs.Prelude.{◌≡◌, ◌+◌, ◌<◌, ◌≤◌, ℕ, List, Some, None, IsTrue, string_bytes};
 ghost use Rattle.ff_host.specs.Tally.{marks_at};
 
-use crate::gate::{GateSink, GateSource, Pace, closed};
+use crate::gate::{Gate, GateSink, GateSource, Pace, closed};
 use ff_host::{Failed, Host, HostError, Marks, Table, make_room, marks_of, set_marks};
 use std::alloc::{AllocError, Global};
 use std::collections::BTreeMap;
 use std::sync::Arc;
-use std::sync::atomic::AtomicU64;
 
 /// A host of one input, under any name, read at a pace. The gate opens when its sinks took two appends.
 #[derive(Drop)]
@@ -15,7 +14,7 @@ pub struct GateHost {
     alloc: Global,
     input: Vec<u8>,
     pace: Pace,
-    appends: Arc<AtomicU64>,
+    gate: Arc<Gate>,
     output: Vec<u8>,
     table: Table,
     sources: u64,
@@ -28,7 +27,7 @@ impl GateHost {
             alloc,
             input,
             pace,
-            appends: closed(alloc)?,
+            gate: closed(alloc)?,
             output: Vec::new(alloc),
             table: BTreeMap::new(alloc),
             sources: 0,
@@ -68,12 +67,12 @@ impl Host for GateHost {
         make_room(&mut self.table, self.alloc, name)?;
         let own_name = String::from_str(self.alloc, name)?;
         let bytes = self.input.as_slice().to_vec(self.alloc)?;
-        let appends = Arc::try_clone(&self.appends)?;
+        let gate = Arc::try_clone(&self.gate)?;
         let was = marks_of(&self.table, name);
         let opened = true;
         set_marks(&mut self.table, name, Marks { opened, ..was });
         self.sources = sources;
-        Ok(GateSource::new(own_name, bytes, self.pace, appends))
+        Ok(GateSource::new(own_name, bytes, self.pace, gate))
     }
 
     fn create_sink(&mut self, name: &str) -> Result<GateSink, HostError> {
@@ -82,12 +81,12 @@ impl Host for GateHost {
         };
         make_room(&mut self.table, self.alloc, name)?;
         let own_name = String::from_str(self.alloc, name)?;
-        let appends = Arc::try_clone(&self.appends)?;
+        let gate = Arc::try_clone(&self.gate)?;
         let was = marks_of(&self.table, name);
         let created = true;
         set_marks(&mut self.table, name, Marks { created, ..was });
         self.sinks = sinks;
-        Ok(GateSink::new(self.alloc, own_name, appends))
+        Ok(GateSink::new(self.alloc, own_name, self.pace, gate))
     }
 
     fn close_source(&mut self, name: &str, src: GateSource) {

@@ -54,6 +54,7 @@ fn reading_waits_for_writing(rt: HostRuntime) -> Result<(), AllocError> {
         offset: 200_000,
         looks: 10_000_000,
         most: usize::MAX,
+        read_before: 0,
     };
     let mut host = GateHost::new(alloc, large_input(alloc)?, pace)?;
     assert!(rt; is_fine(&rt, alloc, &mut host)?);
@@ -70,6 +71,7 @@ fn output_before_end(rt: HostRuntime) -> Result<(), AllocError> {
         offset: 262_144,
         looks: 0,
         most: usize::MAX,
+        read_before: 0,
     };
     let samples = vec![in alloc; 200u8; 1_000_000]?;
     let bytes = mono(alloc, &samples)?;
@@ -77,6 +79,26 @@ fn output_before_end(rt: HostRuntime) -> Result<(), AllocError> {
     let words = ["-thread_queue_size", "1", "-i", "in.wav", "out.wav"];
     assert!(rt; comes_to(&rt, alloc, &words, &mut host, 0, "")?);
     assert_eq!(rt; host.output().len(), 1_000_044);
+    assert_eq!(rt; host.output(), bytes.as_slice());
+    Ok(())
+}
+
+// The output's first append fails while fewer than 400,000 bytes were read, which is more than the nodes and queues of 8 items hold: queues
+// are as long as the command says.
+#[test]
+fn queues_are_as_long_as_asked(rt: HostRuntime) -> Result<(), AllocError> {
+    let alloc = rt.alloc();
+    let pace = Pace {
+        offset: usize::MAX,
+        looks: 10_000_000,
+        most: usize::MAX,
+        read_before: 400_000,
+    };
+    let samples = vec![in alloc; 200u8; 1_000_000]?;
+    let bytes = mono(alloc, &samples)?;
+    let mut host = GateHost::new(alloc, bytes.to_vec(alloc)?, pace)?;
+    let words = ["-thread_queue_size", "64", "-i", "in.wav", "out.wav"];
+    assert!(rt; comes_to(&rt, alloc, &words, &mut host, 0, "")?);
     assert_eq!(rt; host.output(), bytes.as_slice());
     Ok(())
 }

@@ -21,6 +21,7 @@ fn writes<R: Threads + Wait + Sync>(
         offset: usize::MAX,
         looks: 0,
         most,
+        read_before: 0,
     };
     let mut host = GateHost::new(alloc, bytes.to_vec(alloc)?, pace)?;
     Ok(comes_to(rt, alloc, words, &mut host, 0, "")? & (host.output() == output))
