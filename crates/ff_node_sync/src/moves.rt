@@ -55,6 +55,7 @@ impl Side {
         requires open { self.old.after ≡ After.More }
         requires goes_on { closes item ≡ false }
         requires unwanted { (self.old.ended || self.old.stopped) ≡ true }
+        ensures queue { self.new.queue.items ≡ self.old.queue.items }
         ensures takes { Takes (line_of self.old) (line_of self.new) item }
         ensures head { self.new.head ≡ self.old.head }
     {
@@ -86,6 +87,7 @@ impl Side {
     /// Takes an item in. For want of memory it comes back, and nothing has changed.
     pub fn feed(&mut self, item: Item) -> Result<(), Refused>
         requires open { is_over self.old.after ≡ false }
+        ensures let_go { self.old.stopped ≡ true → closes item ≡ false → self.new.queue.items ≡ self.old.queue.items }
         ensures takes { OnOk result (Takes (line_of self.old) (line_of self.new) item) }
         ensures refused { IfErr result (λ r. r.item ≡ item) }
         ensures unchanged { OnErr result (line_of self.new ≡ line_of self.old) }
