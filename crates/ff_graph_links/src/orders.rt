@@ -9,4 +9,5 @@ mod laws;
 mod taking;
 
 pub use laws::{loops_have_no_order, order_is_lowest, order_is_one};
+pub(crate) use taking::in_order;
 pub use taking::order;

@@ -1,13 +1,17 @@
 -- Orders of graphs that feed each other: none stands twice, each stands behind its feeders, and without a loop all have their places.
-use Rattle.std.proofs.Common.{◌≡◌, ◌⊎◌, inl, inr, ℕ, zero, suc, ◌+◌, ◌-◌, ◌<◌, ◌≤◌, ◌==◌, ◌&&◌, ◌||◌, Bool, true, false, not, cond, eqb, Option, Some, None, List, [], ◌∷◌, ◌++◌, length, refl, sym, ap, ◌∙◌, subst, arith, append_assoc, length-append}
-use Rattle.std.proofs.lemmas.List.{append-nil}
+use Rattle.std.proofs.Common.{◌≡◌, ◌≢◌, ◌⊎◌, inl, inr, ℕ, zero, suc, ◌+◌, ◌-◌, ◌<◌, ◌≤◌, ◌==◌, ◌&&◌, ◌||◌, Bool, true, false, not, cond, eqb, Option, Some, None, List, [], ◌∷◌, ◌++◌, length, refl, sym, ap, ◌∙◌, subst, arith, append_assoc, replicate, slice_set}
+use Rattle.std.proofs.Math.Path.{fun_ext}
+use Rattle.std.proofs.lemmas.List.{append-nil, get_or-set_other, length-replicate}
+use Rattle.std.proofs.lemmas.List.FromFn.{get_or-map-range_with_len, length-map-range_with_len}
 use Rattle.std.proofs.lemmas.Bool.{cases_lt}
 use Rattle.std.proofs.lemmas.Bool.Decides.{nat_tests}
-use Rattle.std.proofs.lemmas.Cmp.{nat_eq_equiv}
-use Rattle.std.proofs.lemmas.Map.Keys.{IsDistinct-cons, IsDistinct-push}
+use Rattle.std.proofs.lemmas.Map.Keys.{IsDistinct-cons}
 use Rattle.std.proofs.lemmas.Map.Steps.{length-le_from_distinct_below}
-use Rattle.std.specs.List.{AllByRecursion, IsDistinct, find, list_all, list_any, range_with_len}
-use Rattle.ff_graph_links.specs.labels.Order.{below, comes_behind, is_in, is_next, next_graph, order_on, order_by, ComeInOrder, HasNoLoop}
+use Rattle.std.specs.List.{All, AllByRecursion, IsDistinct, filter, list_all, list_any, range_with_len}
+use Rattle.ff_graph_links.specs.orders.Orders.{is_taken, are_taken, left, is_ready, next_ready, order_on}
+use Rattle.ff_graph_links.specs.labels.Order.{below, comes_behind, is_in, feeders_to, feeders_by, order_by, ComeInOrder, HasNoLoop}
+use Rattle.ff_graph_links.proofs.OrdersLemmas.Lowest.{first_none, first_some, left_none}
+use Rattle.ff_graph_links.proofs.OrdersLemmas.Stuck.{left_falls, none_yet, size_set}
 
 -- ---- tests
 
@@ -34,6 +38,23 @@ not_true false h = refl
 not_false : (a : Bool) → not a ≡ false → a ≡ true
 not_false true h = refl
 not_false false h = absurd cc
+
+or_false : (a : Bool) → (a || false) ≡ a
+or_false true = refl
+or_false false = refl
+
+or_true : (a : Bool) → (a || true) ≡ true
+or_true true = refl
+or_true false = refl
+
+or_assoc : (a b c : Bool) → (a || (b || c)) ≡ ((a || b) || c)
+or_assoc true b c = refl
+or_assoc false b c = refl
+
+set_here : (flags : List Bool) (k : ℕ) → k < length flags → is_taken (slice_set flags k true) k ≡ true
+set_here [] k lt = absurd (omega arith)
+set_here (b ∷ bs) zero lt = refl
+set_here (b ∷ bs) (suc k) lt = set_here bs k (omega arith)
 
 same_number : (a b : ℕ) → (a == b) ≡ true → a ≡ b
 same_number a b h = grind (arith, nat_tests)
@@ -75,24 +96,27 @@ any_more p q (x ∷ xs) each h = elim (either (p x) (list_any p xs) h) [
   | inr e ↦ or_right (q x) (list_any q xs) (any_more p q xs each e)
 ]
 
-found_step : (p : ℕ → Bool) (a k g : ℕ) (b : Bool) (rest : Option ℕ) → p a ≡ b → cond b (Some a) rest ≡ Some g → (rest ≡ Some g → (g < (a + 1) + k) × (p g ≡ true)) → (g < a + suc k) × (p g ≡ true)
-found_step p a k g true rest e h more = (let same : a ≡ g = cc in (omega (arith, same), subst (λ (j : ℕ). p j ≡ true) same e))
-found_step p a k g false rest e h more = (let r = more h in let lt = r.0 in (omega (arith, lt), r.1))
+-- ---- flags of what was taken
 
-found_below : (p : ℕ → Bool) (a k g : ℕ) → find p (range_with_len a k) ≡ Some g → (g < a + k) × (p g ≡ true)
-found_below p a zero g h = absurd cc
-found_below p a (suc k) g h = found_step p a k g (p a) (find p (range_with_len (a + 1) k)) refl h (λ t. found_below p (a + 1) k g t)
+in_last : (taken : List ℕ) (g j : ℕ) → is_in (taken ++ g ∷ []) j ≡ (is_in taken j || (j == g))
+in_last [] g j = or_false (j == g)
+in_last (x ∷ xs) g j = ap (λ (b : Bool). (j == x) || b) (in_last xs g j) ∙ or_assoc (j == x) (is_in xs j) (j == g)
 
-none_step : (p : ℕ → Bool) (a k i : ℕ) (b : Bool) (rest : Option ℕ) → p a ≡ b → cond b (Some a) rest ≡ None → a ≤ i → i < a + suc k → (rest ≡ None → a + 1 ≤ i → p i ≡ false) → p i ≡ false
-none_step p a k i true rest e h le lt more = absurd cc
-none_step p a k i false rest e h le lt more = elim (cases_lt a i) [
-  | inl less ↦ more h (omega (arith, less))
-  | inr above ↦ (let same : a ≡ i = omega (arith, above, le) in subst (λ (j : ℕ). p j ≡ false) same e)
-]
+set_at : (flags : List Bool) (g j : ℕ) (b : Bool) → (j == g) ≡ b → g < length flags → is_taken (slice_set flags g true) j ≡ (is_taken flags j || (j == g))
+set_at flags g j true e lt =
+    let same = same_number j g e in
+    ap (λ (i : ℕ). is_taken (slice_set flags g true) i) same ∙ (set_here flags g lt ∙ sym (ap (λ (t : Bool). is_taken flags j || t) e ∙ or_true (is_taken flags j)))
+set_at flags g j false e lt =
+    let other : j ≢ g = grind (arith, nat_tests) in
+    get_or-set_other flags g j true false other ∙ sym (ap (λ (t : Bool). is_taken flags j || t) e ∙ or_false (is_taken flags j))
 
-none_below : (p : ℕ → Bool) (a k i : ℕ) → find p (range_with_len a k) ≡ None → a ≤ i → i < a + k → p i ≡ false
-none_below p a zero i h le lt = absurd (omega arith)
-none_below p a (suc k) i h le lt = none_step p a k i (p a) (find p (range_with_len (a + 1) k)) refl h le lt (λ t below_. none_below p (a + 1) k i t below_ (omega (arith, lt)))
+fed_step : (flags : List Bool) (x : ℕ) (xs : List ℕ) (rest b : Bool) → are_taken flags xs ≡ rest → are_taken flags (cond b (x ∷ xs) xs) ≡ ((not b || is_taken flags x) && rest)
+fed_step flags x xs rest true e = ap (λ (t : Bool). is_taken flags x && t) e
+fed_step flags x xs rest false e = e
+
+are_fed : (flags : List Bool) (p : ℕ → Bool) (xs : List ℕ) → are_taken flags (filter p xs) ≡ list_all (λ (a : ℕ). not (p a) || is_taken flags a) xs
+are_fed flags p [] = refl
+are_fed flags p (x ∷ xs) = fed_step flags x (filter p xs) (list_all (λ (a : ℕ). not (p a) || is_taken flags a) xs) (p x) (are_fed flags p xs)
 
 -- ---- each behind its feeders
 
@@ -100,12 +124,32 @@ module _ (feed : ℕ → ℕ → Bool) (n : ℕ) where
   abbrev IsFed : List ℕ → ℕ → Type 0
   IsFed taken g = (a : ℕ) → a < n → feed a g ≡ true → is_in taken a ≡ true
 
-  come_more : (before xs : List ℕ) (g : ℕ) → ComeInOrder feed n before xs → g < n → is_in (before ++ xs) g ≡ false → IsFed (before ++ xs) g → ComeInOrder feed n before (xs ++ g ∷ [])
-  come_more before [] g come lt new fed =
-      (lt, subst (λ (l : List ℕ). is_in l g ≡ false) (append-nil before) new, subst (λ (l : List ℕ). IsFed l g) (append-nil before) fed, tt)
-  come_more before (x ∷ xs) g come lt new fed =
-      let e : before ++ x ∷ xs ≡ (before ++ x ∷ []) ++ xs = sym (append_assoc before (x ∷ []) xs) in
-      (come.0, come.1, come.2, come_more (before ++ x ∷ []) xs g come.3 lt (subst (λ (l : List ℕ). is_in l g ≡ false) e new) (subst (λ (l : List ℕ). IsFed l g) e fed))
+  abbrev feeders : List (List ℕ)
+  feeders = feeders_by feed n
+
+  size : length feeders ≡ n
+  size = length-map-range_with_len (feeders_to feed n) 0 n
+
+  -- flags that are set for these
+  record AreFlags (flags : List Bool) (taken : List ℕ) : Type 0 where
+    long : length flags ≡ n
+    each : (j : ℕ) → is_taken flags j ≡ is_in taken j
+
+  at_start : AreFlags (replicate (length feeders) false) []
+  at_start = record { long = length-replicate (length feeders) false ∙ size; each = λ j. none_yet (length feeders) j }
+
+  one_set : (flags : List Bool) (taken : List ℕ) (g : ℕ) → g < n → AreFlags flags taken → AreFlags (slice_set flags g true) (taken ++ g ∷ [])
+  one_set flags taken g lt are = record {
+    long = size_set flags g true ∙ are.long;
+    each = λ j. set_at flags g j (j == g) refl (let same = are.long in omega (arith, same, lt)) ∙ (ap (λ (b : Bool). b || (j == g)) (are.each j) ∙ sym (in_last taken g j));
+  }
+
+  fed_test : (flags : List Bool) (taken : List ℕ) (g : ℕ) → g < n → AreFlags flags taken
+      → is_ready feeders flags g ≡ (not (is_in taken g) && list_all (λ (a : ℕ). not (feed a g) || is_in taken a) (below n))
+  fed_test flags taken g lt are =
+      ap (λ (l : List ℕ). not (is_taken flags g) && are_taken flags l) (get_or-map-range_with_len (feeders_to feed n) 0 n g g [] lt (omega arith))
+      ∙ (ap (λ (b : Bool). not (is_taken flags g) && b) (are_fed flags (λ (a : ℕ). feed a g) (below n))
+      ∙ ap (λ (f : ℕ → Bool). not (f g) && list_all (λ (a : ℕ). not (feed a g) || f a) (below n)) (fun_ext are.each))
 
   fed_by_test : (taken : List ℕ) (a g : ℕ) → (not (feed a g) || is_in taken a) ≡ true → feed a g ≡ true → is_in taken a ≡ true
   fed_by_test taken a g h e = elim (either (not (feed a g)) (is_in taken a) h) [
@@ -113,56 +157,55 @@ module _ (feed : ℕ → ℕ → Bool) (n : ℕ) where
     | inr on ↦ on
   ]
 
-  next_is : (taken : List ℕ) (g : ℕ) → next_graph feed n taken ≡ Some g → (g < n) × (is_in taken g ≡ false) × IsFed taken g
-  next_is taken g h =
-      let found = found_below (is_next feed n taken) 0 n g h in
-      let parts = both (not (is_in taken g)) (list_all (λ (a : ℕ). not (feed a g) || is_in taken a) (below n)) found.1 in
-      (omega (arith, found.0), not_true (is_in taken g) parts.0, λ a lt e. fed_by_test taken a g (all_below (λ (a : ℕ). not (feed a g) || is_in taken a) 0 n a parts.1 (omega arith) (omega (arith, lt))) e)
+  next_is : (flags : List Bool) (taken : List ℕ) (g : ℕ) → next_ready feeders flags ≡ Some g → AreFlags flags taken → (g < n) × (is_in taken g ≡ false) × IsFed taken g
+  next_is flags taken g e are =
+      let low = first_some feeders flags 0 (length flags) g e in
+      let lt : g < n = (let there = low.there in let same = are.long in omega (arith, there, same)) in
+      let parts = both (not (is_in taken g)) (list_all (λ (a : ℕ). not (feed a g) || is_in taken a) (below n)) (sym (fed_test flags taken g lt are) ∙ low.ready) in
+      (lt, not_true (is_in taken g) parts.0, λ a less on. fed_by_test taken a g (all_below (λ (a : ℕ). not (feed a g) || is_in taken a) 0 n a parts.1 (omega arith) (omega (arith, less))) on)
 
-  in_order : (steps : ℕ) (taken : List ℕ) (o : Option ℕ) → next_graph feed n taken ≡ o → ComeInOrder feed n [] taken → ComeInOrder feed n [] (order_on feed n steps taken o)
-  in_order steps taken None e come = come
-  in_order zero taken (Some g) e come = come
-  in_order (suc steps) taken (Some g) e come =
-      let is = next_is taken g e in
-      in_order steps (taken ++ g ∷ []) (next_graph feed n (taken ++ g ∷ [])) refl (come_more [] taken g come is.0 is.1 is.2)
+  in_order : (steps : ℕ) (flags : List Bool) (taken : List ℕ) (o : Option ℕ) → next_ready feeders flags ≡ o → AreFlags flags taken → ComeInOrder feed n taken (order_on feeders flags steps o)
+  in_order steps flags taken None e are = tt
+  in_order zero flags taken (Some g) e are = tt
+  in_order (suc steps) flags taken (Some g) e are =
+      let is = next_is flags taken g e are in
+      (is.0, is.1, is.2, in_order steps (slice_set flags g true) (taken ++ g ∷ []) (next_ready feeders (slice_set flags g true)) refl (one_set flags taken g is.0 are))
 
   pub goes_upward : ComeInOrder feed n [] (order_by feed n)
-  goes_upward = in_order n [] (next_graph feed n []) refl tt
+  goes_upward = in_order (length feeders) (replicate (length feeders) false) [] (next_ready feeders (replicate (length feeders) false)) refl at_start
 
-  -- ---- how it ends
+  below_in : (m : ℕ) → n ≤ m → (taken xs : List ℕ) → ComeInOrder feed n taken xs → All (λ (k : ℕ). k < m) xs
+  below_in m le taken [] come k d lt = absurd (omega arith)
+  below_in m le taken (x ∷ xs) come zero d lt = (let less = come.0 in omega (arith, less, le))
+  below_in m le taken (x ∷ xs) come (suc k) d lt = below_in m le (taken ++ x ∷ []) xs come.3 k d (omega (arith, lt))
 
-  ends : (steps : ℕ) (taken : List ℕ) (o : Option ℕ) → next_graph feed n taken ≡ o → length taken + steps ≡ n
-      → (next_graph feed n (order_on feed n steps taken o) ≡ None) ⊎ (length (order_on feed n steps taken o) ≡ n)
-  ends steps taken None e h = inl e
-  ends zero taken (Some g) e h = inr (omega (arith, h))
-  ends (suc steps) taken (Some g) e h = ends steps (taken ++ g ∷ []) (next_graph feed n (taken ++ g ∷ [])) refl (omega (arith, h, length-append taken (g ∷ [])))
+  pub stays_below : (m : ℕ) → n < m → All (λ (k : ℕ). k < m) (order_by feed n)
+  stays_below m lt = below_in m (omega arith) [] (order_by feed n) goes_upward
 
-  distinct : (before xs : List ℕ) → ComeInOrder feed n before xs → IsDistinct eqb before → IsDistinct eqb (before ++ xs)
-  distinct before [] come is = subst (λ (l : List ℕ). IsDistinct eqb l) (sym (append-nil before)) is
-  distinct before (x ∷ xs) come is =
-      subst (λ (l : List ℕ). IsDistinct eqb l) (append_assoc before (x ∷ []) xs)
-      (distinct (before ++ x ∷ []) xs come.3 (IsDistinct-push nat_eq_equiv before x is come.1))
+  -- ---- how it ends: none is ready
 
-  each_below : (before xs : List ℕ) (q : ℕ) → ComeInOrder feed n before xs → is_in xs q ≡ true → q < n
-  each_below before [] q come h = absurd cc
-  each_below before (x ∷ xs) q come h = elim (either (q == x) (is_in xs q) h) [
-    | inl e ↦ (let same = same_number q x e in let lt = come.0 in omega (arith, same, lt))
-    | inr e ↦ each_below (before ++ x ∷ []) xs q come.3 e
-  ]
+  abbrev Ends : List ℕ → Type 0
+  Ends taken = (flags : List Bool) × (next_ready feeders flags ≡ None) × AreFlags flags taken
+
+  falls_by : (flags : List Bool) (taken : List ℕ) (g : ℕ) → next_ready feeders flags ≡ Some g → AreFlags flags taken → suc (left (slice_set flags g true)) ≡ left flags
+  falls_by flags taken g e are =
+      let is = next_is flags taken g e are in
+      left_falls flags g (let lt = is.0 in let same = are.long in omega (arith, lt, same)) (are.each g ∙ is.1)
+
+  ends : (steps : ℕ) (flags : List Bool) (taken : List ℕ) (o : Option ℕ) → next_ready feeders flags ≡ o → left flags ≡ steps → AreFlags flags taken → Ends (taken ++ order_on feeders flags steps o)
+  ends steps flags taken None e h are = (flags, e, subst (λ (l : List ℕ). AreFlags flags l) (sym (append-nil taken)) are)
+  ends zero flags taken (Some g) e h are = absurd (let falls = falls_by flags taken g e are in omega (arith, falls, h))
+  ends (suc steps) flags taken (Some g) e h are =
+      subst Ends (append_assoc taken (g ∷ []) (order_on feeders (slice_set flags g true) steps (next_ready feeders (slice_set flags g true))))
+      (ends steps (slice_set flags g true) (taken ++ g ∷ []) (next_ready feeders (slice_set flags g true)) refl (let falls = falls_by flags taken g e are in omega (arith, falls, h))
+      (one_set flags taken g (next_is flags taken g e are).0 are))
+
+  all_end : Ends (order_by feed n)
+  all_end = ends (length feeders) (replicate (length feeders) false) [] (next_ready feeders (replicate (length feeders) false)) refl (left_none (length feeders)) at_start
 
   none_equal : (g : ℕ) (xs : List ℕ) → is_in xs g ≡ false → AllByRecursion (λ y. eqb g y ≡ false) xs
   none_equal g [] h = tt
   none_equal g (x ∷ xs) h = (let parts = neither (g == x) (is_in xs g) h in (parts.0, none_equal g xs parts.1))
-
-  -- as many as there are: each has its place
-  full : (xs : List ℕ) (g : ℕ) → ComeInOrder feed n [] xs → length xs ≡ n → g < n → is_in xs g ≡ false → ⊥
-  full xs g come long lt out =
-      let more : IsDistinct eqb (g ∷ xs) = IsDistinct-cons eqb g xs (none_equal g xs out) (distinct [] xs come distinct_none) in
-      let few = length-le_from_distinct_below (g ∷ xs) n more (λ q h. elim (either (q == g) (is_in xs q) h) [
-        | inl e ↦ (let same = same_number q g e in omega (arith, same, lt))
-        | inr e ↦ each_below [] xs q come e
-      ]) in
-      omega (arith, few, long)
 
   -- ---- a walk from feeder to feeder
 
@@ -204,10 +247,11 @@ module _ (feed : ℕ → ℕ → Bool) (n : ℕ) where
   apart_or_round g [] lt goes = inl (IsDistinct-cons eqb g [] tt distinct_none)
   apart_or_round g (a ∷ xs) lt goes = apart_step g a xs (is_in (a ∷ xs) g) lt goes refl (apart_or_round a xs goes.0 goes.2)
 
-  -- the lowest has none: each that wasn't taken has a feeder that wasn't
-  unmet : (taken : List ℕ) (g : ℕ) → next_graph feed n taken ≡ None → g < n → is_in taken g ≡ false → (a : ℕ) × (a < n) × (feed a g ≡ true) × (is_in taken a ≡ false)
-  unmet taken g none lt out =
-      let off : is_next feed n taken g ≡ false = none_below (is_next feed n taken) 0 n g none (omega arith) (omega (arith, lt)) in
+  -- none is ready: each that wasn't taken has a feeder that wasn't
+  unmet : (taken : List ℕ) (g : ℕ) → Ends taken → g < n → is_in taken g ≡ false → (a : ℕ) × (a < n) × (feed a g ≡ true) × (is_in taken a ≡ false)
+  unmet taken g end lt out =
+      let none : is_ready feeders end.0 g ≡ false = first_none feeders end.0 0 (length end.0) end.1 g (omega arith) (let same = end.2.long in omega (arith, same, lt)) in
+      let off = sym (fed_test end.0 taken g lt end.2) ∙ none in
       let fails : list_all (λ (a : ℕ). not (feed a g) || is_in taken a) (below n) ≡ false =
       sym (ap (λ (b : Bool). not b && list_all (λ (a : ℕ). not (feed a g) || is_in taken a) (below n)) out) ∙ off in
       let at = not_all_below (λ (a : ℕ). not (feed a g) || is_in taken a) 0 n fails in
@@ -217,11 +261,11 @@ module _ (feed : ℕ → ℕ → Bool) (n : ℕ) where
   abbrev Walk : ℕ → ℕ → Type 0
   Walk k g = (xs : List ℕ) × (length xs ≡ k) × Goes g xs
 
-  walk : (taken : List ℕ) (k g : ℕ) → next_graph feed n taken ≡ None → g < n → is_in taken g ≡ false → Walk k g
-  walk taken zero g none lt out = ([], refl, tt)
-  walk taken (suc k) g none lt out =
-      let a = unmet taken g none lt out in
-      let rest = walk taken k a.0 none a.1 a.3 in
+  walk : (taken : List ℕ) (k g : ℕ) → Ends taken → g < n → is_in taken g ≡ false → Walk k g
+  walk taken zero g end lt out = ([], refl, tt)
+  walk taken (suc k) g end lt out =
+      let a = unmet taken g end lt out in
+      let rest = walk taken k a.0 end a.1 a.3 in
       let long = rest.1 in
       (a.0 ∷ rest.0, omega (arith, long), (a.1, a.2, rest.2))
 
@@ -235,9 +279,9 @@ module _ (feed : ℕ → ℕ → Bool) (n : ℕ) where
   round_in : (k x : ℕ) → k ≤ n → comes_behind feed n k x x ≡ true → comes_behind feed n n x x ≡ true
   round_in k x le h = up_to (n - k) k n x x (omega arith) h
 
-  stuck : (taken : List ℕ) (g : ℕ) → HasNoLoop feed n → next_graph feed n taken ≡ None → g < n → is_in taken g ≡ false → ⊥
-  stuck taken g no_loop none lt out =
-      let w = walk taken n g none lt out in
+  stuck : (taken : List ℕ) (g : ℕ) → HasNoLoop feed n → Ends taken → g < n → is_in taken g ≡ false → ⊥
+  stuck taken g no_loop end lt out =
+      let w = walk taken n g end lt out in
       elim (apart_or_round g w.0 lt w.2) [
         | inl d ↦ (let few = length-le_from_distinct_below (g ∷ w.0) n d (λ q h. elim (either (q == g) (is_in w.0 q) h) [
           | inl e ↦ (let same = same_number q g e in omega (arith, same, lt))
@@ -250,10 +294,7 @@ module _ (feed : ℕ → ℕ → Bool) (n : ℕ) where
 
   whole_step : (g : ℕ) (b : Bool) → HasNoLoop feed n → g < n → is_in (order_by feed n) g ≡ b → b ≡ true
   whole_step g true no_loop lt e = refl
-  whole_step g false no_loop lt e = absurd (elim (ends n [] (next_graph feed n []) refl (omega arith)) [
-    | inl none ↦ stuck (order_by feed n) g no_loop none lt e
-    | inr long ↦ full (order_by feed n) g goes_upward long lt e
-  ])
+  whole_step g false no_loop lt e = absurd (stuck (order_by feed n) g no_loop all_end lt e)
 
   pub is_whole : (g : ℕ) → HasNoLoop feed n → g < n → is_in (order_by feed n) g ≡ true
   is_whole g no_loop lt = whole_step g (is_in (order_by feed n) g) no_loop lt refl

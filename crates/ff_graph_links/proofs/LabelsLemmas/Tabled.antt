@@ -2,15 +2,16 @@
 use Rattle.std.proofs.Common.{◌≡◌, ◌⊎◌, ℕ, zero, suc, ◌+◌, ◌-◌, ◌<◌, ◌≤◌, ◌==◌, ◌&&◌, ◌||◌, inl, inr, Bool, true, false, not, cond, get_or, Option, Some, None, List, [], ◌∷◌, ◌++◌, map, length, refl, sym, ap, ◌∙◌, arith}
 use Rattle.std.proofs.Math.Path.{fun_ext}
 use Rattle.std.proofs.lemmas.Bool.{cases_lt}
-use Rattle.std.proofs.lemmas.List.{get_or_past, length-map, map_push}
+use Rattle.std.proofs.lemmas.List.{append-nil, get_or_past, length-map, map_push}
+use Rattle.std.proofs.lemmas.List.Elements.{filter-append}
 use Rattle.std.proofs.lemmas.List.FromFn.{get_or-map-range_with_len, length-map-range_with_len, map-range_with_len_more}
 use Rattle.std.proofs.lemmas.Option.{slice_get_past}
 use Rattle.std.specs.Prelude.{slice_get}
-use Rattle.std.specs.List.{find, list_all, list_any, range_with_len}
+use Rattle.std.specs.List.{filter, find, list_any, range_with_len}
 use Rattle.std.specs.declared.alloc.Global.{Global}
 use Rattle.std.specs.declared.vec.Vec.{Vec}
 use Rattle.ff_lang.specs.declared.graph.Graph.{Graph}
-use Rattle.ff_graph_links.specs.labels.Order.{below, gives_to, feeds, comes_behind, first_on_loop, on_loop, next_graph, order_on, order_by, graph_order, cell, reaches}
+use Rattle.ff_graph_links.specs.labels.Order.{below, gives_to, feeds, comes_behind, first_on_loop, on_loop, order_by, graph_order, cell, reaches}
 use Rattle.ff_graph_links.specs.labels.Tables.{marks}
 
 pub range_next : (a n : ℕ) → a < n → range_with_len a (n - a) ≡ a ∷ range_with_len (a + 1) (n - (a + 1))
@@ -35,33 +36,25 @@ found_here p a n whole lt on h =
     let rest = find p (range_with_len (a + 1) (n - (a + 1))) in
     sym (ap (λ (r : List ℕ). find p r) (range_next a n lt) ∙ ap (λ (b : Bool). cond b (Some a) rest) on) ∙ h
 
-pub all_on : (p : ℕ → Bool) (a n : ℕ) (whole : Bool) → a < n → p a ≡ true → list_all p (range_with_len a (n - a)) ≡ whole → list_all p (range_with_len (a + 1) (n - (a + 1))) ≡ whole
-all_on p a n whole lt on h =
-    let rest = list_all p (range_with_len (a + 1) (n - (a + 1))) in
-    sym (ap (λ (r : List ℕ). list_all p r) (range_next a n lt) ∙ ap (λ (b : Bool). b && rest) on) ∙ h
+range_more : (a n : ℕ) → range_with_len a (suc n) ≡ range_with_len a n ++ (a + n) ∷ []
+range_more a zero = (let e : a ≡ a + 0 = omega arith in ap (λ (k : ℕ). k ∷ []) e)
+range_more a (suc n) = (let e : (a + 1) + n ≡ a + suc n = omega arith in
+    ap (λ (l : List ℕ). a ∷ l) (range_more (a + 1) n) ∙ ap (λ (k : ℕ). a ∷ range_with_len (a + 1) n ++ k ∷ []) e)
 
-pub all_off : (p : ℕ → Bool) (a n : ℕ) (whole : Bool) → a < n → p a ≡ false → list_all p (range_with_len a (n - a)) ≡ whole → false ≡ whole
-all_off p a n whole lt off h =
-    let rest = list_all p (range_with_len (a + 1) (n - (a + 1))) in
-    sym (ap (λ (r : List ℕ). list_all p r) (range_next a n lt) ∙ ap (λ (b : Bool). b && rest) off) ∙ h
+one_more : (p : ℕ → Bool) (n : ℕ) → filter p (range_with_len 0 (n + 1)) ≡ filter p (range_with_len 0 n) ++ cond (p n) (n ∷ []) []
+one_more p n =
+    (let e : n + 1 ≡ suc n = omega arith in ap (λ (k : ℕ). filter p (range_with_len 0 k)) e)
+    ∙ (ap (λ (l : List ℕ). filter p l) (range_more 0 n ∙ (let e : 0 + n ≡ n = omega arith in ap (λ (k : ℕ). range_with_len 0 n ++ k ∷ []) e))
+    ∙ filter-append p (range_with_len 0 n) (n ∷ []))
 
--- an order, one graph on
-pub order_step : (feed : ℕ → ℕ → Bool) (n steps : ℕ) (taken now : List ℕ) (g : ℕ) (whole : List ℕ) → steps < n → next_graph feed n taken ≡ Some g → now ≡ taken ++ g ∷ []
-    → order_on feed n (n - steps) taken (next_graph feed n taken) ≡ whole → order_on feed n (n - (steps + 1)) now (next_graph feed n now) ≡ whole
-order_step feed n steps taken now g whole lt next is h =
-    let m = n - (steps + 1) in
-    let e : n - steps ≡ suc m = omega arith in
-    ap (λ (l : List ℕ). order_on feed n m l (next_graph feed n l)) is
-    ∙ (sym (ap (λ (k : ℕ). order_on feed n k taken (next_graph feed n taken)) e ∙ ap (λ (o : Option ℕ). order_on feed n (suc m) taken o) next) ∙ h)
+-- one more of the numbers that pass a test
+pub kept : (p : ℕ → Bool) (items now : List ℕ) (n : ℕ) → p n ≡ true → items ≡ filter p (range_with_len 0 n) → now ≡ items ++ n ∷ [] → now ≡ filter p (range_with_len 0 (n + 1))
+kept p items now n on was push =
+    push ∙ (ap (λ (l : List ℕ). l ++ n ∷ []) was ∙ sym (one_more p n ∙ ap (λ (b : Bool). filter p (range_with_len 0 n) ++ cond b (n ∷ []) []) on))
 
-order_zero : (feed : ℕ → ℕ → Bool) (n : ℕ) (taken : List ℕ) (o : Option ℕ) → order_on feed n zero taken o ≡ taken
-order_zero feed n taken None = refl
-order_zero feed n taken (Some g) = refl
-
-pub order_full : (feed : ℕ → ℕ → Bool) (n steps : ℕ) (taken whole : List ℕ) → n ≤ steps → order_on feed n (n - steps) taken (next_graph feed n taken) ≡ whole → taken ≡ whole
-order_full feed n steps taken whole le h =
-    let e : n - steps ≡ 0 = omega arith in
-    sym (ap (λ (k : ℕ). order_on feed n k taken (next_graph feed n taken)) e ∙ order_zero feed n taken (next_graph feed n taken)) ∙ h
+pub left_out : (p : ℕ → Bool) (items : List ℕ) (n : ℕ) → p n ≡ false → items ≡ filter p (range_with_len 0 n) → items ≡ filter p (range_with_len 0 (n + 1))
+left_out p items n off was =
+    was ∙ sym (one_more p n ∙ (ap (λ (b : Bool). filter p (range_with_len 0 n) ++ cond b (n ∷ []) []) off ∙ append-nil (filter p (range_with_len 0 n))))
 
 and_false : (b : Bool) → (b && false) ≡ false
 and_false true = refl
@@ -145,10 +138,11 @@ loop_by given rows graphs own same e = ap (λ (l : List (Vec Bool Global)). firs
 pub order_by_table : (given : List (Vec Bool Global)) (rows : List (Vec Bool Global)) (graphs : List Graph) → given ≡ rows → marks rows ≡ whole_table graphs → order_by (cell (marks given)) (length given) ≡ graph_order graphs
 order_by_table given rows graphs same e = ap (λ (l : List (Vec Bool Global)). order_by (cell (marks l)) (length l)) same ∙ order_same rows graphs e
 
-pub row_pushed : (f : ℕ → List Bool) (items now : List (Vec Bool Global)) (n : ℕ) (v : Vec Bool Global) → marks items ≡ map f (range_with_len 0 n) → now ≡ items ++ v ∷ [] → v.items ≡ f n
-    → marks now ≡ map f (range_with_len 0 (n + 1))
-row_pushed f items now n v was push is =
-    pushed f (marks items) (marks now) n v.items was (ap (λ (l : List (Vec Bool Global)). marks l) push ∙ map_push (λ (v : Vec Bool Global). v.items) items v) is
+pub row_pushed : {X : Type 0} (f : ℕ → List X) (items now : List (Vec X Global)) (n : ℕ) (v : Vec X Global) → map (λ (v : Vec X Global). v.items) items ≡ map f (range_with_len 0 n) → now ≡ items ++ v ∷ []
+    → v.items ≡ f n → map (λ (v : Vec X Global). v.items) now ≡ map f (range_with_len 0 (n + 1))
+row_pushed {X} f items now n v was push is =
+    pushed f (map (λ (v : Vec X Global). v.items) items) (map (λ (v : Vec X Global). v.items) now) n v.items was
+    (ap (λ (l : List (Vec X Global)). map (λ (v : Vec X Global). v.items) l) push ∙ map_push (λ (v : Vec X Global). v.items) items v) is
 
 pub back_is : (rows : List (List Bool)) (n steps g : ℕ) (all behind : List Bool) → all ≡ behind → behind ≡ map (comes_behind (cell rows) n steps g) (below n) → steps ≡ n → g < n
     → get_or all g false ≡ comes_behind (cell rows) n n g g

@@ -47,7 +47,7 @@ here_or_later feeders taken k j le here later = at (cases_lt k j)
     at (inl less) = later less
     at (inr more) = (let same : k ≡ j = omega arith in subst (λ (i : ℕ). is_ready feeders taken i ≡ false) same here)
 
-first_none : (feeders : List (List ℕ)) (taken : List Bool) (k n : ℕ) → first_ready feeders taken k n ≡ None → (j : ℕ) → k ≤ j → j < k + n → is_ready feeders taken j ≡ false
+pub first_none : (feeders : List (List ℕ)) (taken : List Bool) (k n : ℕ) → first_ready feeders taken k n ≡ None → (j : ℕ) → k ≤ j → j < k + n → is_ready feeders taken j ≡ false
 first_none feeders taken k zero e j le lt = absurd (omega arith)
 first_none feeders taken k (suc n) e j le lt = at (is_ready feeders taken k) refl e (λ h less. first_none feeders taken (suc k) n h j less (omega arith))
   where
@@ -57,16 +57,16 @@ first_none feeders taken k (suc n) e j le lt = at (is_ready feeders taken k) ref
     at false q h on = here_or_later feeders taken k j le q (on h)
 
 -- what the lowest that is ready is
-record Lowest (feeders : List (List ℕ)) (taken : List Bool) (k n i : ℕ) : Type 0 where
-  from : k ≤ i
-  there : i < k + n
-  ready : is_ready feeders taken i ≡ true
-  lowest : (j : ℕ) → k ≤ j → j < i → is_ready feeders taken j ≡ false
+pub record Lowest (feeders : List (List ℕ)) (taken : List Bool) (k n i : ℕ) : Type 0 where
+  pub from : k ≤ i
+  pub there : i < k + n
+  pub ready : is_ready feeders taken i ≡ true
+  pub lowest : (j : ℕ) → k ≤ j → j < i → is_ready feeders taken j ≡ false
 
 some_inner : (i j : ℕ) → Some i ≡ Some j → i ≡ j
 some_inner i j e = cc
 
-first_some : (feeders : List (List ℕ)) (taken : List Bool) (k n i : ℕ) → first_ready feeders taken k n ≡ Some i → Lowest feeders taken k n i
+pub first_some : (feeders : List (List ℕ)) (taken : List Bool) (k n i : ℕ) → first_ready feeders taken k n ≡ Some i → Lowest feeders taken k n i
 first_some feeders taken k zero i e = absurd cc
 first_some feeders taken k (suc n) i e = at (is_ready feeders taken k) refl e (λ h. first_some feeders taken (suc k) n i h)
   where
@@ -96,7 +96,7 @@ first_some feeders taken k (suc n) i e = at (is_ready feeders taken k) refl e (�
 taken_unready : (feeders : List (List ℕ)) (taken : List Bool) (j : ℕ) → is_taken taken j ≡ true → is_ready feeders taken j ≡ false
 taken_unready feeders taken j e = ap (λ (b : Bool). not b && are_taken taken (slice_index_or feeders j [])) e
 
-left_none : (n : ℕ) → left (replicate n false) ≡ n
+pub left_none : (n : ℕ) → left (replicate n false) ≡ n
 left_none zero = refl
 left_none (suc n) = ap (λ (m : ℕ). suc m) (left_none n)
 
@@ -221,26 +221,7 @@ module _ {A : Type 0} (vs : List (Vec ℕ A)) where
       ∙ ap (λ (n : ℕ). order_from (lists vs) (replicate (length vs) false) n) (sym (left_none (length vs)))
       ∙ ap (λ (bs : List Bool). order_from (lists vs) bs (left bs)) (sym e)
 
-  pub none_taken_left : (taken : List Bool) → taken ≡ replicate (length vs) false → left taken ≡ length vs
-  none_taken_left taken e = ap left e ∙ left_none (length vs)
-
   pub ends_with : (taken : List Bool) (front : List ℕ) → ((j : ℕ) → j < length taken → is_ready (lists vs) taken j ≡ false)
       → order_of (lists vs) ≡ front ++ order_from (lists vs) taken (left taken) → order_of (lists vs) ≡ front
   ends_with taken front none e =
       ends_there (lists vs) (replicate (length (lists vs)) false) taken (length (lists vs)) front none e
-
-  pub long_enough : (taken : List Bool) (front : List ℕ) → order_of (lists vs) ≡ front → length front + left taken ≡ length vs → all_taken taken ≡ true
-      → loops (lists vs) ≡ false
-  long_enough taken front e size all =
-      let size_is = lists_size vs in
-      let long = ap length e in
-      let none_left = left_all taken all in
-      grind (arith, nat_tests)
-
-  pub too_short : (taken : List Bool) (front : List ℕ) → order_of (lists vs) ≡ front → length front + left taken ≡ length vs → all_taken taken ≡ false
-      → loops (lists vs) ≡ true
-  too_short taken front e size some =
-      let size_is = lists_size vs in
-      let long = ap length e in
-      let some_left = left_some taken some in
-      grind (arith, nat_tests)

@@ -1,9 +1,9 @@
 -- What taking one more leaves, and where none can be taken next, there is no order.
-use Rattle.std.proofs.Common.{◌≡◌, ◌≢◌, ℕ, zero, suc, ◌<◌, ◌==◌, ◌&&◌, not, Bool, true, false, List, [], ◌∷◌, ◌++◌, length, replicate, slice_index_or, slice_set, refl, ap, sym, ◌∙◌, subst, ◌⊎◌, inl, inr, append_assoc, arith}
+use Rattle.std.proofs.Common.{◌≡◌, ◌≢◌, ℕ, zero, suc, ◌<◌, ◌==◌, ◌&&◌, not, Bool, true, false, List, [], ◌∷◌, length, replicate, slice_index_or, slice_set, refl, ap, sym, ◌∙◌, subst, ◌⊎◌, inl, inr, arith}
 use Rattle.std.proofs.lemmas.Bool.Decides.{nat_tests}
-use Rattle.std.proofs.lemmas.List.{append-nil, get_or-set_other, length-map, length-replicate}
+use Rattle.std.proofs.lemmas.List.{get_or-set_other, length-map}
 use Rattle.std.specs.declared.vec.Vec.{Vec}
-use Rattle.ff_graph_links.specs.orders.Orders.{lists, IsOrder, IsLowestOrder, is_taken, are_taken, all_taken, left, is_ready, IsOrderFrom, IsLowestFrom}
+use Rattle.ff_graph_links.specs.orders.Orders.{lists, is_taken, are_taken, all_taken, left, is_ready, IsOrderFrom}
 
 both : (a b : Bool) → (a && b) ≡ true → (a ≡ true) × (b ≡ true)
 both true b e = (refl, e)
@@ -88,34 +88,8 @@ none_yet zero j = refl
 none_yet (suc n) zero = refl
 none_yet (suc n) (suc j) = none_yet n j
 
--- from the start there is no order
-no_order : (feeders : List (List ℕ)) (taken : List Bool) (n : ℕ) → length taken ≡ n → ((j : ℕ) → j < length taken → is_ready feeders taken j ≡ false) → all_taken taken ≡ false
-    → (ks : List ℕ) → IsOrderFrom feeders (replicate n false) ks → ⊥
-no_order feeders taken n size none some ks h =
-    stuck feeders taken none some (replicate n false) (simp length-replicate (sym size)) (λ j e. let clash : true ≡ false = sym e ∙ none_yet n j in cc) ks h
-
--- whatever order goes on from here goes on behind one more, which was ready and the lowest
-pub one_more : (feeders : List (List ℕ)) (start taken : List Bool) (front : List ℕ) (k : ℕ) → k < length taken → is_ready feeders taken k ≡ true
-    → ((j : ℕ) → j < k → is_ready feeders taken j ≡ false) → ((ks : List ℕ) → IsLowestFrom feeders taken ks → IsLowestFrom feeders start (front ++ ks))
-    → (ks : List ℕ) → IsLowestFrom feeders (slice_set taken k true) ks → IsLowestFrom feeders start ((front ++ k ∷ []) ++ ks)
-one_more feeders start taken front k lt ready lowest h ks more =
-    subst (λ (xs : List ℕ). IsLowestFrom feeders start xs) (sym (append_assoc front (k ∷ []) ks)) (h (k ∷ ks) (lt, ready, lowest, more))
-
 pub unready : (feeders : List (List ℕ)) (taken : List Bool) (k : ℕ) → is_ready feeders taken k ≡ true → is_taken taken k ≡ false
 unready feeders taken k e = not_true (is_taken taken k) (both (not (is_taken taken k)) (are_taken taken (slice_index_or feeders k [])) e).0
 
 pub lists_size : {A : Type 0} (vs : List (Vec ℕ A)) → length (lists vs) ≡ length vs
 lists_size vs = length-map vs (λ v. v.items)
-
--- all were taken
-pub at_last : {A : Type 0} (vs : List (Vec ℕ A)) (taken : List Bool) (front : List ℕ)
-    → ((ks : List ℕ) → IsLowestFrom (lists vs) taken ks → IsLowestFrom (lists vs) (replicate (length vs) false) (front ++ ks)) → all_taken taken ≡ true
-    → IsLowestOrder (lists vs) front
-at_last vs taken front goes all =
-    subst (λ (n : ℕ). IsLowestFrom (lists vs) (replicate n false) front) (sym (lists_size vs))
-    (subst (λ (xs : List ℕ). IsLowestFrom (lists vs) (replicate (length vs) false) xs) (append-nil front) (goes [] all))
-
--- one wasn't, and none can be taken next
-pub looped : {A : Type 0} (vs : List (Vec ℕ A)) (taken : List Bool) → length taken ≡ length vs → ((j : ℕ) → j < length taken → is_ready (lists vs) taken j ≡ false)
-    → all_taken taken ≡ false → (ks : List ℕ) → IsOrder (lists vs) ks → ⊥
-looped vs taken size none some ks h = no_order (lists vs) taken (length (lists vs)) (size ∙ sym (lists_size vs)) none some ks h

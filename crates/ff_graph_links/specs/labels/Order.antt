@@ -1,9 +1,10 @@
 -- Which complex graphs feed which, their order and their loops.
-use Rattle.std.specs.Prelude.{◌≡◌, ℕ, zero, suc, ◌+◌, ◌<◌, ◌==◌, ◌&&◌, ◌||◌, Bool, true, false, not, List, [], ◌∷◌, ◌++◌, length}
-use Rattle.std.specs.Prelude.{slice_get, slice_index_or, Option, Some, None}
-use Rattle.std.specs.List.{find, list_all, list_any, range_with_len}
+use Rattle.std.specs.Prelude.{◌≡◌, ℕ, zero, suc, ◌+◌, ◌<◌, ◌==◌, ◌&&◌, ◌||◌, Bool, true, false, not, List, [], ◌∷◌, ◌++◌, length, map}
+use Rattle.std.specs.Prelude.{slice_get, slice_index_or, Option, Some}
+use Rattle.std.specs.List.{filter, find, list_any, range_with_len}
 use Rattle.ff_lang.specs.declared.graph.Graph.{Graph}
 use Rattle.ff_graph_links.specs.labels.Labels.{meet, taken_in, given_in}
+use Rattle.ff_graph_links.specs.orders.Orders.{order_of}
 
 -- the numbers below this one
 abbrev pub below : ℕ → List ℕ
@@ -34,21 +35,16 @@ on_loop own graphs = first_on_loop (feeds graphs) (length graphs) own
 abbrev pub is_in : List ℕ → ℕ → Bool
 is_in ns n = list_any (λ m. n == m) ns
 
--- whether a graph wasn't taken and all that feed it were
-abbrev pub is_next : (ℕ → ℕ → Bool) → ℕ → List ℕ → ℕ → Bool
-is_next feed n taken g = not (is_in taken g) && list_all (λ a. not (feed a g) || is_in taken a) (below n)
+-- those of the first n that feed b
+abbrev pub feeders_to : (ℕ → ℕ → Bool) → ℕ → ℕ → List ℕ
+feeders_to feed n b = filter (λ a. feed a b) (below n)
 
--- the lowest such
-abbrev pub next_graph : (ℕ → ℕ → Bool) → ℕ → List ℕ → Option ℕ
-next_graph feed n taken = find (is_next feed n taken) (below n)
+abbrev pub feeders_by : (ℕ → ℕ → Bool) → ℕ → List (List ℕ)
+feeders_by feed n = map (feeders_to feed n) (below n)
 
-abbrev pub order_on : (ℕ → ℕ → Bool) → ℕ → ℕ → List ℕ → Option ℕ → List ℕ
-order_on feed n steps taken None = taken
-order_on feed n zero taken (Some g) = taken
-order_on feed n (suc steps) taken (Some g) = order_on feed n steps (taken ++ g ∷ []) (next_graph feed n (taken ++ g ∷ []))
-
+-- each of the first n behind those that feed it, of those that are ready the lowest first, until none is ready
 abbrev pub order_by : (ℕ → ℕ → Bool) → ℕ → List ℕ
-order_by feed n = order_on feed n n [] (next_graph feed n [])
+order_by feed n = order_of (feeders_by feed n)
 
 -- each graph after those that feed it, else by number: again and again the lowest whose feeders were all taken
 abbrev pub graph_order : List Graph → List ℕ

@@ -1,11 +1,12 @@
 // Which graphs feed which, their order and their loops.
-ghost use Rattle.std.specs.Prelude.{◌≡◌, ◌<◌, ◌^◌, ◌||◌, not, IfOk, length, map, slice_index_or, false};
-ghost use Rattle.std.specs.List.{list_all};
-ghost use Rattle.ff_graph_links.specs.labels.Order.{below, feeds, cell, reaches, comes_behind, first_on_loop, on_loop, is_in as stands_in};
-ghost use Rattle.ff_graph_links.specs.labels.Order.{is_next as comes_next, next_graph as number_next, order_by, graph_order};
+ghost use Rattle.std.specs.Prelude.{◌≡◌, ◌<◌, ◌^◌, ◌||◌, All, IfOk, length, map, slice_index_or, false};
+ghost use Rattle.ff_graph_links.specs.labels.Order.{below, feeds, cell, reaches, comes_behind, first_on_loop, on_loop};
+ghost use Rattle.ff_graph_links.specs.labels.Order.{feeders_to as fed_from, feeders_by, order_by, graph_order};
+ghost use Rattle.ff_graph_links.specs.orders.Orders.{lists};
 ghost use Rattle.ff_graph_links.specs.labels.Tables.{marks};
 
 use crate::labels::labels::gives_to;
+use crate::orders::in_order;
 use ff_lang::Graph;
 use std::alloc::{AllocError, Global};
 
@@ -168,67 +169,49 @@ pub fn graph_on_loop(
     first_looped(alloc, rows.as_slice(), own)
 }
 
-fn is_in(numbers: &[u32], number: usize) -> bool
-    ensures { result ≡ stands_in numbers.now number }
+// The graphs that feed this one.
+fn feeders_to(alloc: Global, rows: &[Vec<bool>], to: usize) -> Result<Vec<usize>, AllocError>
+    ensures { IfOk result (λ feeders. feeders.items ≡ fed_from (cell (marks rows.now)) (length rows.now) to) }
 {
-    for other in numbers {
-        if number == *other as usize {
-            return true;
-        }
-    }
-    false
-}
-
-// Whether a graph feeds another only if it was taken.
-fn is_held(rows: &[Vec<bool>], taken: &[u32], from: usize, graph: usize) -> bool
-    ensures { result ≡ (not (cell (marks rows.now) from graph) || stands_in taken.now from) }
-{
-    !has_mark(rows, from, graph) || is_in(taken, from)
-}
-
-// Whether all that feed a graph were taken.
-fn is_fed(rows: &[Vec<bool>], taken: &[u32], graph: usize) -> bool
-    ensures { result ≡ list_all (λ a. not (cell (marks rows.now) a graph) || stands_in taken.now a) (below (length rows.now)) }
-{
+    let mut feeders = Vec::new(alloc);
     for from in 0..rows.len() {
-        if !is_held(rows, taken, from, graph) {
-            return false;
+        if has_mark(rows, from, to) {
+            feeders.push(from)?;
         }
     }
-    true
+    Ok(feeders)
 }
 
-fn is_next(rows: &[Vec<bool>], taken: &[u32], graph: usize) -> bool
-    ensures { result ≡ comes_next (cell (marks rows.now)) (length rows.now) taken.now graph }
+// The same of all graphs.
+fn all_feeders(alloc: Global, rows: &[Vec<bool>]) -> Result<Vec<Vec<usize>>, AllocError>
+    ensures { IfOk result (λ all. lists all.items ≡ feeders_by (cell (marks rows.now)) (length rows.now)) }
 {
-    !is_in(taken, graph) && is_fed(rows, taken, graph)
-}
-
-// The lowest graph that wasn't taken and whose feeders all were.
-fn next_graph(rows: &[Vec<bool>], taken: &[u32]) -> Option<u32>
-    requires { length rows.now < 2 ^ 32 }
-    ensures { result ≡ number_next (cell (marks rows.now)) (length rows.now) taken.now }
-{
-    for graph in 0..rows.len() {
-        if is_next(rows, taken, graph) {
-            return Some(graph as u32);
-        }
+    let mut all = Vec::new(alloc);
+    for to in 0..rows.len() {
+        let feeders = feeders_to(alloc, rows, to)?;
+        all.push(feeders)?;
     }
-    None
+    Ok(all)
+}
+
+fn numbers(alloc: Global, things: &[usize]) -> Result<Vec<u32>, AllocError>
+    requires { All (λ k. k < 2 ^ 32) things.now }
+    ensures { IfOk result (λ numbers. numbers.items ≡ things.now) }
+{
+    let mut numbers = Vec::new(alloc);
+    for thing in things {
+        numbers.push(*thing as u32)?;
+    }
+    Ok(numbers)
 }
 
 fn order_of(alloc: Global, rows: &[Vec<bool>]) -> Result<Vec<u32>, AllocError>
     requires { length rows.now < 2 ^ 32 }
     ensures { IfOk result (λ order. order.items ≡ order_by (cell (marks rows.now)) (length rows.now)) }
 {
-    let mut order = Vec::new(alloc);
-    for step in 0..rows.len() {
-        match next_graph(rows, order.as_slice()) {
-            Some(graph) => order.push(graph)?,
-            None => return Ok(order),
-        }
-    }
-    Ok(order)
+    let feeders = all_feeders(alloc, rows)?;
+    let things = in_order(alloc, feeders.as_slice())?;
+    numbers(alloc, things.as_slice())
 }
 
 /// The numbers of graphs in the order of their nodes: each behind those that feed it, else by number. Where a loop keeps graphs from

@@ -1,5 +1,5 @@
 ghost use Rattle.std.specs.Prelude.{◌≡◌, ◌<◌, ℕ, List, length, replicate, slice_set, IfOk, IfSome, IsNone, Ok, None, Some, is_some, not, true, false};
-ghost use Rattle.ff_graph_links.specs.orders.Orders.{is_taken as taken_is, all_taken, are_taken as are_all_taken, is_ready as ready_is, lists, IsOrder, IsLowestOrder, left};
+ghost use Rattle.ff_graph_links.specs.orders.Orders.{is_taken as taken_is, are_taken as are_all_taken, is_ready as ready_is, lists, IsOrder, IsLowestOrder, left};
 ghost use Rattle.ff_graph_links.specs.orders.Orders.{first_ready, order_of, loops};
 
 use std::alloc::{AllocError, Global};
@@ -17,18 +17,6 @@ fn are_taken(taken: &[bool], feeders: &[usize]) -> bool
 {
     'each: for i in 0..feeders.len() {
         if !is_taken(taken, feeders[i]) {
-            return false;
-        }
-    }
-    true
-}
-
-// Whether all were taken.
-fn all_are_taken(taken: &[bool]) -> bool
-    ensures { result ≡ all_taken taken.now }
-{
-    'each: for i in 0..taken.len() {
-        if !taken[i] {
             return false;
         }
     }
@@ -69,29 +57,34 @@ fn none_taken(alloc: Global, count: usize) -> Result<Vec<bool>, AllocError>
     Ok(taken)
 }
 
-/// The order in which things can be taken one by one, each behind those that feed it (`feeders` by the number of the thing), and of
-/// those that can be taken next the lowest first. None where there is no order: things feed one another in a loop, or one is fed by
-/// what isn't there.
-pub fn order(alloc: Global, feeders: &[Vec<usize>]) -> Result<Option<Vec<usize>>, AllocError>
-    ensures lowest { IfOk result (λ o. IfSome o (λ things. IsLowestOrder (lists feeders.now) things.items)) }
-    ensures looped { result ≡ Ok None → (things : List ℕ) → IsOrder (lists feeders.now) things → ⊥ }
-    ensures those { IfOk result (λ o. IfSome o (λ things. things.items ≡ order_of (lists feeders.now))) }
-    ensures found { IfOk result (λ o. is_some o ≡ not (loops (lists feeders.now))) }
+/// Things one by one, each behind those that feed it (`feeders` by the number of the thing), and of those that can be taken next the
+/// lowest first, until none can. Where things feed one another in a loop, or one is fed by what isn't there, these are too few.
+pub(crate) fn in_order(alloc: Global, feeders: &[Vec<usize>]) -> Result<Vec<usize>, AllocError>
+    ensures { IfOk result (λ things. things.items ≡ order_of (lists feeders.now)) }
 {
     let mut taken = none_taken(alloc, feeders.len())?;
     let mut things = Vec::new(alloc);
     'taking: loop {
         match next(feeders, &taken) {
-            None => {
-                if all_are_taken(&taken) {
-                    return Ok(Some(things));
-                }
-                return Ok(None);
-            }
+            None => return Ok(things),
             Some(thing) => {
                 things.push(thing)?;
                 taken[thing] = true;
             }
         }
     }
+}
+
+/// The order in which all things can be taken one by one, the lowest first. None where there is no order.
+pub fn order(alloc: Global, feeders: &[Vec<usize>]) -> Result<Option<Vec<usize>>, AllocError>
+    ensures lowest { IfOk result (λ o. IfSome o (λ things. IsLowestOrder (lists feeders.now) things.items)) }
+    ensures looped { result ≡ Ok None → (things : List ℕ) → IsOrder (lists feeders.now) things → ⊥ }
+    ensures those { IfOk result (λ o. IfSome o (λ things. things.items ≡ order_of (lists feeders.now))) }
+    ensures found { IfOk result (λ o. is_some o ≡ not (loops (lists feeders.now))) }
+{
+    let things = in_order(alloc, feeders)?;
+    if things.len() < feeders.len() {
+        return Ok(None);
+    }
+    Ok(Some(things))
 }
