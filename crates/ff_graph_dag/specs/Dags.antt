@@ -69,12 +69,6 @@ abbrev pub AllUntouched : ℕ → List Node → Type 0
 AllUntouched w [] = Unit {0}
 AllUntouched w (n ∷ ns) = Untouched w n × AllUntouched w ns
 
--- all filters but this one have nothing to do with an edge
-abbrev pub OthersUntouched : ℕ → ℕ → List Node → Type 0
-OthersUntouched w k [] = Unit {0}
-OthersUntouched w zero (n ∷ ns) = AllUntouched w ns
-OthersUntouched w (suc k) (n ∷ ns) = Untouched w n × OthersUntouched w k ns
-
 -- an edge leads to this input, and no filter has to do with it but the one that it leaves
 abbrev pub Reads : ℕ → ℕ → ℕ → List Node → Type 0
 Reads w k i [] = ⊥

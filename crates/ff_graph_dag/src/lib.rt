@@ -13,7 +13,7 @@
 //! What a graph still gives is said on all edges at once (`specs/Graphs`), and at the start it is the solution of a network
 //! with a part for each filter (`specs/Parts`).
 //!
-//! `ties`: Whether the edges of a plan of filters fit together: what is read off it, edge by edge and port by port, makes it sound.
+//! `ties`: What is read off a plan of filters, edge by edge and port by port, that makes it sound; the edges on the way to each output.
 //!
 //! `wiring`: From filters that feed one another to the plan of their edges: which edge stands at which port.
 #![tactic(auto)]
@@ -27,7 +27,7 @@ mod wiring;
 pub use dag::Dag;
 pub use graph::{Graph, Node, Plan, Port, Wire};
 pub use placed::Placed;
-pub use ties::{fit, tied, tied_plans_are_sound, upward_ways};
+pub use ties::tied_plans_are_sound;
 pub use wiring::{
     Drawing, drawings_are_linked, drawn_plan, drawn_plans_are_limited, drawn_plans_mean,
     filters_in_order_solve, graphs_are_limited, open_inputs_are_open, orders_go_forward,

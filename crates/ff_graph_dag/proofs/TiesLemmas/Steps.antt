@@ -2,12 +2,9 @@
 use Rattle.std.proofs.Common.{◌≡◌, ◌≢◌, ℕ, zero, suc, ◌+◌, ◌<◌, ◌≤◌, ◌==◌, ◌||◌, Bool, true, false, List, [], ◌∷◌, ◌++◌, length, slice_get, slice_index_or, slice_set, cond, ◌⊎◌, inl, inr, Option, None, Some, refl, ap, sym, ◌∙◌, arith}
 use Rattle.std.proofs.lemmas.Bool.Decides.{nat_tests}
 use Rattle.std.specs.declared.vec.Vec.{Vec}
-use Rattle.ff_filter.specs.Views.{View}
 use Rattle.ff_graph_dag.specs.declared.graph.Port.{Port}
 use Rattle.ff_graph_dag.specs.declared.graph.Wire.{Wire}
-use Rattle.ff_graph_dag.specs.declared.placed.Placed.{Placed}
-use Rattle.ff_graph_dag.specs.Dags.{spot_of}
-use Rattle.ff_graph_dag.specs.Graphs.{spots, spot_at, among}
+use Rattle.ff_graph_dag.specs.Graphs.{among}
 use Rattle.ff_graph_dag.specs.ties.Tied.{is_needed, wire_needed, ways_at, with_start, with_feeder, IsUpward}
 
 or_assoc : (a b c : Bool) → (a || (b || c)) ≡ ((a || b) || c)
@@ -75,15 +72,6 @@ ways_last (u ∷ vs) v (suc j) e = ways_last vs v j (omega arith)
 pub one_longer : {B : Type 0} (xs : List B) (x : B) → length (xs ++ x ∷ []) ≡ length xs + 1
 one_longer [] x = refl
 one_longer (y ∷ xs) x = let h : length (xs ++ x ∷ []) ≡ length xs + 1 = one_longer xs x in omega arith
-
--- the filter in a place
-pub spot_there : {F : Type 0} (view : F → View) (ps : List (Placed F)) (k : ℕ) (p : Placed F) → k < length ps → p ≡ slice_index_or ps k p → spot_at (spots view ps) k ≡ spot_of view p
-spot_there view ps k p lt e = at ps k p lt e
-  where
-    at : (qs : List (Placed _)) (i : ℕ) (d : Placed _) → i < length qs → p ≡ slice_index_or qs i d → spot_at (spots view qs) i ≡ spot_of view p
-    at [] i d l h = absurd (omega arith)
-    at (q ∷ qs) zero d l h = ap (λ (r : Placed _). spot_of view r) (sym h)
-    at (q ∷ qs) (suc i) d l h = at qs i d (omega arith) h
 
 -- the needed filters ------------------------------------------------------------------------------------------------
 

@@ -1,4 +1,4 @@
-ghost use Rattle.std.specs.Prelude.{◌≡◌, ◌<◌, ℕ, List, Bool, true, false, Some, Ok, length, slice_get, slice_set, replicate, IfOk, IfSome};
+ghost use Rattle.std.specs.Prelude.{◌≡◌, ◌<◌, ℕ, List, Bool, true, false, Some, length, slice_get, slice_set, replicate, IfOk};
 ghost use Rattle.ff_graph_dag.specs.declared.graph.Port.{Port as APort};
 ghost use Rattle.ff_graph_dag.specs.declared.graph.Wire.{Wire as AWire};
 ghost use Rattle.ff_graph_dag.specs.Graphs.{among};
@@ -59,30 +59,6 @@ fn needed_at(alloc: Global, plan: &Plan, pad: Port) -> Result<Vec<bool>, AllocEr
     Ok(needed)
 }
 
-// Whether the filter that an edge leaves is needed, if it leaves one.
-fn start_is_needed(wire: Wire, needed: &[bool]) -> bool
-    ensures { result ≡ true → (g : APort) → wire.from ≡ Some g → needed_is needed.now g.filter ≡ true }
-{
-    match wire.from {
-        None => true,
-        Some(from) => is_needed(needed, from.filter),
-    }
-}
-
-// Whether each filter that feeds a needed one is needed.
-fn are_closed(plan: &Plan, needed: &[bool]) -> bool
-    ensures { result ≡ true → (w : ℕ) (x : AWire) (g : APort) → slice_get plan.now.wires.items w ≡ Some x → needed_is needed.now x.to.filter ≡ true
-        → x.from ≡ Some g → needed_is needed.now g.filter ≡ true }
-{
-    'each: for w in 0..plan.wires.len() {
-        let wire = plan.wires[w];
-        if is_needed(needed, wire.to.filter) && !start_is_needed(wire, needed) {
-            return false;
-        }
-    }
-    true
-}
-
 // The edges that lead to a needed filter, the highest first.
 fn needed_edges(alloc: Global, plan: &Plan, needed: &[bool]) -> Result<Vec<usize>, AllocError>
     ensures { IfOk result (λ ways. (w : ℕ) → among ways.items w ≡ wire_is_needed needed.now (slice_get plan.now.wires.items w)) }
@@ -98,34 +74,6 @@ fn needed_edges(alloc: Global, plan: &Plan, needed: &[bool]) -> Result<Vec<usize
     Ok(ways)
 }
 
-// The edges on the way to an output. None where what feeds them isn't known.
-fn way_to(alloc: Global, plan: &Plan, pad: Port) -> Result<Option<Vec<usize>>, AllocError>
-    ensures { IfOk result (λ o. IfSome o (λ ways. (needed : List Bool) × IsReached plan.now ways.items pad needed)) }
-{
-    let needed = needed_at(alloc, plan, pad)?;
-    if !is_needed(&needed, pad.filter) || !are_closed(plan, &needed) {
-        return Ok(None);
-    }
-    let ways = needed_edges(alloc, plan, &needed)?;
-    Ok(Some(ways))
-}
-
-/// For each output the edges on the way to it, the highest first. None where an edge leads back.
-pub fn all_ways(alloc: Global, plan: &Plan) -> Result<Option<Vec<Vec<usize>>>, AllocError>
-    ensures count { IfOk result (λ o. IfSome o (λ ways. length ways.items ≡ length plan.now.pads.items)) }
-    ensures reached { IfOk result (λ o. IfSome o (λ ways. (q : ℕ) (f : APort) → slice_get plan.now.pads.items q ≡ Some f
-        → (needed : List Bool) × IsReached plan.now (ways_at ways.items q) f needed)) }
-{
-    let mut ways = Vec::with_capacity(alloc, plan.pads.len())?;
-    'each: for q in 0..plan.pads.len() {
-        match way_to(alloc, plan, plan.pads[q])? {
-            None => return Ok(None),
-            Some(way) => ways.push_reserved(way),
-        }
-    }
-    Ok(Some(ways))
-}
-
 // The edges on the way to an output, where the edges go upward.
 fn upward_way(alloc: Global, plan: &Plan, pad: Port) -> Result<Vec<usize>, AllocError>
     requires upward { IsUpward plan.now.wires.items }
@@ -137,7 +85,7 @@ fn upward_way(alloc: Global, plan: &Plan, pad: Port) -> Result<Vec<usize>, Alloc
 }
 
 /// For each output the edges on the way to it, the highest first, where the edges go upward.
-pub fn upward_ways(alloc: Global, plan: &Plan) -> Result<Vec<Vec<usize>>, AllocError>
+pub(crate) fn upward_ways(alloc: Global, plan: &Plan) -> Result<Vec<Vec<usize>>, AllocError>
     requires upward { IsUpward plan.now.wires.items }
     requires there { (q : ℕ) (f : APort) → slice_get plan.now.pads.items q ≡ Some f → f.filter < length plan.now.nodes.items }
     ensures count { IfOk result (λ ways. length ways.items ≡ length plan.now.pads.items) }
