@@ -241,8 +241,8 @@ pub fn run_command<
         (record { before = H.in_faults host.old; after = H.in_faults host.new })
         (record { before = H.out_faults host.old; after = H.out_faults host.new }) file) }
 
-    // No failure is passed over: with status Fine no count has changed, and a failure of reading is the status, unless a fault
-    // came before it. Under names that are no input, or no output, nothing is counted.
+    // With status Fine no count has changed. A failure of reading is the status, unless a fault came before it or memory ran out.
+    // Under names that are no input, or no output, nothing is counted.
     ensures in_counts { KeepsInputCounts (P.means worker.now) (texts words.now) (H.files host.old) (record { before = H.in_faults host.old; after = H.in_faults host.new }) result.status }
     ensures out_counts { KeepsOutputCounts (P.means worker.now) (texts words.now) (H.files host.old) (record { before = H.out_faults host.old; after = H.out_faults host.new }) result.status }
 
