@@ -1,10 +1,21 @@
 -- What is reported of a run, by what it has logged.
-use Rattle.std.proofs.Common.{◌≡◌, ℕ, List, Option, None, Some, IfSome}
+use Rattle.std.proofs.Common.{◌≡◌, inl, inr, ℕ, List, Option, None, Some, IfSome, sym, subst, ◌∙◌}
+use Rattle.std.specs.Prelude.{◌↔◌}
 use Rattle.ff_frame.specs.declared.event.Event.{Event}
 use Rattle.ff_words.specs.declared.error.WordError.{WordError}
 use Rattle.ff_words.specs.declared.error.WordError.TheVariants.{At, NoMemory}
-use Rattle.ff_files.specs.Works.{HasLog}
+use Rattle.ff_host.specs.Files.{Files}
+use Rattle.ff_input.specs.declared.heads.head.InputHead.{InputHead}
+use Rattle.ff_plan.specs.declared.planned.PlanError.{PlanError}
+use Rattle.ff_run_plan.specs.declared.fault.RunFault.{RunFault}
+use Rattle.ff_words.specs.declared.job.Job.{Job}
+use Rattle.ff_files.specs.Counts.{Counts}
+use Rattle.ff_files.specs.Works.{Meaning, HasLog}
+use Rattle.ff_command.specs.declared.report.Line.{Line}
+use Rattle.ff_command.specs.declared.report.Line.TheVariants as became
+use Rattle.ff_command.specs.declared.report.Status.{Status}
 use Rattle.ff_command.specs.declared.report.Status.TheVariants as status
+use Rattle.ff_command.specs.Command.{KeepsInputs, KeepsOutputs, KeepsInputCounts, KeepsOutputCounts}
 use Rattle.ff_command.specs.Histories.{history_in, reads_in}
 use Rattle.ff_run_plan.specs.declared.reads.RunLog.{RunLog}
 use Rattle.ff_run_plan.specs.Reads.{places_in}
@@ -36,3 +47,24 @@ also_reported P Q (Some log) h q = q
 pub never_fine : (error : WordError) → wrong_words error ≡ status.Fine → ⊥
 never_fine (At place kind) e = cc
 never_fine NoMemory e = cc
+
+-- ---- where there was no memory to log a text that was asked for
+
+pub not_fine : (answer : Status) → answer ≡ status.NoMemory → answer ≡ status.Fine → ⊥
+not_fine answer is fine = (let both : status.NoMemory ≡ status.Fine = sym is ∙ fine in cc)
+
+is_due : (line : Line) → line ≡ became.NoMemory → line ≡ became.NotDue → ⊥
+is_due line at quiet = (let both : became.NoMemory ≡ became.NotDue = sym at ∙ quiet in cc)
+
+pub untold_due : (A : Type 0) (answer : Status) (line : Line) → answer ≡ status.NoMemory → line ≡ became.NoMemory → (line ≡ became.NotDue) ↔ ((answer ≡ status.Fine) × A)
+untold_due A answer line is at = (λ quiet. absurd (is_due line at quiet), λ asked. absurd (not_fine answer is asked.0))
+
+-- all was done, so no count has risen, whatever is answered then
+module _ (means : Job → Meaning InputHead PlanError RunFault) (words : List (List ℕ)) (before : Option Files) where
+  pub ins_same : (ins : Counts) (answer final : Status) → answer ≡ status.Fine → KeepsInputCounts means words before ins answer → KeepsInputCounts means words before ins final
+  ins_same ins answer final is (inl same) = inl same
+  ins_same ins answer final is (inr asks) = inl (subst (λ s. KeepsInputs means asks.0 before ins s) is asks.2)
+
+  pub outs_same : (outs : Counts) (answer final : Status) → answer ≡ status.Fine → KeepsOutputCounts means words before outs answer → KeepsOutputCounts means words before outs final
+  outs_same outs answer final is (inl same) = inl same
+  outs_same outs answer final is (inr asks) = inl (subst (λ s. KeepsOutputs means asks.0 before outs s) is asks.2)

@@ -1,4 +1,4 @@
--- The line of a fault, and the number that the program ends with.
+-- The line of a fault, and the numbers of a status and of the program's end.
 use Rattle.std.specs.Prelude.{ℕ, List, [], ◌++◌, codes, decimal}
 use Rattle.ff_lists.specs.Text.{line}
 use Rattle.ff_frame.specs.declared.config.ConfigError.{ConfigError}
@@ -9,6 +9,8 @@ use Rattle.ff_plan.specs.declared.planned.PlanError.{PlanError}
 use Rattle.ff_plan.specs.declared.planned.PlanError.TheVariants as refusal
 use Rattle.ff_command.specs.declared.report.Status.{Status}
 use Rattle.ff_command.specs.declared.report.Status.TheVariants as status
+use Rattle.ff_command.specs.declared.report.Line.{Line}
+use Rattle.ff_command.specs.declared.report.Line.TheVariants as became
 
 -- what is wrong at a word
 abbrev pub word_fault : WordKind → List ℕ
@@ -65,7 +67,7 @@ status_fault status.NoMemory name = codes "out of memory"
 abbrev pub fault_text : Status → List ℕ → List ℕ
 fault_text status name = line (codes "ffmpeg: " ++ status_fault status name)
 
--- the number that the program ends with
+-- the number of a status
 abbrev pub number_of : Status → ℕ
 number_of status.Fine = 0
 number_of (status.Words place kind) = 1
@@ -76,3 +78,8 @@ number_of (status.TooLong node) = 5
 number_of (status.Unsupported input offset) = 6
 number_of (status.TooLarge output) = 7
 number_of status.NoMemory = 9
+
+-- the number that the program ends with: that of the status, or 3 where a text that was asked for couldn't be logged
+abbrev pub exit_number_of : Status → Line → ℕ
+exit_number_of status.Fine became.Failed = 3
+exit_number_of answer became_of_it = number_of answer

@@ -1,5 +1,5 @@
 // A command: from the words and the files to the files, the log and the report.
-ghost use Rattle.std.specs.Prelude.{◌≡◌, ◌≢◌, ◌⊎◌, ◌↔◌, [], ℕ, List, None, IfSome, ⊤};
+ghost use Rattle.std.specs.Prelude.{◌≡◌, ◌≢◌, ◌⊎◌, ◌↔◌, [], ℕ, List, None, IfSome, ⊤, true, false};
 ghost use Rattle.std.specs.Io.KnownBytes.{Appends, Keeps};
 ghost use Rattle.ff_host.specs.Causes.{Rose};
 ghost use Rattle.ff_host.specs.Files.{KeepsFiles};
@@ -171,6 +171,34 @@ fn reported(alloc: Global, status: &Status, run: Option<RunLog>) -> RunReport
     }
 }
 
+// Whether all was done, but for a text that was asked for: there was no memory to log it.
+fn is_untold(status: &Status, line: Line) -> bool
+    ensures untold { result ≡ true → (status.now ≡ Status.Fine) × (line ≡ Line.NoMemory) }
+    ensures told { result ≡ false → status.now ≡ Status.Fine → line ≢ Line.NoMemory }
+{
+    match status {
+        Status::Fine => match line {
+            Line::NoMemory => true,
+            _ => false,
+        },
+        _ => false,
+    }
+}
+
+// What is reported where there was no memory to log a text that was asked for.
+fn out_of_memory(alloc: Global) -> Report
+    ensures status { (result.status ≡ Status.NoMemory) × (result.line ≡ Line.NoMemory) }
+    ensures other { (result.history ≡ []) × (result.reads.items ≡ []) }
+{
+    let RunReport { history, reads } = nothing(alloc);
+    Report {
+        status: Status::NoMemory,
+        history,
+        reads,
+        line: Line::NoMemory,
+    }
+}
+
 /// A command: all that the program does, whatever works its jobs.
 ///
 /// It reads the words, opens the inputs by number, each with its head, plans by the heads, creates the outputs by number, and runs;
@@ -264,6 +292,7 @@ pub fn run_command<
     ensures log_failed { result.line ≡ Line.Failed → Rose (E.faults log.old) (E.faults log.new)
         × ((text : List ℕ) × IsDue (Q.means own.now) (texts words.now) result.status text × AppendsPrefix (E.holds log.old) (E.holds log.new) text) }
     ensures line_no_memory { result.line ≡ Line.NoMemory → Keeps (E.holds log.old) (E.holds log.new) }
+    ensures fine_line { result.status ≡ Status.Fine → result.line ≢ Line.NoMemory }
 
     // The history of what the scheduler of the run granted and was told, which the trace holds where the words ask for one.
     ensures history { result.status ≡ Status.Fine
@@ -289,6 +318,9 @@ pub fn run_command<
         run,
     } = run_words(alloc, worker, own, words, host);
     let line = log_end(alloc, &told, &status, name_of(&status, &job), log);
+    if is_untold(&status, line) {
+        return out_of_memory(alloc);
+    }
     let RunReport { history, reads } = reported(alloc, &status, run);
     Report {
         status,

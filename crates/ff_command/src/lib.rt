@@ -26,6 +26,6 @@ mod written;
 
 pub use command::run_command;
 pub use history::History;
-pub use report::{FileRef, Line, Report, Status, status_number};
+pub use report::{FileRef, Line, Report, Status, exit_number, status_number};
 pub use texts::fault_line;
 pub use worker::Worker;

@@ -1,6 +1,6 @@
 // What a run answers.
 ghost use Rattle.std.specs.Prelude.{◌≡◌};
-ghost use Rattle.ff_command.specs.Texts.{number_of};
+ghost use Rattle.ff_command.specs.Texts.{number_of, exit_number_of};
 
 use crate::history::History;
 use ff_plan::PlanError;
@@ -40,10 +40,10 @@ pub enum Status {
     NoMemory,
 }
 
-/// What became of the line of a fault.
+/// What became of the line of a fault, or of a text that was asked for.
 #[derive(Clone, Copy, Debug, PartialEq, Eq)]
 pub enum Line {
-    /// All was done, and there is no line.
+    /// All of a job was done, and there is no line.
     NotDue,
     /// The log gained the line.
     Whole,
@@ -63,11 +63,11 @@ pub struct Report {
     /// For each input the places in `history`, from 0 on, of the grants under which its source tried a packet or found the end, in
     /// order; no list for any other status than `Fine`.
     pub reads: Vec<Vec<u64>>,
-    /// What became of the line of the fault.
+    /// What became of the line of the fault, or of the text that was asked for; with status `Fine` never `NoMemory`.
     pub line: Line,
 }
 
-/// The number that the program ends with.
+/// The number of a status.
 pub fn status_number(status: &Status) -> u8
     ensures { result ≡ number_of status.now }
 {
@@ -81,5 +81,18 @@ pub fn status_number(status: &Status) -> u8
         Status::Unsupported { .. } => 6,
         Status::TooLarge { .. } => 7,
         Status::NoMemory => 9,
+    }
+}
+
+/// The number that the program ends with: that of the status, or 3 where a text that was asked for couldn't be logged.
+pub fn exit_number(report: &Report) -> u8
+    ensures { result ≡ exit_number_of report.now.status report.now.line }
+{
+    match &report.status {
+        Status::Fine => match report.line {
+            Line::Failed => 3,
+            _ => 0,
+        },
+        status => status_number(status),
     }
 }

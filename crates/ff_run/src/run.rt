@@ -141,6 +141,7 @@ pub fn ffmpeg<R: Threads + Wait + Sync, H: Host, E: Sink>(
     ensures log_failed { result.line ≡ Line.Failed → Rose (E.faults log.old) (E.faults log.new)
         × ((text : List ℕ) × IsDue job_means (texts words.now) result.status text × AppendsPrefix (E.holds log.old) (E.holds log.new) text) }
     ensures line_no_memory { result.line ≡ Line.NoMemory → Keeps (E.holds log.old) (E.holds log.new) }
+    ensures fine_line { result.status ≡ Status.Fine → result.line ≢ Line.NoMemory }
 
     // The history of what the scheduler of the run granted and was told, from the opening state of the plan on, which the trace
     // holds where the words ask for one: legal, and where the files are told with the times of each output's packets and then its

@@ -1,5 +1,5 @@
 use crate::runs::{WORDS, host_of, input, log_of, run};
-use ff_command::{FileRef, Line, Status};
+use ff_command::{FileRef, Line, Status, exit_number};
 use ff_host::{FailAt, HostCall, MemHost};
 use ff_words::WordKind;
 use std::alloc::{AllocError, Global};
@@ -66,25 +66,30 @@ fn failing_log(alloc: Global, number: u32) -> Result<Vec<FailAt>, AllocError> {
     Ok(fails)
 }
 
-// Whether the line of a refusal, where the append of this number fails, is as said, and the log holds this.
+// Whether the line of these words, where the append of this number fails, is as said, the log holds this, and the program ends so.
 fn logs<R: Threads + Wait + Sync>(
     rt: &R,
     alloc: Global,
+    texts: &[&str],
     number: u32,
     line: Line,
     text: &str,
+    end: u8,
 ) -> Result<bool, AllocError> {
     let mut host = MemHost::new(alloc, Vec::new(alloc), Vec::new(alloc))?;
     let mut log = log_of(alloc, failing_log(alloc, number)?)?;
-    let report = run(rt, alloc, &[], &mut host, &mut log)?;
-    Ok((report.line == line) & (log.bytes() == text.as_bytes()))
+    let report = run(rt, alloc, texts, &mut host, &mut log)?;
+    let logged = (report.line == line) & (log.bytes() == text.as_bytes());
+    Ok(logged & (exit_number(&report) == end))
 }
 
 // The line goes to the log in one append: the first may fail, and a second never comes.
 #[test]
 fn log_failures(rt: HostRuntime) -> Result<(), AllocError> {
+    let alloc = rt.alloc();
     let text = "ffmpeg: word 0: no input\n";
-    assert!(rt; logs(&rt, rt.alloc(), 1, Line::Failed, "")?);
-    assert!(rt; logs(&rt, rt.alloc(), 2, Line::Whole, text)?);
+    assert!(rt; logs(&rt, alloc, &[], 1, Line::Failed, "", 1)?);
+    assert!(rt; logs(&rt, alloc, &[], 2, Line::Whole, text, 1)?);
+    assert!(rt; logs(&rt, alloc, &["-version"], 1, Line::Failed, "", 3)?);
     Ok(())
 }

@@ -1,12 +1,12 @@
 //! The program: it hands its words, the machine's files and standard output to the command, and ends with the number
-//! of the status. The command itself is `ff_run::ffmpeg`, the files are those of `ff_host_file`.
+//! of the report. The command itself is `ff_run::ffmpeg`, the files are those of `ff_host_file`.
 #![tactic(auto)]
 
 mod words;
 
 ghost use Rattle.std.specs.Prelude.{◌≢◌};
 
-use ff_command::{Status, fault_line, status_number};
+use ff_command::{Status, exit_number, fault_line, status_number};
 use ff_host::Sink;
 use ff_host_file::{FileHost, LogSink};
 use ff_run::ffmpeg;
@@ -60,5 +60,5 @@ fn main(rt: HostRuntime) -> ExitCode {
         host.show_progress();
     }
     let report = ffmpeg(&rt, alloc, &words, &mut host, &mut log);
-    ExitCode::from(status_number(&report.status))
+    ExitCode::from(exit_number(&report))
 }

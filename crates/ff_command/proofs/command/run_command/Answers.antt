@@ -1,11 +1,14 @@
 use Rattle.std.proofs.Common.{ℕ, List, inl, inr, sym, subst}
+use Rattle.std.specs.Prelude.{⊤}
 use Rattle.ff_frame.specs.declared.event.Event.{Event}
 use Rattle.ff_run_plan.specs.Reads.{places_in}
 use Rattle.ff_words.specs.Words.{texts}
-use Rattle.ff_command.specs.Command.{ReportsHistory, ReportsReads, ReportsOwn, ReportsOwnReads, HoldsTrace}
+use Rattle.ff_files.specs.Counts.{Counts}
+use Rattle.ff_command.specs.Command.{AskFor, ComesBeforeOutputs, ReportsHistory, ReportsReads, ReportsOwn, ReportsOwnReads, HoldsTrace}
 use Rattle.ff_command.specs.Histories.{history_in}
 use Rattle.ff_command.proofs.Answers.{due-text, none-told}
-use Rattle.ff_command.proofs.Reports.{has_more, reported_history, reported_reads, also_reported}
+use Rattle.ff_command.proofs.Generated.{own_none}
+use Rattle.ff_command.proofs.Reports.{has_more, reported_history, reported_reads, also_reported, not_fine, untold_due, ins_same, outs_same}
 use Rattle.ff_command.proofs.command.run_command.Goals as goal
 
 pub returns-clause-text : goal.returns-clause-text
@@ -104,3 +107,72 @@ returns-clause-trace g c = λ fine.
         | inr traced ↦ inr (subst held (sym (c.reported-history.ensures.fine fine).0) (also_reported _ held c.run_words-status.result.run logged traced))
       ]
     ]
+
+pub returns-then-is_untold-clause-text : goal.returns-then-is_untold-clause-text
+returns-then-is_untold-clause-text g c = λ asks. (inr c.out_of_memory.ensures.status.0, c.out_of_memory.ensures.other.0)
+
+pub returns-then-is_untold-clause-generated : goal.returns-then-is_untold-clause-generated
+returns-then-is_untold-clause-generated g c = λ seconds asks. own_none (g.Q.Worker.means c.args.own.now) seconds c.out_of_memory.result.status c.out_of_memory.ensures.status.0
+
+pub returns-then-is_untold-clause-untouched : goal.returns-then-is_untold-clause-untouched
+returns-then-is_untold-clause-untouched g c = λ early. absurd (subst ComesBeforeOutputs c.out_of_memory.ensures.status.0 early)
+
+pub returns-then-is_untold-clause-wrong : goal.returns-then-is_untold-clause-wrong
+returns-then-is_untold-clause-wrong g c = λ f wrong. inr c.out_of_memory.ensures.status.0
+
+pub returns-then-is_untold-clause-refused : goal.returns-then-is_untold-clause-refused
+returns-then-is_untold-clause-refused g c = λ i why gives. inr c.out_of_memory.ensures.status.0
+
+pub returns-then-is_untold-clause-no_plan : goal.returns-then-is_untold-clause-no_plan
+returns-then-is_untold-clause-no_plan g c = λ why gives. inr c.out_of_memory.ensures.status.0
+
+pub returns-then-is_untold-clause-complete : goal.returns-then-is_untold-clause-complete
+returns-then-is_untold-clause-complete g c = λ gives. inr c.out_of_memory.ensures.status.0
+
+pub returns-then-is_untold-clause-in_counts : goal.returns-then-is_untold-clause-in_counts
+returns-then-is_untold-clause-in_counts g c =
+    let H = g.H.Host in
+    let counts : Counts = record { before = H.in_faults c.args.host.now; after = H.in_faults c.run_words-status.new.host } in
+    ins_same (g.P.Worker.means c.args.worker.now) (texts c.args.words.now) (H.files c.args.host.now) counts c.run_words-status.result.status c.out_of_memory.result.status
+    (c.is_untold.ensures.untold c.if-is_untold.true).0 c.run_words-status.ensures.answered.in_counts
+
+pub returns-then-is_untold-clause-out_counts : goal.returns-then-is_untold-clause-out_counts
+returns-then-is_untold-clause-out_counts g c =
+    let H = g.H.Host in
+    let counts : Counts = record { before = H.out_faults c.args.host.now; after = H.out_faults c.run_words-status.new.host } in
+    outs_same (g.P.Worker.means c.args.worker.now) (texts c.args.words.now) (H.files c.args.host.now) counts c.run_words-status.result.status c.out_of_memory.result.status
+    (c.is_untold.ensures.untold c.if-is_untold.true).0 c.run_words-status.ensures.answered.out_counts
+
+pub returns-then-is_untold-clause-line_not_due : goal.returns-then-is_untold-clause-line_not_due
+returns-then-is_untold-clause-line_not_due g c =
+    untold_due (AskFor (texts c.args.words.now) (λ job. ⊤)) c.out_of_memory.result.status c.out_of_memory.result.line c.out_of_memory.ensures.status.0 c.out_of_memory.ensures.status.1
+
+pub returns-then-is_untold-clause-line_no_memory : goal.returns-then-is_untold-clause-line_no_memory
+returns-then-is_untold-clause-line_no_memory g c = λ none. c.log_end-line.ensures.no_memory (c.is_untold.ensures.untold c.if-is_untold.true).1
+
+pub returns-then-is_untold-clause-fine_line : goal.returns-then-is_untold-clause-fine_line
+returns-then-is_untold-clause-fine_line g c = λ fine. absurd (not_fine c.out_of_memory.result.status c.out_of_memory.ensures.status.0 fine)
+
+pub returns-then-is_untold-clause-history : goal.returns-then-is_untold-clause-history
+returns-then-is_untold-clause-history g c = λ fine. absurd (not_fine c.out_of_memory.result.status c.out_of_memory.ensures.status.0 fine)
+
+pub returns-then-is_untold-clause-trace : goal.returns-then-is_untold-clause-trace
+returns-then-is_untold-clause-trace g c = λ fine. absurd (not_fine c.out_of_memory.result.status c.out_of_memory.ensures.status.0 fine)
+
+pub returns-then-is_untold-clause-no_history : goal.returns-then-is_untold-clause-no_history
+returns-then-is_untold-clause-no_history g c = λ other. c.out_of_memory.ensures.other.0
+
+pub returns-then-is_untold-clause-reads : goal.returns-then-is_untold-clause-reads
+returns-then-is_untold-clause-reads g c = λ fine. absurd (not_fine c.out_of_memory.result.status c.out_of_memory.ensures.status.0 fine)
+
+pub returns-then-is_untold-clause-no_reads : goal.returns-then-is_untold-clause-no_reads
+returns-then-is_untold-clause-no_reads g c = λ which. c.out_of_memory.ensures.other.1
+
+pub returns-then-is_untold-clause-own_history : goal.returns-then-is_untold-clause-own_history
+returns-then-is_untold-clause-own_history g c = λ seconds asks fine. absurd (not_fine c.out_of_memory.result.status c.out_of_memory.ensures.status.0 fine)
+
+pub returns-then-is_untold-clause-own_reads : goal.returns-then-is_untold-clause-own_reads
+returns-then-is_untold-clause-own_reads g c = λ seconds asks fine. absurd (not_fine c.out_of_memory.result.status c.out_of_memory.ensures.status.0 fine)
+
+pub returns-clause-fine_line : goal.returns-clause-fine_line
+returns-clause-fine_line g c = λ fine. c.is_untold.ensures.told c.if-is_untold.false fine
