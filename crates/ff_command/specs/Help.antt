@@ -7,7 +7,7 @@ use Rattle.ff_words.specs.declared.table.Concern.{Concern}
 use Rattle.ff_words.specs.declared.table.Concern.TheVariants as concern
 use Rattle.ff_words.specs.declared.table.Kind.{Kind}
 use Rattle.ff_words.specs.declared.table.Kind.TheVariants as kind
-use Rattle.ff_words.specs.declared.table.TheConstants.{OPTIONS, FORMATS, AUDIO_CODECS, VIDEO_CODECS}
+use Rattle.ff_words.specs.Options.{options, file_formats, audio_codecs, video_codecs}
 use Rattle.ff_command.specs.declared.help.TheConstants.{USAGE, ENDS, PROGRAM}
 
 -- a text at the left of so many places, before blanks
@@ -105,13 +105,13 @@ codec_lines (l ∷ list) = line (codes "  " ++ l.0) ++ codec_lines list
 unfoldable pub help_text : List ℕ
 help_text =
     all_lines (map (λ l. l.now) USAGE)
-    ++ option_lines (map (λ l. (l.0.now, l.1, l.2)) OPTIONS)
+    ++ option_lines options
     ++ line (codes "Formats:")
-    ++ format_lines (map (λ l. (l.0.now, l.1.now, l.2, l.3, l.4)) FORMATS)
+    ++ format_lines file_formats
     ++ line (codes "Codecs of sound:")
-    ++ codec_lines (map (λ l. (l.0.now, l.1)) AUDIO_CODECS)
+    ++ codec_lines audio_codecs
     ++ line (codes "Codecs of pictures:")
-    ++ codec_lines (map (λ l. (l.0.now, l.1)) VIDEO_CODECS)
+    ++ codec_lines video_codecs
     ++ all_lines (map (λ l. l.now) ENDS)
 
 unfoldable pub version_text : List ℕ
