@@ -3,7 +3,9 @@ use Rattle.std.specs.Prelude.{◌≡◌, ◌≢◌, ◌⊎◌, ℕ, List, length
 use Rattle.std.specs.List.{All}
 use Rattle.std.specs.Prelude.{Vec}
 use Rattle.std.specs.Global.{Global}
+use Rattle.ff_host.specs.Causes.{SameCounts}
 use Rattle.ff_host.specs.Files.{Files, KeepsFiles}
+use Rattle.ff_host.specs.declared.host.HostError.{HostError}
 use Rattle.ff_reader.specs.declared.fault.HeadFault.{HeadFault}
 use Rattle.ff_reader.specs.declared.fault.HeadFault.TheVariants as fault
 use Rattle.ff_words.specs.declared.job.Job.{Job}
@@ -20,8 +22,9 @@ use Rattle.ff_run_plan.specs.declared.fault.RunFault.{RunFault}
 use Rattle.ff_run_plan.specs.declared.fault.RunFault.TheVariants as run_fault
 use Rattle.ff_files.specs.Names.{KeepsAllBut}
 use Rattle.ff_files.specs.Counts.{Counts}
+use Rattle.ff_files.specs.Outputs.{CreatesOutputs}
 use Rattle.ff_files.specs.Works.{Meaning, HoldMeaning, HoldWritten}
-use Rattle.ff_files.specs.Ends.{IsPlanRefused, IsBroken, IsFirstRefused, HasNoPlan, CanBeDone}
+use Rattle.ff_files.specs.Ends.{end_of_output, IsPlanRefused, IsBroken, IsFirstRefused, HasNoPlan, CanBeDone}
 use Rattle.ff_files.specs.declared.end.RunEnd.{RunEnd}
 use Rattle.ff_files.specs.declared.end.RunEnd.TheVariants as run_end
 use Rattle.ff_command.specs.declared.report.FileRef.{FileRef}
@@ -65,6 +68,16 @@ status_of count (run_end.Unsupported input offset) = status.Unsupported input of
 status_of count (run_end.Refused why) = refused_plan why
 status_of count (run_end.Broken why) = broken_run why
 status_of count run_end.NoMemory = status.NoMemory
+
+-- which files of the job were created; where one couldn't be, that is the status
+abbrev pub CreatesWritten : Job → (List ℕ → Type 0) → Option Files → Option Files → Counts → Status → Type 0
+CreatesWritten job created before after outs answer =
+    CreatesOutputs created before after outs (written job) (λ k why. answer ≡ status_of (length job.outputs) (end_of_output k why))
+
+-- and of the job that the words ask for, if they ask for one
+abbrev pub CreatesAsked : List (List ℕ) → (List ℕ → Type 0) → Option Files → Option Files → Counts → Status → Type 0
+CreatesAsked words created before after outs answer =
+    (KeepsFiles before after × SameCounts outs.before outs.after) ⊎ AskFor words (λ job. CreatesWritten job created before after outs answer)
 
 -- the text that ends a run that isn't silent: what is told, or else the line of its fault
 abbrev pub IsEndText : Option (Vec ℕ Global) → Status → List ℕ → List ℕ → Type 0

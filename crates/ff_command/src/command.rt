@@ -17,7 +17,7 @@ ghost use Rattle.ff_command.specs.Command.{HasFailed, GivesNoHead, GivesNoPlan, 
 ghost use Rattle.ff_command.specs.Histories.{history_in, reads_in, LogHas};
 ghost use Rattle.ff_run_plan.specs.Reads.{places_in};
 ghost use Rattle.ff_files.specs.Works.{HasLog};
-ghost use Rattle.ff_command.specs.Steps.{wrong_words, IsOfJob, Answered};
+ghost use Rattle.ff_command.specs.Steps.{wrong_words, IsOfJob, CreatesAsked, Answered};
 
 use crate::history::History;
 use crate::log::log_end;
@@ -93,6 +93,8 @@ fn run_words<H: Host, P: Worker<Begun<H::Src>, H::Snk>, Q: Worker<Begun<QuietSou
         (λ job heads bytes log. LogHas (P.tells worker.now job heads bytes) (P.reads worker.now job heads bytes) log) (texts words.now) (H.files host.old)) result.run }
     ensures traced { result.status ≡ Status.Fine
         → AsksAlone (texts words.now) ⊎ IfSome result.run (λ log. HoldsTrace (texts words.now) (H.files host.old) (H.files host.new) log.history) }
+    ensures created { CreatesAsked (texts words.now) (H.created host.new) (H.files host.old) (H.files host.new)
+        (record { before = H.out_faults host.old; after = H.out_faults host.new }) result.status }
     ensures closed { (H.open_sources host.new ≡ H.open_sources host.old) × (H.open_sinks host.new ≡ H.open_sinks host.old) }
 {
     match read_words(alloc, words) {
@@ -279,6 +281,11 @@ pub fn run_command<
         (record { before = H.in_faults host.old; after = H.in_faults host.new })
         (record { before = H.out_faults host.old; after = H.out_faults host.new })
         → (result.status ≡ Status.Fine) ⊎ (result.status ≡ Status.NoMemory) }
+
+    // No file is created before all inputs have heads and a plan. Where one can't be, that is the status, whatever a closing does, and
+    // a failure is never answered as want of memory.
+    ensures created { CreatesAsked (texts words.now) (H.created host.new) (H.files host.old) (H.files host.new)
+        (record { before = H.out_faults host.old; after = H.out_faults host.new }) result.status }
 
     // Whatever the status, each source and each sink that it opened is given back.
     ensures closed { (H.open_sources host.new ≡ H.open_sources host.old) × (H.open_sinks host.new ≡ H.open_sinks host.old) }

@@ -4,7 +4,7 @@ ghost use Rattle.ff_words.specs.Bounds.{IsBounded};
 ghost use Rattle.ff_files.specs.Works.{HasLog};
 ghost use Rattle.ff_command.specs.Command.{refused_plan, over, IsReported, HoldsPrinted};
 ghost use Rattle.ff_command.specs.Histories.{LogHas};
-ghost use Rattle.ff_command.specs.Steps.{broken_run, written_file, status_of, Ran};
+ghost use Rattle.ff_command.specs.Steps.{broken_run, written_file, status_of, CreatesWritten, Ran};
 
 use crate::report::{FileRef, Status};
 use crate::worker::{JobWork, Worker};
@@ -92,6 +92,8 @@ pub(crate) fn run_job<H: Host, P: Worker<Begun<H::Src>, H::Snk>>(
         → HasLog (IsReported (over (P.means worker.now) job.now)
         (λ heads bytes log. LogHas (P.tells worker.now job.now heads bytes) (P.reads worker.now job.now heads bytes) log) (H.files host.old)) result.log }
     ensures traced { result.status ≡ Status.Fine → IfSome result.log (λ log. HoldsPrinted job.now (H.files host.old) (H.files host.new) log.history) }
+    ensures created { CreatesWritten job.now (H.created host.new) (H.files host.old) (H.files host.new)
+        (record { before = H.out_faults host.old; after = H.out_faults host.new }) result.status }
     ensures closed { (H.open_sources host.new ≡ H.open_sources host.old) × (H.open_sinks host.new ≡ H.open_sinks host.old) }
 {
     let Ok(files) = written_files(alloc, job) else {

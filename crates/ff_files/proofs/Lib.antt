@@ -3,5 +3,6 @@ pub mod Steps
 pub mod Heads
 pub mod Wholes
 pub mod EndLaws
+pub mod Creations
 pub mod AnswerLaws
 mod Tracing

@@ -37,6 +37,7 @@ module _ {H R F L S K : Type 0} (means : Meaning H R F) (left named : S → Opti
     ends = ends;
     sound_srcs = ss;
     sound_snks = sk;
+    unfailed = λ f k d le lt. absurd (omega (arith, le, lt));
     logged = logged;
     traced = λ f. none log;
   }
@@ -163,6 +164,7 @@ module _ {H R F L S K : Type 0} (means : Meaning H R F) (left named : S → Opti
       ends = ends_all end after r.ends t.kept t.ended;
       sound_srcs = srcs_sound end after r.sound_srcs t.kept;
       sound_snks = snks_sound end after r.ends r.sound_snks t.kept t.ended t.sound;
+      unfailed = λ f k d le lt. at_last ℕ faulted k d lt le (t.unfailed f);
       logged = λ f bytes told. r.logged (t.fine f) bytes (if_some_more (AreTold left holds srcs (snks ++ trace ∷ [])) (AreTold left holds srcs snks) bytes front_told told);
       traced = λ f. if_some_more (λ l. Appends (holds trace) (holds trace') (printed l)) (λ l. GainTexts (length snks) holds (printed l) (snks ++ trace ∷ []) (snks' ++ trace' ∷ [])) log gains (t.gained f);
     }

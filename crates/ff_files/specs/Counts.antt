@@ -1,5 +1,5 @@
 -- Counts of faults: those of what is open, and those that a host keeps by name.
-use Rattle.std.specs.Prelude.{◌≡◌, ℕ, ◌<◌, ◌≤◌, List, length, slice_index_or}
+use Rattle.std.specs.Prelude.{◌≡◌, ◌≢◌, ℕ, ◌<◌, ◌≤◌, List, length, slice_index_or}
 use Rattle.ff_host.specs.Causes.{Rose}
 use Rattle.ff_files.specs.Names.{name_at}
 
@@ -20,6 +20,10 @@ StandsBelow names count name = (k : ℕ) → k < length names → name_at names 
 -- none of these, and at their number all names.
 abbrev pub KeepsCounts : (List ℕ → ℕ) → (List ℕ → ℕ) → List (List ℕ) → ℕ → Type 0
 KeepsCounts before now names count = (name : List ℕ) → StandsBelow names count name → now name ≡ before name
+
+-- no count has changed but those of the first so many of these names
+abbrev pub KeepsCountsBut : (List ℕ → ℕ) → (List ℕ → ℕ) → List (List ℕ) → ℕ → Type 0
+KeepsCountsBut before now names count = (other : List ℕ) → ((k : ℕ) → k < count → name_at names k ≢ other) → now other ≡ before other
 
 -- of the sources, or of the sinks, those below this number have not failed
 abbrev pub AreUnfailed : {E : Type 0} → (E → ℕ) → List E → ℕ → Type 0

@@ -1,20 +1,33 @@
 -- The outputs of a run: created, and closed.
-use Rattle.std.specs.Prelude.{⊤, ℕ, ◌<◌, ◌≤◌, List, length, slice_index_or, Option, Some, None, Bool, if◌then◌else◌, Result, Ok, Err}
-use Rattle.ff_host.specs.Causes.{Rose}
-use Rattle.ff_host.specs.Files.{Files, HoldsNothing, HoldsAt}
+use Rattle.std.specs.Prelude.{◌≡◌, ◌⊎◌, ⊤, ℕ, ◌<◌, ◌≤◌, List, length, slice_index_or, Option, Some, None, Bool, if◌then◌else◌, Result, Ok, Err}
+use Rattle.ff_host.specs.Causes.{Rose, SameCounts}
+use Rattle.ff_host.specs.Files.{Files, KeepsFiles, HoldsNothing, HoldsAt}
 use Rattle.ff_host.specs.declared.host.HostError.{HostError}
 use Rattle.ff_host.specs.declared.host.HostError.TheVariants as host_error
-use Rattle.ff_files.specs.Names.{name_at}
+use Rattle.ff_files.specs.Names.{name_at, KeepsAllBut}
+use Rattle.ff_files.specs.Counts.{Counts}
 use Rattle.ff_files.specs.declared.outputs.OutputRefusal.{OutputRefusal}
 
 -- each sink holds nothing
 abbrev pub AreEmpty : {K : Type 0} → (K → Option (List ℕ)) → Option Files → List K → Type 0
 AreEmpty {K} holds files snks = (k : ℕ) (d : K) → k < length snks → HoldsNothing files (holds (slice_index_or snks k d))
 
--- why not all outputs were created: memory, or a fault that was counted under the name
+-- why not all outputs were created: memory, which is no fault, or a fault that was counted under the name
 abbrev pub EndsOutputs : (List ℕ → ℕ) → (List ℕ → ℕ) → List (List ℕ) → ℕ → HostError → Type 0
-EndsOutputs before now names k host_error.NoMemory = k < length names
+EndsOutputs before now names k host_error.NoMemory = (k < length names) × (now (name_at names k) ≡ before (name_at names k))
 EndsOutputs before now names k host_error.Failed = (k < length names) × Rose (before (name_at names k)) (now (name_at names k))
+
+-- the creation of this output was refused so: it and those behind it are as they were
+pub record IsUncreated (before after : Option Files) (outs : Counts) (names : List (List ℕ)) (k : ℕ) (why : HostError) : Type 0 where
+  pub counted : EndsOutputs outs.before outs.after names k why
+  pub untouched : KeepsAllBut before after names k
+
+-- no output was created, and no count of theirs has risen; or each was created; or the creation of one was refused, and is the end
+abbrev pub CreatesOutputs : (List ℕ → Type 0) → Option Files → Option Files → Counts → List (List ℕ) → (ℕ → HostError → Type 0) → Type 0
+CreatesOutputs created before after outs names IsEnd =
+    (KeepsFiles before after × SameCounts outs.before outs.after)
+    ⊎ ((k : ℕ) → k < length names → created (name_at names k))
+    ⊎ ((k : ℕ) × (why : HostError) × IsUncreated before after outs names k why × IsEnd k why)
 
 -- how many of the outputs in front were created without a fault
 abbrev pub sound_outputs : Result Unit OutputRefusal → ℕ → ℕ

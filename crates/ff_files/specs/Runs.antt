@@ -4,7 +4,7 @@ use Rattle.std.specs.Io.KnownBytes.{Appends}
 use Rattle.ff_host.specs.Causes.{Rose}
 use Rattle.ff_files.specs.declared.work.WorkEnd.{WorkEnd}
 use Rattle.ff_files.specs.declared.work.WorkEnd.TheVariants as work_end
-use Rattle.ff_files.specs.Works.{Meaning, AreTold, HoldFirstFiles, HoldFirstParts, GainTexts, HasLog, KeepEnds, FailNoMore, EndsWork, sound_sources, sound_sinks}
+use Rattle.ff_files.specs.Works.{Meaning, AreTold, HoldFirstFiles, HoldFirstParts, GainTexts, HasLog, KeepEnds, FailNoMore, FailNoMoreFrom, EndsWork, sound_sources, sound_sinks}
 
 -- How the end of a run goes on once its log was written to the sink of this number: only where all was done, and all is done then
 -- only where the sink has gained the text of the log.
@@ -15,6 +15,7 @@ pub record GoesOn {F K L : Type 0} (printed : L → List ℕ) (holds called : K 
   pub fine : after ≡ work_end.Fine → end ≡ work_end.Fine
   pub ended : end ≡ work_end.Fine → (after ≡ work_end.Fine) ⊎ (after ≡ work_end.NoMemory) ⊎ ((after ≡ work_end.Output number) × Rose (faulted old) (faulted new))
   pub sound : after ≡ work_end.Fine → faulted new ≡ faulted old
+  pub unfailed : after ≡ work_end.NoMemory → faulted new ≡ faulted old
   pub gained : after ≡ work_end.Fine → IfSome log (λ l. Appends (holds old) (holds new) (printed l))
 
 module _ {H R F L S K : Type 0} (means : Meaning H R F) (left named : S → Option (List ℕ)) (failed : S → ℕ) (holds called : K → Option (List ℕ)) (faulted : K → ℕ)
@@ -28,5 +29,6 @@ module _ {H R F L S K : Type 0} (means : Meaning H R F) (left named : S → Opti
     pub ends : EndsWork means failed faulted srcs snks srcs' snks' heads (AreTold left holds srcs snks) end
     pub sound_srcs : FailNoMore failed srcs srcs' (sound_sources means end (length srcs))
     pub sound_snks : FailNoMore faulted snks snks' (sound_sinks means end (length snks))
+    pub unfailed : end ≡ work_end.NoMemory → FailNoMoreFrom faulted snks snks' count
     pub logged : end ≡ work_end.Fine → (bytes : Option (List (List ℕ))) → IfSome bytes (AreTold left holds srcs snks) → HasLog (tells bytes) log
     pub traced : end ≡ work_end.Fine → IfSome log (λ l. GainTexts count holds (printed l) snks snks')

@@ -86,6 +86,11 @@ abbrev pub FailNoMore : {E : Type 0} → (E → ℕ) → List E → List E → �
 FailNoMore {E} faults old new count =
     (k : ℕ) (d : E) → k < length old → k < count → faults (slice_index_or new k d) ≡ faults (slice_index_or old k d)
 
+-- those from this number on have failed no more than before
+abbrev pub FailNoMoreFrom : {E : Type 0} → (E → ℕ) → List E → List E → ℕ → Type 0
+FailNoMoreFrom {E} faults old new count =
+    (k : ℕ) (d : E) → count ≤ k → k < length old → faults (slice_index_or new k d) ≡ faults (slice_index_or old k d)
+
 module _ {H R F : Type 0} (means : Meaning H R F) where
   -- how many of the inputs in front didn't fail: where one does, it is the end, unless a fault came before it
   abbrev pub sound_sources : WorkEnd F → ℕ → ℕ

@@ -3,7 +3,7 @@ ghost use Rattle.std.specs.Prelude.{◌≡◌, ◌<◌, ◌≤◌, ◌-◌, ◌^
 ghost use Rattle.ff_host.specs.Causes.{Rose, SameCounts, SameElsewhere};
 ghost use Rattle.ff_host.specs.Files.{KeepsFiles, PutsFile};
 ghost use Rattle.ff_files.specs.Names.{names_of, AreApart, KeepsAllBut};
-ghost use Rattle.ff_files.specs.Counts.{KeepsCounts, AreUnfailed, CountsFaults};
+ghost use Rattle.ff_files.specs.Counts.{KeepsCounts, KeepsCountsBut, AreUnfailed, CountsFaults};
 ghost use Rattle.ff_files.specs.Hosts.{Later, AreOpen};
 ghost use Rattle.ff_files.specs.Outputs.{ArePut, AreClosed, FailsAt, first_failed};
 
@@ -85,6 +85,7 @@ pub fn close_sinks<H: Host, N: Named>(host: &mut H, outputs: &[N], snks: Vec<H::
     ensures counted { CountsFaults H.Snk.faults (H.out_faults host.old) (H.out_faults host.new) (names_of N.name_text outputs.now) snks.items }
     ensures counts { (count : ℕ) → AreClosed result count → AreUnfailed H.Snk.faults snks.items count
         → KeepsCounts (H.out_faults host.old) (H.out_faults host.new) (names_of N.name_text outputs.now) count }
+    ensures others { KeepsCountsBut (H.out_faults host.old) (H.out_faults host.new) (names_of N.name_text outputs.now) (vec_len snks) }
     ensures first { FailsAt (H.out_faults host.old) (H.out_faults host.new) (names_of N.name_text outputs.now) (vec_len snks) result }
     ensures ins { SameCounts (H.in_faults host.old) (H.in_faults host.new) }
     ensures open_sources { H.open_sources host.new ≡ H.open_sources host.old }
@@ -121,6 +122,7 @@ pub fn close_all<H: Host, I: Named, N: Named>(
         → KeepsCounts (H.in_faults host.old) (H.in_faults host.new) (names_of I.name_text inputs.now) count }
     ensures out_counts { (count : ℕ) → AreClosed result count → AreUnfailed H.Snk.faults snks.items count
         → KeepsCounts (H.out_faults host.old) (H.out_faults host.new) (names_of N.name_text outputs.now) count }
+    ensures others { KeepsCountsBut (H.out_faults host.old) (H.out_faults host.new) (names_of N.name_text outputs.now) (vec_len snks) }
     ensures first { FailsAt (H.out_faults host.old) (H.out_faults host.new) (names_of N.name_text outputs.now) (vec_len snks) result }
     ensures open_sources { H.open_sources host.new ≡ H.open_sources host.old - vec_len srcs }
     ensures open_sinks { H.open_sinks host.new ≡ H.open_sinks host.old - vec_len snks }

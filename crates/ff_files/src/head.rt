@@ -98,7 +98,7 @@ fn read_pieces<I: InputFile, S: Source>(
     src: &mut S,
     buffer: &mut [u8],
 ) -> Result<Begin<I::Head>, InputEnd>
-    requires { 0 < length buffer.old }
+    requires { length buffer.old ≡ 4_096 }
     ensures sound { IfOk result (λ begin. I.is_sound begin.head) }
     ensures head { IfOk result (λ begin. IfSome (S.left src.old) (λ all. I.head input.now all ≡ Ok begin.head)) }
     ensures bytes { IfOk result (λ begin. Consumes (S.left src.old) (S.left src.new) begin.bytes.items) }

@@ -29,6 +29,7 @@ fn create_output<H: Host>(host: &mut H, name: &str) -> Result<H::Snk, HostError>
     ensures unfailed { IfOk result (λ snk. H.Snk.faults snk ≡ 0) }
     ensures ok_counts { OnOk result (SameCounts (H.out_faults host.old) (H.out_faults host.new)) }
     ensures cause { HasCauseOf HostError.Failed (H.out_faults host.old name.now) (H.out_faults host.new name.now) result }
+    ensures no_memory { IsErrOf result HostError.NoMemory → H.out_faults host.new name.now ≡ H.out_faults host.old name.now }
     ensures out_others { SameElsewhere name.now (H.out_faults host.old) (H.out_faults host.new) }
     ensures ins { SameCounts (H.in_faults host.old) (H.in_faults host.new) }
     ensures open_sources { H.open_sources host.new ≡ H.open_sources host.old }
@@ -57,6 +58,7 @@ pub fn create_outputs<H: Host, N: Named>(
     ensures open_sources { H.open_sources host.new ≡ H.open_sources host.old }
     ensures open_sinks { H.open_sinks host.new ≡ H.open_sinks host.old + vec_len snks.new }
     ensures all { OnOk result (vec_len snks.new ≡ length outputs.now) }
+    ensures first { IfErr result (λ r. r.output ≡ vec_len snks.new) }
     ensures refused { IfErr result (λ r. EndsOutputs (H.out_faults host.old) (H.out_faults host.new) (names_of N.name_text outputs.now) r.output r.end) }
 {
     for k in 0..outputs.len() {

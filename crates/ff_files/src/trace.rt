@@ -23,6 +23,7 @@ fn write_log<H, Src: Source + Send + Drop, Snk: Sink + Send + Drop, W: Work<H, S
     ensures ended { end ≡ WorkEnd.Fine → (result ≡ WorkEnd.Fine) ⊎ (result ≡ WorkEnd.NoMemory)
         ⊎ ((result ≡ WorkEnd.Output number) × Rose (Snk.faults trace.old) (Snk.faults trace.new)) }
     ensures sound { result ≡ WorkEnd.Fine → Snk.faults trace.new ≡ Snk.faults trace.old }
+    ensures unfailed { result ≡ WorkEnd.NoMemory → Snk.faults trace.new ≡ Snk.faults trace.old }
     ensures gained { result ≡ WorkEnd.Fine → IfSome log.now (λ l. Appends (Snk.holds trace.old) (Snk.holds trace.new) (W.printed l)) }
 {
     let WorkEnd::Fine = end else {

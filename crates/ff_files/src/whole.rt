@@ -7,8 +7,9 @@ ghost use Rattle.ff_files.specs.Names.{names_of, AreApart, KeepsAllBut};
 ghost use Rattle.ff_files.specs.Counts.{Faulted, KeepsCounts, AreUnfailed};
 ghost use Rattle.ff_files.specs.Hosts.{AreOpen};
 ghost use Rattle.ff_files.specs.Inputs.{AreBegun};
+ghost use Rattle.ff_files.specs.Outputs.{CreatesOutputs};
 ghost use Rattle.ff_files.specs.Works.{command_of, HasLog, AreHeadsIn, HoldMeaning, HoldTrace, HoldWritten, told_bytes};
-ghost use Rattle.ff_files.specs.Ends.{Ends, ComesBeforeOutputs, sound_inputs, sound_outputs, refusal, IsFirstRefused, HasNoPlan, CanBeDone};
+ghost use Rattle.ff_files.specs.Ends.{Ends, ComesBeforeOutputs, end_of_output as end_by_output, sound_inputs, sound_outputs, refusal, IsFirstRefused, HasNoPlan, CanBeDone};
 
 use crate::closing::{close_all, close_sources};
 use crate::end::{Outcome, RunEnd, end_of, end_of_output, end_of_plan, end_with};
@@ -87,6 +88,8 @@ fn write_outputs<H: Host, I: InputFile, N: Named, W: Work<I::Head, Begun<H::Src>
         → HasLog (W.tells work.now heads.now (told_bytes (command_of I.name_text I.head N.name_text inputs.now outputs.now count (W.means work.now)) before)) result.log }
     ensures traced { result.end ≡ RunEnd.Fine → (before : Option Files) → KeepsFiles before (H.files host.old) → IfSome result.log (λ log. HoldTrace
         (command_of I.name_text I.head N.name_text inputs.now outputs.now count (W.means work.now)) (W.printed log) before (H.files host.new)) }
+    ensures created { CreatesOutputs (H.created host.new) (H.files host.old) (H.files host.new)
+        (record { before = H.out_faults host.old; after = H.out_faults host.new }) (names_of N.name_text outputs.now) (λ k why. result.end ≡ end_by_output k why) }
     ensures open_sources { H.open_sources host.new ≡ H.open_sources host.old - vec_len srcs }
     ensures open_sinks { H.open_sinks host.new ≡ H.open_sinks host.old }
 {
@@ -158,6 +161,8 @@ fn plan_outputs<H: Host, I: InputFile, N: Named, W: Work<I::Head, Begun<H::Src>,
         → HasLog (W.tells work.now heads.now (told_bytes (command_of I.name_text I.head N.name_text inputs.now outputs.now count (W.means work.now)) before)) result.log }
     ensures traced { result.end ≡ RunEnd.Fine → (before : Option Files) → KeepsFiles before (H.files host.old) → IfSome result.log (λ log. HoldTrace
         (command_of I.name_text I.head N.name_text inputs.now outputs.now count (W.means work.now)) (W.printed log) before (H.files host.new)) }
+    ensures created { CreatesOutputs (H.created host.new) (H.files host.old) (H.files host.new)
+        (record { before = H.out_faults host.old; after = H.out_faults host.new }) (names_of N.name_text outputs.now) (λ k why. result.end ≡ end_by_output k why) }
     ensures open_sources { H.open_sources host.new ≡ H.open_sources host.old - vec_len srcs }
     ensures open_sinks { H.open_sinks host.new ≡ H.open_sinks host.old }
 {
@@ -206,6 +211,8 @@ fn run_files<H: Host, I: InputFile, N: Named, W: Work<I::Head, Begun<H::Src>, H:
         × W.tells work.now heads (told_bytes (command_of I.name_text I.head N.name_text inputs.now outputs.now count (W.means work.now)) (H.files host.old)) log) result.log }
     ensures traced { result.end ≡ RunEnd.Fine → IfSome result.log (λ log. HoldTrace
         (command_of I.name_text I.head N.name_text inputs.now outputs.now count (W.means work.now)) (W.printed log) (H.files host.old) (H.files host.new)) }
+    ensures created { CreatesOutputs (H.created host.new) (H.files host.old) (H.files host.new)
+        (record { before = H.out_faults host.old; after = H.out_faults host.new }) (names_of N.name_text outputs.now) (λ k why. result.end ≡ end_by_output k why) }
     ensures closed { (H.open_sources host.new ≡ H.open_sources host.old) × (H.open_sinks host.new ≡ H.open_sinks host.old) }
 {
     let Ok(mut srcs) = room_for(alloc, inputs.len()) else {
@@ -272,6 +279,9 @@ pub fn over_files<H: Host, I: InputFile, N: Named, W: Work<I::Head, Begun<H::Src
         × W.tells work.now heads (told_bytes (command_of I.name_text I.head N.name_text inputs.now outputs.now count (W.means work.now)) (H.files host.old)) log) result.log }
     ensures traced { result.end ≡ RunEnd.Fine → IfSome result.log (λ log. HoldTrace
         (command_of I.name_text I.head N.name_text inputs.now outputs.now count (W.means work.now)) (W.printed log) (H.files host.old) (H.files host.new)) }
+    // No output is created before all inputs have heads and a plan. Where one can't be, that is the end, whatever a closing does.
+    ensures created { CreatesOutputs (H.created host.new) (H.files host.old) (H.files host.new)
+        (record { before = H.out_faults host.old; after = H.out_faults host.new }) (names_of N.name_text outputs.now) (λ k why. result.end ≡ end_by_output k why) }
     ensures closed { (H.open_sources host.new ≡ H.open_sources host.old) × (H.open_sinks host.new ≡ H.open_sinks host.old) }
     // An input is refused exactly where it is the first whose head is, unless it or one before it couldn't be opened or read.
     ensures refused { (k : ℕ) (why : HeadFault)

@@ -15,6 +15,7 @@ ghost use Rattle.ff_command.specs.Command.{AsksAlone, AsksText, AskGenerated, As
 ghost use Rattle.ff_command.specs.Command.{AskFor, AreWrong, KeepsOtherFiles, ComesBeforeOutputs, ReportsHistory, ReportsReads, HoldsTrace};
 ghost use Rattle.ff_command.specs.Command.{refused_head, refused_plan, over, HoldsMeaning, HoldsFront, IsHeadRefused, IsDamaged, IsTooLong};
 ghost use Rattle.ff_command.specs.Command.{HasFailed, GivesNoHead, GivesNoPlan, GivesAll, KeepsInputCounts, KeepsOutputCounts};
+ghost use Rattle.ff_command.specs.Steps.{CreatesAsked};
 ghost use Rattle.ff_run.specs.build.Parts.{all_kinds};
 ghost use Rattle.ff_run_plan.specs.Accepting.{IsAccepted, IsPlanFor};
 ghost use Rattle.ff_run.specs.Meaning.{job_means, IsJobHistory, AreJobReads};
@@ -128,6 +129,11 @@ pub fn ffmpeg<R: Threads + Wait + Sync, H: Host, E: Sink>(
         (record { before = H.in_faults host.old; after = H.in_faults host.new })
         (record { before = H.out_faults host.old; after = H.out_faults host.new })
         → (result.status ≡ Status.Fine) ⊎ (result.status ≡ Status.NoMemory) }
+
+    // No file is created before all inputs have heads and a plan. Where one can't be, that is the status, whatever a closing does, and
+    // a failure is never answered as want of memory.
+    ensures created { CreatesAsked (texts words.now) (H.created host.new) (H.files host.old) (H.files host.new)
+        (record { before = H.out_faults host.old; after = H.out_faults host.new }) result.status }
 
     // Whatever the status, each source and each sink that it opened is given back.
     ensures closed { (H.open_sources host.new ≡ H.open_sources host.old) × (H.open_sinks host.new ≡ H.open_sinks host.old) }

@@ -7,6 +7,7 @@ use Rattle.ff_command.specs.Command.{AskSolo, ReportsHistory, HoldsTrace}
 use Rattle.ff_command.specs.Histories.{LogHas}
 use Rattle.ff_command.proofs.Reports.{has_more, if_some_more, never_fine}
 use Rattle.ff_command.proofs.Answers.{words-answered, solo-answered, job-answered, not-alone, never-device, wrong-own, same-solo, text-is, told-text}
+use Rattle.ff_files.proofs.Steps.{files_same}
 use Rattle.ff_selfrun.proofs.Few.{seconds_few}
 use Rattle.ff_command.proofs.command.run_words.Goals as goal
 
@@ -144,3 +145,14 @@ returns-in-Ok-Run-clause-traced g c = λ fine.
     let asks = subst (λ x. Answers words (Ok x)) c.in-Ok-Run.field-0-is (subst (Answers words) c.in-Ok-Run.is c.read_words.ensures.answer) in
     inr (if_some_more _ (λ log. HoldsTrace words (g.H.Host.files c.args.host.now) (g.H.Host.files c.run_job-status.new.host) log.history) c.run_job-status.result.log
     (λ log held. (job, asks, held)) (c.run_job-status.ensures.traced fine))
+
+pub returns-in-Err-clause-created : goal.returns-in-Err-clause-created
+returns-in-Err-clause-created g c = inl (files_same (g.H.Host.files c.args.host.now), λ n. refl)
+
+pub returns-in-Ok-Solo-clause-created : goal.returns-in-Ok-Solo-clause-created
+returns-in-Ok-Solo-clause-created g c = inl (files_same (g.H.Host.files c.args.host.now), λ n. refl)
+
+pub returns-in-Ok-Run-clause-created : goal.returns-in-Ok-Run-clause-created
+returns-in-Ok-Run-clause-created g c =
+    let words = texts c.args.words.now in
+    inr (c.in-Ok-Run.job, subst (λ x. Answers words (Ok x)) c.in-Ok-Run.field-0-is (subst (Answers words) c.in-Ok-Run.is c.read_words.ensures.answer), c.run_job-status.ensures.created)

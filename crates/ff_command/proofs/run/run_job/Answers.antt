@@ -2,11 +2,15 @@ use Rattle.std.proofs.Common.{◌≡◌, length, sym, ap, ◌∙◌, subst}
 use Rattle.ff_files.specs.Counts.{Counts}
 use Rattle.ff_files.specs.Names.{names_of, AreApart, KeepsAllBut}
 use Rattle.ff_files.specs.Works.{HoldTrace, AreHeadsIn, told_bytes}
+use Rattle.ff_files.specs.Outputs.{CreatesOutputs}
+use Rattle.ff_files.specs.Ends.{end_of_output}
 use Rattle.ff_files.proofs.Lists.{names_len}
+use Rattle.ff_files.proofs.Creations.{creates_as}
 use Rattle.ff_words.specs.Words.{written}
 use Rattle.ff_command.specs.declared.written.Written.{Written}
 use Rattle.ff_command.specs.Command.{over, IsReported, HoldsPrinted}
 use Rattle.ff_command.specs.Histories.{LogHas}
+use Rattle.ff_command.specs.Steps.{status_of}
 use Rattle.ff_command.proofs.Ends.{ran, fine-end, over-same, held-printed}
 use Rattle.ff_command.proofs.Names.{names-apart}
 use Rattle.ff_command.proofs.Reports.{has_more, if_some_more}
@@ -79,3 +83,18 @@ returns-clause-traced g c = λ fine.
     (λ log held. held-printed means job before after ins outs log.history
     (over-same means job before after ins outs (λ cmd. HoldTrace cmd (printed log.history) before after) c.as_slice-inputs.result.now names n c.as_slice-inputs.ensures same (ap length c.as_slice-count.ensures) held))
     (c.over_files-end.ensures.traced (fine-end means job before after ins outs c.over_files-end.result.end n (sym c.status_of_end.ensures ∙ fine)))
+
+pub returns-clause-created : goal.returns-clause-created
+returns-clause-created g c =
+    let H = g.H.Host in
+    let job = c.args.job.now in
+    let before = H.files c.args.host.now in
+    let after = H.files c.over_files-end.new.host in
+    let made = H.created c.over_files-end.new.host in
+    let outs : Counts = record { before = H.out_faults c.args.host.now; after = H.out_faults c.over_files-end.new.host } in
+    let names = names_of (λ (w : Written). w.name.now) c.as_slice.result.now in
+    let same : names ≡ written job = ap (names_of (λ (w : Written). w.name.now)) c.as_slice.ensures.value ∙ c.in-Ok.ensures in
+    let end = c.over_files-end.result.end in
+    creates_as (written job) made (λ k why. end ≡ end_of_output k why) (λ k why. c.status_of_end.result ≡ status_of (length job.outputs) (end_of_output k why)) before after outs
+    (λ k why e. c.status_of_end.ensures ∙ (ap (λ n. status_of n end) (ap length c.as_slice-count.ensures) ∙ ap (status_of (length job.outputs)) e))
+    (subst (λ ns. CreatesOutputs made before after outs ns (λ k why. end ≡ end_of_output k why)) same c.over_files-end.ensures.created)

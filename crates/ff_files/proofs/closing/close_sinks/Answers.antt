@@ -71,6 +71,7 @@ loop-snk-preserved g c =
           (λ below. subst (λ (n : List ℕ). H.out_faults new n ≡ H.out_faults mid n) c.name_at.ensures
           (made.none (closed_here (H.out_faults old) (H.out_faults mid) names c.loop-snk.first c.close_output-failed.result k count was.failed closed_now below)
           (subst (λ (b : g.row.H-Snk.Denot). K.faults b ≡ 0) (sym (next c.in-Some.snk)) (unfailed k c.in-Some.snk here below))));
+      others = λ other none. elsewhere other (λ same. none k (omega arith) (sym same)) ∙ was.others other (λ j lt. none j (omega (arith, lt)));
       failed = subst (λ (f : _). FailsAt (H.out_faults old) (H.out_faults new) names (k + 1) f) (sym c.first_of-first.ensures)
           (fails_on (H.out_faults old) (H.out_faults mid) (H.out_faults new) names k c.loop-snk.first c.close_output-failed.result counted_on was.failed (λ f. counted_now (made.failed f)));
       ins = λ name. made.ins name ∙ was.ins name;

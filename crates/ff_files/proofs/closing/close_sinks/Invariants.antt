@@ -3,7 +3,7 @@ use Rattle.std.specs.Vec.Iter.{into_iter_items, into_iter_len}
 use Rattle.ff_host.specs.Causes.{Rose, SameCounts}
 use Rattle.ff_host.specs.Files.{HoldsAt}
 use Rattle.ff_files.specs.Names.{names_of, name_at, KeepsAllBut}
-use Rattle.ff_files.specs.Counts.{KeepsCounts, AreUnfailed}
+use Rattle.ff_files.specs.Counts.{KeepsCounts, KeepsCountsBut, AreUnfailed}
 use Rattle.ff_files.specs.Hosts.{Later}
 use Rattle.ff_files.specs.Outputs.{FailsAt, AreClosed}
 use Rattle.ff_files.proofs.closing.close_sinks.Given as goal
@@ -22,6 +22,7 @@ invariant-loop-snk g l =
       put : (j : ℕ) (d : _) → j < l.k → HoldsAt (H.files l.fn.host) (H.files l.host) (name_at names j) (K.holds (get_or (vec_items l.fn.snks) j d));
       counted : (j : ℕ) (d : _) → j < l.k → 1 ≤ K.faults (get_or (vec_items l.fn.snks) j d) → Rose (H.out_faults l.fn.host (name_at names j)) (H.out_faults l.host (name_at names j));
       counts : (count : ℕ) → AreClosed l.first count → AreUnfailed K.faults (vec_items l.fn.snks) count → KeepsCounts (H.out_faults l.fn.host) (H.out_faults l.host) names count;
+      others : KeepsCountsBut (H.out_faults l.fn.host) (H.out_faults l.host) names l.k;
       failed : FailsAt (H.out_faults l.fn.host) (H.out_faults l.host) names l.k l.first;
       ins : SameCounts (H.in_faults l.fn.host) (H.in_faults l.host);
       sources : H.open_sources l.host ≡ H.open_sources l.fn.host;

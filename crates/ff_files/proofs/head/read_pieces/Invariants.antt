@@ -9,7 +9,7 @@ invariant-pieces g l =
       bytes : Consumes (S.left l.fn.src) (S.left l.src) l.bytes.items;
       reached : g.I.InputFile.reached l.input l.walk l.bytes.items;
       short : length l.bytes.items ≤ 2 ^ 28;
-      room : 0 < length l.buffer;
+      room : length l.buffer ≡ 4096;
       unfailed : S.faults l.src ≡ S.faults l.fn.src;
       name : S.name l.src ≡ S.name l.fn.src;
     }

@@ -26,6 +26,7 @@ returns g c =
       fine = wrote.fine;
       ended = λ f. subst (λ n. (c.write_log-end.result ≡ work_end.Fine) ⊎ (c.write_log-end.result ≡ work_end.NoMemory) ⊎ ((c.write_log-end.result ≡ work_end.Output n) × Rose (K.faults trace) (K.faults trace'))) number (wrote.ended f);
       sound = wrote.sound;
+      unfailed = wrote.unfailed;
       gained = wrote.gained;
     } in
     subst (λ (xs : List g.row.Snk.Denot). IsRun (W.means work) S.left S.name S.faults K.holds K.name K.faults tells W.printed (length snks) heads c.args.srcs.items (snks ++ trace ∷ []) c.write_log-end.result c.run-end.result.log c.run-end.result.srcs.items xs) (sym c.with_last.ensures)

@@ -1,4 +1,4 @@
-use Rattle.std.proofs.Common.{length, arith}
+use Rattle.std.proofs.Common.{inl, length, arith}
 use Rattle.ff_files.specs.Names.{names_of}
 use Rattle.ff_files.specs.Works.{command_of}
 use Rattle.ff_files.specs.Ends.{sound_inputs}
@@ -13,3 +13,6 @@ returns-in-Err-clause-in_counts g c =
     let n = length c.args.inputs.now in
     counts_all (H.in_faults c.args.host.now) (H.in_faults c.close_sources.new.host) (names_of g.I.Named.name_text c.args.inputs.now) n (sound_inputs cmd c.end_of_plan.result) (let len = names_len g.I.Named.name_text c.args.inputs.now in omega (arith, len))
     (c.close_sources.ensures.counts n c.requires.unfailed)
+
+pub returns-in-Err-clause-created : goal.returns-in-Err-clause-created
+returns-in-Err-clause-created g c = inl (c.close_sources.ensures.files, c.close_sources.ensures.outs)

@@ -1,12 +1,14 @@
-use Rattle.std.proofs.Common.{List, length, arith, sym, subst}
+use Rattle.std.proofs.Common.{◌≡◌, inl, List, length, arith, sym, ◌∙◌, subst}
 use Rattle.ff_files.specs.Names.{names_of}
 use Rattle.ff_files.specs.Counts.{Counts, KeepsCounts}
 use Rattle.ff_files.specs.Inputs.{AreBegun, begun_left, begun_faults, sound_before}
 use Rattle.ff_files.specs.Works.{command_of, told_bytes, HasLog, HoldMeaning, HoldWritten}
-use Rattle.ff_files.specs.Ends.{Ends, sound_inputs}
+use Rattle.ff_files.specs.Ends.{Ends, end_of_output, sound_inputs}
 use Rattle.ff_files.proofs.Lists.{names_len}
 use Rattle.ff_files.proofs.Wholes.{counts_all, counts_twice, has_more, heads_in}
 use Rattle.ff_files.proofs.EndLaws.{ends_headless, ends_earlier, headless_sound}
+use Rattle.ff_files.proofs.Steps.{files_on}
+use Rattle.ff_files.proofs.Creations.{creates_since}
 use Rattle.ff_files.proofs.whole.run_files.Goals as goal
 
 pub returns-in-Err-clause-ends : goal.returns-in-Err-clause-ends
@@ -90,3 +92,18 @@ returns-clause-logged g c = λ fine.
     has_more (W.tells work heads (told_bytes cmd old)) _ c.plan_outputs.result.log (λ log told. (heads, heads_in cmd left g.H.Snk.Sink.holds srcs heads old begun, told))
     (subst (λ (hs : List g.row.I-Head.Denot). AreBegun g.I.Named.name_text g.I.InputFile.head left old c.args.inputs.now srcs hs → HasLog (W.tells work hs (told_bytes cmd old)) c.plan_outputs.result.log) c.deref.ensures.value
     (c.plan_outputs.ensures.logged fine old c.in-Ok-open_inputs.ensures.files) begun)
+
+pub returns-in-Err-clause-created : goal.returns-in-Err-clause-created
+returns-in-Err-clause-created g c =
+    let H = g.H.Host in
+    inl (files_on (H.files c.args.host.now) (H.files c.open_inputs.new.host) (H.files c.close_sources.new.host) c.in-Err.ensures.files c.close_sources.ensures.files,
+    λ n. c.close_sources.ensures.outs n ∙ c.in-Err.ensures.outs n)
+
+pub returns-clause-created : goal.returns-clause-created
+returns-clause-created g c =
+    let H = g.H.Host in
+    let old = c.args.host.now in
+    let mid = c.open_inputs.new.host in
+    let new = c.plan_outputs.new.host in
+    creates_since (names_of g.N.Named.name_text c.args.outputs.now) (H.created new) (λ k why. c.plan_outputs.result.end ≡ end_of_output k why) (H.files old) (H.files mid) (H.files new) (H.out_faults old) (H.out_faults mid) (H.out_faults new)
+    c.in-Ok-open_inputs.ensures.files c.in-Ok-open_inputs.ensures.outs c.plan_outputs.ensures.created

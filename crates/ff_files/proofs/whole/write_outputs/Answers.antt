@@ -1,5 +1,5 @@
-use Rattle.std.proofs.Common.{◌≡◌, ◌≤◌, ℕ, length, vec_len, arith, sym, ◌∙◌, subst}
-use Rattle.ff_files.specs.Names.{names_of, KeepsAllBut}
+use Rattle.std.proofs.Common.{◌≡◌, ◌<◌, ◌≤◌, inl, inr, ℕ, length, vec_len, arith, sym, ◌∙◌, subst}
+use Rattle.ff_files.specs.Names.{names_of, name_at, KeepsAllBut}
 use Rattle.ff_files.specs.Counts.{Counts, KeepsCounts}
 use Rattle.ff_files.specs.Inputs.{begun_left, begun_name, begun_faults}
 use Rattle.ff_files.specs.Outputs.{FailsAt}
@@ -10,7 +10,25 @@ use Rattle.ff_files.proofs.Lists.{names_len}
 use Rattle.ff_files.proofs.Steps.{open_still}
 use Rattle.ff_files.proofs.Wholes.{meant, fronts, none_written, traced, told_of, all_told, kept_open, still_unfailed, counts_all, counts_twice}
 use Rattle.ff_files.proofs.EndLaws.{ends_closed, ends_uncreated, fine_only, sources_sound, sinks_sound, closed_sound, uncreated_sound, closed_none, counts_zero}
+use Rattle.ff_files.proofs.Creations.{uncreated}
 use Rattle.ff_files.proofs.whole.write_outputs.Goals as goal
+
+pub returns-in-Err-clause-created : goal.returns-in-Err-clause-created
+returns-in-Err-clause-created g c =
+    let H = g.H.Host in
+    let names = names_of g.N.Named.name_text c.args.outputs.now in
+    let refusal = c.in-Err.field-0 in
+    inr (inr (refusal.output, refusal.end, uncreated names (H.files c.args.host.now) (H.files c.create_outputs.new.host) (H.files c.close_all.new.host)
+    (H.out_faults c.args.host.now) (H.out_faults c.create_outputs.new.host) (H.out_faults c.close_all.new.host) (vec_len c.create_outputs.new.snks) refusal.output refusal.end
+    c.requires.apart c.in-Err.ensures.first c.in-Err.ensures.refused c.close_all.ensures.others c.in-Err.ensures.files c.close_all.ensures.files, c.end_of_output.ensures))
+
+pub returns-in-Ok-clause-created : goal.returns-in-Ok-clause-created
+returns-in-Ok-clause-created g c =
+    let names = names_of g.N.Named.name_text c.args.outputs.now in
+    let len = names_len g.N.Named.name_text c.args.outputs.now in
+    inr (inl (λ k lt.
+    let there : k < length c.create_outputs.new.snks.items = (let b = c.create_outputs.new.snks.ok.0 in let all = c.in-Ok.ensures.all in omega (arith, lt, b, all, len)) in
+    c.close_all-unclosed.ensures.later.still_created (name_at names k) (c.in-Ok.ensures.own.may_close k there)))
 
 pub returns-in-Err-clause-front : goal.returns-in-Err-clause-front
 returns-in-Err-clause-front g c = λ before keeps begun.
