@@ -1,4 +1,4 @@
-// A host in memory that counts the calls on it, on its sources and on its sinks, by name and kind.
+// A host in memory that counts the calls on it, on its sources and on its sinks, by name and kind, and notes the order of closings.
 ghost use Rattle.std.specs.Prelude.{};
 
 use ff_host::{
@@ -39,6 +39,13 @@ fn add(counts: &mut Vec<Count>, name: &str, call: HostCall, more: u32) {
             count.calls = count.calls.saturating_add(more);
             return;
         }
+    }
+}
+
+// Notes one more name, where there is memory for it.
+fn note(names: &mut Vec<String>, alloc: Global, name: &str) {
+    if let Ok(name) = String::from_str(alloc, name) {
+        let _noted = names.push(name);
     }
 }
 
@@ -102,6 +109,8 @@ pub struct CountingHost {
     counts: Vec<Count>,
     /// How many sources and sinks it gave and has not taken back.
     given: u32,
+    /// The names of those that it has taken back, in that order.
+    closed: Vec<String>,
 }
 
 impl CountingHost {
@@ -111,6 +120,7 @@ impl CountingHost {
             inner,
             counts: Vec::new(alloc),
             given: 0,
+            closed: Vec::new(alloc),
         }
     }
 
@@ -134,6 +144,19 @@ impl CountingHost {
     pub fn makes_only(&self, name: &str) -> bool {
         for count in self.counts.iter() {
             if count.call == HostCall::Create && count.name.as_str() != name {
+                return false;
+            }
+        }
+        true
+    }
+
+    /// Whether it has taken back sources and sinks under exactly these names, in this order.
+    pub fn has_closed(&self, names: &[&str]) -> bool {
+        if self.closed.len() != names.len() {
+            return false;
+        }
+        for k in 0..names.len() {
+            if self.closed[k].as_str() != names[k] {
                 return false;
             }
         }
@@ -194,6 +217,7 @@ impl Host for CountingHost {
 
     fn close_source(&mut self, name: &str, src: CountingSource) {
         add(&mut self.counts, name, HostCall::Read, src.reads);
+        note(&mut self.closed, self.alloc, name);
         self.given = self.given.saturating_sub(1);
         self.inner.close_source(name, src.inner);
     }
@@ -202,6 +226,7 @@ impl Host for CountingHost {
         add(&mut self.counts, name, HostCall::Append, snk.appends);
         add(&mut self.counts, name, HostCall::Patch, snk.patches);
         add(&mut self.counts, name, HostCall::CloseSink, 1);
+        note(&mut self.closed, self.alloc, name);
         self.given = self.given.saturating_sub(1);
         self.inner.close_sink(name, snk.inner)
     }
