@@ -248,6 +248,7 @@ pub(crate) fn run_nodes<
     requires fitting { AreFitting K.is (asked_of job.now texts.now) heads.now edges.now nodes.now }
     requires numbers { HaveNumbers (asked_of job.now texts.now) edges.now nodes.now }
     requires ordered { AreOrdered (length srcs.items) (length snks.items) nodes.now }
+    requires queue { size ≡ job.now.queue }
     requires opening { CanBegin opening }
     requires sources { length srcs.items ≤ opening.routes.sources }
     requires told { C.claims ≡ tell_all Src.left Snk.holds srcs.items snks.items }
