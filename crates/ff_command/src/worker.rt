@@ -1,6 +1,7 @@
 //! How jobs are worked.
-ghost use Rattle.std.specs.Prelude.{◌≡◌, List, ℕ, Option, None, Some, IfErr, OnOk, IfOk, IfSome, length};
-ghost use Rattle.ff_files.specs.Works.{Meaning, AreTold, HoldFiles, HoldParts, KeepEnds, FailNoMore, EndsWork, HasLog, sound_sources, sound_sinks};
+ghost use Rattle.std.specs.Prelude.{◌≡◌, List, ℕ, Option, None, Some, IfErr, OnOk, IfOk};
+ghost use Rattle.ff_files.specs.Runs.{RunSays};
+ghost use Rattle.ff_files.specs.Works.{Meaning};
 ghost use Rattle.ff_frame.specs.declared.event.Event.{Event};
 ghost use Rattle.ff_sched.specs.Printing.{printed};
 ghost use Rattle.ff_input.specs.declared.heads.head.InputHead.{InputHead};
@@ -56,18 +57,9 @@ pub trait Worker<Src: Source + Send + Drop, Snk: Sink + Send + Drop> {
         snks: Vec<Snk>,
     ) -> Done<RunFault, Src, Snk, RunLog>
         requires { is_plan self.now job.now heads.now plan }
-        ensures fine { result.end ≡ WorkEnd.Fine → (bytes : List (List ℕ)) → AreTold Src.left Snk.holds srcs.items snks.items bytes
-            → HoldFiles Snk.holds ((means self.now job.now).file heads.now bytes) result.snks.items }
-        ensures parts { (bytes : List (List ℕ)) → AreTold Src.left Snk.holds srcs.items snks.items bytes
-            → HoldParts Snk.holds ((means self.now job.now).text heads.now bytes) ((means self.now job.now).file heads.now bytes) result.snks.items }
-        ensures srcs { KeepEnds Src.name srcs.items result.srcs.items }
-        ensures snks { KeepEnds Snk.name snks.items result.snks.items }
-        ensures ends { EndsWork (means self.now job.now) Src.faults Snk.faults srcs.items snks.items result.srcs.items result.snks.items heads.now
-            (AreTold Src.left Snk.holds srcs.items snks.items) result.end }
-        ensures sound_srcs { FailNoMore Src.faults srcs.items result.srcs.items (sound_sources (means self.now job.now) result.end (length srcs.items)) }
-        ensures sound_snks { FailNoMore Snk.faults snks.items result.snks.items (sound_sinks (means self.now job.now) result.end (length snks.items)) }
-        ensures logged { result.end ≡ WorkEnd.Fine → (bytes : Option (List (List ℕ))) → IfSome bytes (AreTold Src.left Snk.holds srcs.items snks.items)
-            → HasLog (LogHas (tells self.now job.now heads.now bytes) (reads self.now job.now heads.now bytes)) result.log };
+        ensures { RunSays (means self.now job.now) Src.left Src.name Src.faults Snk.holds Snk.name Snk.faults
+            (λ bytes. LogHas (tells self.now job.now heads.now bytes) (reads self.now job.now heads.now bytes))
+            heads.now srcs.items snks.items result.end result.log result.srcs.items result.snks.items };
 }
 
 /// A job, and how it is worked.
@@ -117,18 +109,9 @@ impl<'a, Src: Source + Send + Drop, Snk: Sink + Send + Drop, P: Worker<Src, Snk>
         snks: Vec<Snk>,
     ) -> Done<RunFault, Src, Snk, RunLog>
         requires { P.is_plan self.now.worker.now self.now.job.now heads.now plan }
-        ensures fine { result.end ≡ WorkEnd.Fine → (bytes : List (List ℕ)) → AreTold Src.left Snk.holds srcs.items snks.items bytes
-            → HoldFiles Snk.holds ((P.means self.now.worker.now self.now.job.now).file heads.now bytes) result.snks.items }
-        ensures parts { (bytes : List (List ℕ)) → AreTold Src.left Snk.holds srcs.items snks.items bytes
-            → HoldParts Snk.holds ((P.means self.now.worker.now self.now.job.now).text heads.now bytes) ((P.means self.now.worker.now self.now.job.now).file heads.now bytes) result.snks.items }
-        ensures srcs { KeepEnds Src.name srcs.items result.srcs.items }
-        ensures snks { KeepEnds Snk.name snks.items result.snks.items }
-        ensures ends { EndsWork (P.means self.now.worker.now self.now.job.now) Src.faults Snk.faults srcs.items snks.items result.srcs.items result.snks.items heads.now
-            (AreTold Src.left Snk.holds srcs.items snks.items) result.end }
-        ensures sound_srcs { FailNoMore Src.faults srcs.items result.srcs.items (sound_sources (P.means self.now.worker.now self.now.job.now) result.end (length srcs.items)) }
-        ensures sound_snks { FailNoMore Snk.faults snks.items result.snks.items (sound_sinks (P.means self.now.worker.now self.now.job.now) result.end (length snks.items)) }
-        ensures logged { result.end ≡ WorkEnd.Fine → (bytes : Option (List (List ℕ))) → IfSome bytes (AreTold Src.left Snk.holds srcs.items snks.items)
-            → HasLog (LogHas (P.tells self.now.worker.now self.now.job.now heads.now bytes) (P.reads self.now.worker.now self.now.job.now heads.now bytes)) result.log }
+        ensures { RunSays (P.means self.now.worker.now self.now.job.now) Src.left Src.name Src.faults Snk.holds Snk.name Snk.faults
+            (λ bytes. LogHas (P.tells self.now.worker.now self.now.job.now heads.now bytes) (P.reads self.now.worker.now self.now.job.now heads.now bytes))
+            heads.now srcs.items snks.items result.end result.log result.srcs.items result.snks.items }
     {
         self.worker.run(self.job, plan, heads, srcs, snks)
     }

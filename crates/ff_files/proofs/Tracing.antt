@@ -4,8 +4,8 @@ use Rattle.std.specs.Io.KnownBytes.{Appends}
 use Rattle.ff_host.specs.Causes.{Rose}
 use Rattle.ff_files.specs.declared.work.WorkEnd.{WorkEnd}
 use Rattle.ff_files.specs.declared.work.WorkEnd.TheVariants as work_end
-use Rattle.ff_files.specs.Works.{Meaning, AreTold, HoldFiles, HoldsPart, HoldParts, HoldFirstFiles, HoldFirstParts, GainTexts, HasLog, KeepEnds, FailNoMore, EndsWork, sound_sources, sound_sinks}
-use Rattle.ff_files.specs.Runs.{GoesOn, IsRun}
+use Rattle.ff_files.specs.Works.{Meaning, AreTold, HoldsPart, HoldFirstFiles, HoldFirstParts, GainTexts, HasLog, KeepEnds, FailNoMore, EndsWork, sound_sources, sound_sinks}
+use Rattle.ff_files.specs.Runs.{RunSays, GoesOn, IsRun}
 use Rattle.ff_files.proofs.Lists.{length_snoc, at_pushed}
 use Rattle.ff_files.proofs.Wholes.{which}
 
@@ -23,22 +23,18 @@ module _ {H R F L S K : Type 0} (means : Meaning H R F) (left named : S → Opti
     (tells : Option (List (List ℕ)) → L → Type 0) (printed : L → List ℕ) (heads : List H) where
   -- a run over the sinks of the outputs alone
   pub plain_run : (srcs : List S) (snks : List K) (end : WorkEnd F) (log : Option L) (srcs' : List S) (snks' : List K)
-      → (end ≡ work_end.Fine → (bytes : List (List ℕ)) → AreTold left holds srcs snks bytes → HoldFiles holds (means.file heads bytes) snks')
-      → ((bytes : List (List ℕ)) → AreTold left holds srcs snks bytes → HoldParts holds (means.text heads bytes) (means.file heads bytes) snks')
-      → KeepEnds named srcs srcs' → KeepEnds called snks snks' → EndsWork means failed faulted srcs snks srcs' snks' heads (AreTold left holds srcs snks) end
-      → FailNoMore failed srcs srcs' (sound_sources means end (length srcs)) → FailNoMore faulted snks snks' (sound_sinks means end (length snks))
-      → (end ≡ work_end.Fine → (bytes : Option (List (List ℕ))) → IfSome bytes (AreTold left holds srcs snks) → HasLog (tells bytes) log)
+      → RunSays means left named failed holds called faulted tells heads srcs snks end log srcs' snks'
       → IsRun means left named failed holds called faulted tells printed (length snks) heads srcs snks end log srcs' snks'
-  plain_run srcs snks end log srcs' snks' fine parts ks kk ends ss sk logged = record {
-    fine = λ f bytes told j d lt below. fine f bytes told j d below;
-    parts = λ bytes told j d lt below. parts bytes told j d below;
-    srcs_kept = ks;
-    snks_kept = kk;
-    ends = ends;
-    sound_srcs = ss;
-    sound_snks = sk;
+  plain_run srcs snks end log srcs' snks' says = record {
+    fine = λ f bytes told j d lt below. says.fine f bytes told j d below;
+    parts = λ bytes told j d lt below. says.parts bytes told j d below;
+    srcs_kept = says.srcs_kept;
+    snks_kept = says.snks_kept;
+    ends = says.ends;
+    sound_srcs = says.sound_srcs;
+    sound_snks = says.sound_snks;
     unfailed = λ f k d le lt. absurd (omega (arith, le, lt));
-    logged = logged;
+    logged = says.logged;
     traced = λ f. none log;
   }
     where

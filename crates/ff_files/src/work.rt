@@ -1,7 +1,8 @@
 // What is done between the opening and the closing.
-ghost use Rattle.std.specs.Prelude.{◌≡◌, ◌≢◌, List, ℕ, Option, Some, None, IfErr, OnOk, IfOk, IfSome, length, slice_index_or};
+ghost use Rattle.std.specs.Prelude.{◌≡◌, List, ℕ, Option, Some, None, IfErr, OnOk, IfOk};
 ghost use Rattle.std.specs.List.{All};
-ghost use Rattle.ff_files.specs.Works.{Meaning, AreTold, HoldFiles, HoldParts, KeepEnds, FailNoMore, EndsWork, HasLog, sound_sources, sound_sinks};
+ghost use Rattle.ff_files.specs.Runs.{RunSays};
+ghost use Rattle.ff_files.specs.Works.{Meaning};
 
 use ff_host::{Sink, Source};
 use std::alloc::{AllocError, Global};
@@ -85,18 +86,8 @@ pub trait Work<H, Src: Source + Send + Drop, Snk: Sink + Send + Drop> {
         snks: Vec<Snk>,
     ) -> Done<Self::Fault, Src, Snk, Self::Log>
         requires { is_plan self.now heads.now plan }
-        ensures fine { result.end ≡ WorkEnd.Fine → (bytes : List (List ℕ)) → AreTold Src.left Snk.holds srcs.items snks.items bytes
-            → HoldFiles Snk.holds ((means self.now).file heads.now bytes) result.snks.items }
-        ensures parts { (bytes : List (List ℕ)) → AreTold Src.left Snk.holds srcs.items snks.items bytes
-            → HoldParts Snk.holds ((means self.now).text heads.now bytes) ((means self.now).file heads.now bytes) result.snks.items }
-        ensures srcs { KeepEnds Src.name srcs.items result.srcs.items }
-        ensures snks { KeepEnds Snk.name snks.items result.snks.items }
-        ensures ends { EndsWork (means self.now) Src.faults Snk.faults srcs.items snks.items result.srcs.items result.snks.items heads.now
-            (AreTold Src.left Snk.holds srcs.items snks.items) result.end }
-        ensures sound_srcs { FailNoMore Src.faults srcs.items result.srcs.items (sound_sources (means self.now) result.end (length srcs.items)) }
-        ensures sound_snks { FailNoMore Snk.faults snks.items result.snks.items (sound_sinks (means self.now) result.end (length snks.items)) }
-        ensures logged { result.end ≡ WorkEnd.Fine → (bytes : Option (List (List ℕ))) → IfSome bytes (AreTold Src.left Snk.holds srcs.items snks.items)
-            → HasLog (tells self.now heads.now bytes) result.log };
+        ensures { RunSays (means self.now) Src.left Src.name Src.faults Snk.holds Snk.name Snk.faults
+            (tells self.now heads.now) heads.now srcs.items snks.items result.end result.log result.srcs.items result.snks.items };
 
     /// Prints a log.
     fn print(&self, alloc: Global, log: &Self::Log) -> Result<Vec<u8>, AllocError>

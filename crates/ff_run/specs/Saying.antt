@@ -1,5 +1,5 @@
 -- What the making of a plan says, and its run.
-use Rattle.std.specs.Prelude.{◌≡◌, ℕ, List, length, Option, None, Some, Result, IfOk, IfSome, IfErr, OnOk}
+use Rattle.std.specs.Prelude.{◌≡◌, ℕ, List, Option, None, Some, Result, IfOk, IfErr, OnOk}
 use Rattle.std.specs.Io.KnownBytes.{prepend_known}
 use Rattle.ff_host.specs.Begun.{still_in}
 use Rattle.ff_host.specs.declared.begun.Begun.{Begun}
@@ -10,8 +10,7 @@ use Rattle.ff_plan.specs.declared.planned.PlanError.{PlanError}
 use Rattle.ff_files.specs.declared.work.PlanEnd.{PlanEnd}
 use Rattle.ff_files.specs.declared.work.PlanEnd.TheVariants as plan_end
 use Rattle.ff_files.specs.declared.work.WorkEnd.{WorkEnd}
-use Rattle.ff_files.specs.declared.work.WorkEnd.TheVariants as work_end
-use Rattle.ff_files.specs.Works.{AreTold, HoldFiles, HoldParts, KeepEnds, FailNoMore, EndsWork, HasLog, sound_sources, sound_sinks}
+use Rattle.ff_files.specs.Runs.{RunSays}
 use Rattle.ff_run_plan.specs.declared.fault.RunFault.{RunFault}
 use Rattle.ff_run_plan.specs.Kinds.{KindsOf}
 use Rattle.ff_run_plan.specs.Accepting.{IsPlanFor}
@@ -25,23 +24,17 @@ pub record PlanSays {H : Type 0} (is : KindsOf H) (job : Job) (heads : List H) (
   pub some : OnOk result (refusal_of is job (plan_for is job heads) ≡ None)
   pub refused : (why : PlanError) → IfErr result (λ end. end ≡ plan_end.Refused why → refusal_of is job (plan_for is job heads) ≡ Some why)
 
--- over these sources and sinks, which are these afterwards
-pub record RunSays {H S K : Type 0} (is : KindsOf H) (left named : S → Option (List ℕ)) (failed : S → ℕ) (holds called : K → Option (List ℕ)) (faulted : K → ℕ)
-    (job : Job) (heads : List H) (srcs : List S) (snks : List K) (end : WorkEnd RunFault) (log : Option RunLog) (srcs' : List S) (snks' : List K) : Type 0 where
-  pub fine : end ≡ work_end.Fine → (bytes : List (List ℕ)) → AreTold left holds srcs snks bytes → HoldFiles holds ((means is job).file heads bytes) snks'
-  pub parts : (bytes : List (List ℕ)) → AreTold left holds srcs snks bytes → HoldParts holds ((means is job).text heads bytes) ((means is job).file heads bytes) snks'
-  pub srcs_kept : KeepEnds named srcs srcs'
-  pub snks_kept : KeepEnds called snks snks'
-  pub ends : EndsWork (means is job) failed faulted srcs snks srcs' snks' heads (AreTold left holds srcs snks) end
-  pub sound_srcs : FailNoMore failed srcs srcs' (sound_sources (means is job) end (length srcs))
-  pub sound_snks : FailNoMore faulted snks snks' (sound_sinks (means is job) end (length snks))
-  pub logged : end ≡ work_end.Fine → (bytes : Option (List (List ℕ))) → IfSome bytes (AreTold left holds srcs snks) → HasLog (IsLogFor is job heads bytes) log
+-- of a run of its plan over these sources and sinks, which are these afterwards
+abbrev pub JobSays : {H S K : Type 0} → KindsOf H → (S → Option (List ℕ)) → (S → Option (List ℕ)) → (S → ℕ) → (K → Option (List ℕ)) → (K → Option (List ℕ)) → (K → ℕ)
+    → Job → List H → List S → List K → WorkEnd RunFault → Option RunLog → List S → List K → Type 0
+JobSays is left named failed holds called faulted job heads srcs snks end log srcs' snks' =
+    RunSays (means is job) left named failed holds called faulted (IsLogFor is job heads) heads srcs snks end log srcs' snks'
 
 -- over sources of which some bytes were read before
 abbrev pub BegunSays : {H S K : Type 0} → KindsOf H → (S → Option (List ℕ)) → (S → Option (List ℕ)) → (S → ℕ) → (K → Option (List ℕ)) → (K → Option (List ℕ)) → (K → ℕ)
     → Job → List H → List (Begun S) → List K → WorkEnd RunFault → Option RunLog → List (Begun S) → List K → Type 0
 BegunSays {H} {S} {K} is left named failed holds called faulted job heads srcs snks end log srcs' snks' =
-    RunSays is (λ (b : Begun S). prepend_known (still_in b.bytes.items b.at) (left b.src)) (λ (b : Begun S). named b.src) (λ (b : Begun S). failed b.src) holds called faulted
+    JobSays is (λ (b : Begun S). prepend_known (still_in b.bytes.items b.at) (left b.src)) (λ (b : Begun S). named b.src) (λ (b : Begun S). failed b.src) holds called faulted
     job heads srcs snks end log srcs' snks'
 
 -- over sources and sinks in memory

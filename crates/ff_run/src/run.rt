@@ -20,7 +20,7 @@ ghost use Rattle.ff_run.specs.build.Parts.{all_kinds};
 ghost use Rattle.ff_run_plan.specs.Accepting.{IsAccepted, IsPlanFor};
 ghost use Rattle.ff_run.specs.Meaning.{job_means, IsJobHistory, AreJobReads};
 ghost use Rattle.ff_run_plan.specs.Reads.{places_in};
-ghost use Rattle.ff_run.specs.Saying.{BegunSays, PlanSays, QuietSays, RunSays};
+ghost use Rattle.ff_run.specs.Saying.{BegunSays, JobSays, PlanSays, QuietSays};
 
 use crate::build::{Part, Parts};
 use crate::worker::Threaded;
@@ -46,7 +46,7 @@ fn run_parts<R: Threads + Wait + Sync, Src: Source + Send + Drop, Snk: Sink + Se
     snks: Vec<Snk>,
 ) -> Done<RunFault, Src, Snk, RunLog>
     requires { IsPlanFor all_kinds job.now heads.now plan }
-    ensures { RunSays all_kinds Src.left Src.name Src.faults Snk.holds Snk.name Snk.faults
+    ensures { JobSays all_kinds Src.left Src.name Src.faults Snk.holds Snk.name Snk.faults
         job.now heads.now srcs.items snks.items result.end result.log result.srcs.items result.snks.items }
 {
     run_plan::<Parts, R, Src, Snk, Part<Src, Snk>>(rt, alloc, job, plan, heads, srcs, snks)

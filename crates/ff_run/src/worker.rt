@@ -3,10 +3,10 @@ ghost use Rattle.std.specs.Prelude.{◌≡◌, ℕ, List, length, Option, Some, 
 ghost use Rattle.ff_run.specs.build.Parts.{all_kinds};
 ghost use Rattle.ff_command.specs.Histories.{LogHas};
 ghost use Rattle.ff_command.specs.Steps.{AreAllHeads};
-ghost use Rattle.ff_files.specs.Works.{AreTold, HoldFiles, HoldParts, KeepEnds, FailNoMore, EndsWork, HasLog, sound_sources, sound_sinks};
+ghost use Rattle.ff_files.specs.Runs.{RunSays};
 ghost use Rattle.ff_run_plan.specs.Accepting.{IsAccepted, IsPlanFor};
 ghost use Rattle.ff_run.specs.Meaning.{job_means, IsJobHistory, AreJobReads};
-ghost use Rattle.ff_run.specs.Saying.{PlanSays, RunSays};
+ghost use Rattle.ff_run.specs.Saying.{JobSays, PlanSays};
 
 use ff_command::Worker;
 use ff_files::{Done, PlanEnd, WorkEnd};
@@ -41,24 +41,24 @@ impl<
         × ((r : _) → P.post worker.plan job hs r → PlanSays all_kinds job.now hs.now r))
         × ((job : _) (plan : _) (hs : _) (ss : _) (ks : _) → IsPlanFor all_kinds job.now hs.now plan → Q.pre worker.run job plan hs ss ks
         × ((r : _) → Q.post worker.run job plan hs ss ks r
-        → RunSays all_kinds Src.left Src.name Src.faults Snk.holds Snk.name Snk.faults job.now hs.now ss.items ks.items r.end r.log r.srcs.items r.snks.items)) };
+        → JobSays all_kinds Src.left Src.name Src.faults Snk.holds Snk.name Snk.faults job.now hs.now ss.items ks.items r.end r.log r.srcs.items r.snks.items)) };
 
     ghost is_plan = { λ worker job heads plan. IsPlanFor all_kinds job heads plan
         × ((job : _) (plan : _) (hs : _) (ss : _) (ks : _) → IsPlanFor all_kinds job.now hs.now plan → Q.pre worker.run job plan hs ss ks
         × ((r : _) → Q.post worker.run job plan hs ss ks r
-        → RunSays all_kinds Src.left Src.name Src.faults Snk.holds Snk.name Snk.faults job.now hs.now ss.items ks.items r.end r.log r.srcs.items r.snks.items)) };
+        → JobSays all_kinds Src.left Src.name Src.faults Snk.holds Snk.name Snk.faults job.now hs.now ss.items ks.items r.end r.log r.srcs.items r.snks.items)) };
 
     fn plan(&self, job: &Job, heads: &[InputHead]) -> Result<Plan, PlanEnd<PlanError>>
         requires { (((job : _) (hs : _) → IsAccepted all_kinds job.now hs.now → P.pre self.now.plan job hs
             × ((r : _) → P.post self.now.plan job hs r → PlanSays all_kinds job.now hs.now r))
             × ((job : _) (plan : _) (hs : _) (ss : _) (ks : _) → IsPlanFor all_kinds job.now hs.now plan → Q.pre self.now.run job plan hs ss ks
             × ((r : _) → Q.post self.now.run job plan hs ss ks r
-            → RunSays all_kinds Src.left Src.name Src.faults Snk.holds Snk.name Snk.faults job.now hs.now ss.items ks.items r.end r.log r.srcs.items r.snks.items)))
+            → JobSays all_kinds Src.left Src.name Src.faults Snk.holds Snk.name Snk.faults job.now hs.now ss.items ks.items r.end r.log r.srcs.items r.snks.items)))
             × AreAllHeads job.now heads.now }
         ensures ok { IfOk result (λ plan. IsPlanFor all_kinds job.now heads.now plan
             × ((job : _) (plan : _) (hs : _) (ss : _) (ks : _) → IsPlanFor all_kinds job.now hs.now plan → Q.pre self.now.run job plan hs ss ks
             × ((r : _) → Q.post self.now.run job plan hs ss ks r
-            → RunSays all_kinds Src.left Src.name Src.faults Snk.holds Snk.name Snk.faults job.now hs.now ss.items ks.items r.end r.log r.srcs.items r.snks.items))) }
+            → JobSays all_kinds Src.left Src.name Src.faults Snk.holds Snk.name Snk.faults job.now hs.now ss.items ks.items r.end r.log r.srcs.items r.snks.items))) }
         ensures some { OnOk result ((job_means job.now).refusal heads.now ≡ None) }
         ensures refused { (why : _) → IfErr result (λ end. end ≡ PlanEnd.Refused why → (job_means job.now).refusal heads.now ≡ Some why) }
     {
@@ -76,19 +76,10 @@ impl<
         requires { IsPlanFor all_kinds job.now heads.now plan
             × ((job : _) (plan : _) (hs : _) (ss : _) (ks : _) → IsPlanFor all_kinds job.now hs.now plan → Q.pre self.now.run job plan hs ss ks
             × ((r : _) → Q.post self.now.run job plan hs ss ks r
-            → RunSays all_kinds Src.left Src.name Src.faults Snk.holds Snk.name Snk.faults job.now hs.now ss.items ks.items r.end r.log r.srcs.items r.snks.items)) }
-        ensures fine { result.end ≡ WorkEnd.Fine → (bytes : List (List ℕ)) → AreTold Src.left Snk.holds srcs.items snks.items bytes
-            → HoldFiles Snk.holds ((job_means job.now).file heads.now bytes) result.snks.items }
-        ensures parts { (bytes : List (List ℕ)) → AreTold Src.left Snk.holds srcs.items snks.items bytes
-            → HoldParts Snk.holds ((job_means job.now).text heads.now bytes) ((job_means job.now).file heads.now bytes) result.snks.items }
-        ensures srcs { KeepEnds Src.name srcs.items result.srcs.items }
-        ensures snks { KeepEnds Snk.name snks.items result.snks.items }
-        ensures ends { EndsWork (job_means job.now) Src.faults Snk.faults srcs.items snks.items result.srcs.items result.snks.items heads.now
-            (AreTold Src.left Snk.holds srcs.items snks.items) result.end }
-        ensures sound_srcs { FailNoMore Src.faults srcs.items result.srcs.items (sound_sources (job_means job.now) result.end (length srcs.items)) }
-        ensures sound_snks { FailNoMore Snk.faults snks.items result.snks.items (sound_sinks (job_means job.now) result.end (length snks.items)) }
-        ensures logged { result.end ≡ WorkEnd.Fine → (bytes : Option (List (List ℕ))) → IfSome bytes (AreTold Src.left Snk.holds srcs.items snks.items)
-            → HasLog (LogHas (IsJobHistory job.now heads.now bytes) (AreJobReads job.now heads.now bytes)) result.log }
+            → JobSays all_kinds Src.left Src.name Src.faults Snk.holds Snk.name Snk.faults job.now hs.now ss.items ks.items r.end r.log r.srcs.items r.snks.items)) }
+        ensures { RunSays (job_means job.now) Src.left Src.name Src.faults Snk.holds Snk.name Snk.faults
+            (λ bytes. LogHas (IsJobHistory job.now heads.now bytes) (AreJobReads job.now heads.now bytes))
+            heads.now srcs.items snks.items result.end result.log result.srcs.items result.snks.items }
     {
         (self.run)(job, plan, heads, srcs, snks)
     }

@@ -1,7 +1,7 @@
 // The plan of a job and its run, which are done between the opening and the closing of files.
 ghost use Rattle.std.specs.Prelude.{◌≡◌, ℕ, List, [], ◌∷◌, length, map, Option, None, Some, Ok, IfOk, IfSome, IfErr, OnOk};
 ghost use Rattle.ff_map.specs.Choice.{lists};
-ghost use Rattle.ff_files.specs.Works.{HasLog, AreTold, HoldFiles, HoldParts, KeepEnds, FailNoMore, EndsWork, sound_sources, sound_sinks};
+ghost use Rattle.ff_files.specs.Runs.{RunSays};
 ghost use Rattle.ff_run_plan.specs.Accepting.{IsAccepted, IsPlanFor};
 ghost use Rattle.ff_run_plan.specs.Asked.{asked_of};
 ghost use Rattle.ff_run_plan.specs.Claims.{tell_all};
@@ -100,18 +100,8 @@ pub fn run_plan<
     snks: Vec<Snk>,
 ) -> Done<RunFault, Src, Snk, RunLog>
     requires { IsPlanFor K.is job.now heads.now plan }
-    ensures fine { result.end ≡ WorkEnd.Fine → (bytes : List (List ℕ)) → AreTold Src.left Snk.holds srcs.items snks.items bytes
-        → HoldFiles Snk.holds ((means_of K.is job.now).file heads.now bytes) result.snks.items }
-    ensures parts { (bytes : List (List ℕ)) → AreTold Src.left Snk.holds srcs.items snks.items bytes
-        → HoldParts Snk.holds ((means_of K.is job.now).text heads.now bytes) ((means_of K.is job.now).file heads.now bytes) result.snks.items }
-    ensures srcs { KeepEnds Src.name srcs.items result.srcs.items }
-    ensures snks { KeepEnds Snk.name snks.items result.snks.items }
-    ensures ends { EndsWork (means_of K.is job.now) Src.faults Snk.faults srcs.items snks.items result.srcs.items result.snks.items heads.now
-        (AreTold Src.left Snk.holds srcs.items snks.items) result.end }
-    ensures sound_srcs { FailNoMore Src.faults srcs.items result.srcs.items (sound_sources (means_of K.is job.now) result.end (length srcs.items)) }
-    ensures sound_snks { FailNoMore Snk.faults snks.items result.snks.items (sound_sinks (means_of K.is job.now) result.end (length snks.items)) }
-    ensures logged { result.end ≡ WorkEnd.Fine → (bytes : Option (List (List ℕ))) → IfSome bytes (AreTold Src.left Snk.holds srcs.items snks.items)
-        → HasLog (IsLogFor K.is job.now heads.now bytes) result.log }
+    ensures ran { RunSays (means_of K.is job.now) Src.left Src.name Src.faults Snk.holds Snk.name Snk.faults
+        (IsLogFor K.is job.now heads.now) heads.now srcs.items snks.items result.end result.log result.srcs.items result.snks.items }
     ensures scheduled { IfSome result.log (λ log. IsLogOf K.is Src.left Src.name Src.faults Snk.holds Snk.name Snk.faults M.view
         (asked_of job.now plan.texts) heads.now plan.edges plan.nodes
         srcs.items snks.items (tell_all Src.left Snk.holds srcs.items snks.items) plan.routes (state_before plan) result.end result.srcs.items result.snks.items log) }

@@ -15,4 +15,4 @@ returns-in-None g c =
     let same : front ≡ c.args.snks.items = sym (c.in-None.ensures.all ∙ append-nil front) in
     subst (λ (xs : List g.row.Snk.Denot). IsRun (W.means work) S.left S.name S.faults K.holds K.name K.faults (W.tells work heads) W.printed c.args.count heads c.args.srcs.items xs c.run.result.end c.run.result.log c.run.result.srcs.items c.run.result.snks.items) same
     (subst (λ n. IsRun (W.means work) S.left S.name S.faults K.holds K.name K.faults (W.tells work heads) W.printed n heads c.args.srcs.items front c.run.result.end c.run.result.log c.run.result.srcs.items c.run.result.snks.items) c.in-None.ensures.left
-    (plain_run (W.means work) S.left S.name S.faults K.holds K.name K.faults (W.tells work heads) W.printed heads c.args.srcs.items front c.run.result.end c.run.result.log c.run.result.srcs.items c.run.result.snks.items ran.fine ran.parts ran.srcs ran.snks ran.ends ran.sound_srcs ran.sound_snks ran.logged))
+    (plain_run (W.means work) S.left S.name S.faults K.holds K.name K.faults (W.tells work heads) W.printed heads c.args.srcs.items front c.run.result.end c.run.result.log c.run.result.srcs.items c.run.result.snks.items ran))

@@ -31,4 +31,4 @@ returns g c =
     } in
     subst (λ (xs : List g.row.Snk.Denot). IsRun (W.means work) S.left S.name S.faults K.holds K.name K.faults tells W.printed (length snks) heads c.args.srcs.items (snks ++ trace ∷ []) c.write_log-end.result c.run-end.result.log c.run-end.result.srcs.items xs) (sym c.with_last.ensures)
     (traced_run (W.means work) S.left S.name S.faults K.holds K.name K.faults tells W.printed heads c.args.srcs.items c.run-end.result.srcs.items snks snks' trace trace' c.run-end.result.end c.write_log-end.result c.run-end.result.log
-    (plain_run (W.means work) S.left S.name S.faults K.holds K.name K.faults tells W.printed heads c.args.srcs.items snks c.run-end.result.end c.run-end.result.log c.run-end.result.srcs.items snks' ran.fine ran.parts ran.srcs ran.snks ran.ends ran.sound_srcs ran.sound_snks ran.logged) goes)
+    (plain_run (W.means work) S.left S.name S.faults K.holds K.name K.faults tells W.printed heads c.args.srcs.items snks c.run-end.result.end c.run-end.result.log c.run-end.result.srcs.items snks' ran) goes)

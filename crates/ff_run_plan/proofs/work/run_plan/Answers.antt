@@ -9,139 +9,6 @@ use Rattle.ff_run_plan.proofs.Ending.{done_for, all_files, all_parts, keeps_sour
 use Rattle.ff_run_plan.proofs.Reading.{log_in}
 use Rattle.ff_run_plan.proofs.work.run_plan.Goals as goal
 
-pub returns-clause-fine : goal.returns-clause-fine
-returns-clause-fine g c =
-    let is = g.K.Kinds.is in
-    let view = g.M.Machine.view in
-    let S = g.Src.Source in
-    let K = g.Snk.Sink in
-    let job = c.args.job.now in
-    let plan = c.args.plan in
-    let heads = c.args.heads.now in
-    let srcs = c.args.srcs.items in
-    let snks = c.args.snks.items in
-    let claims = tell_all S.left K.holds srcs snks in
-    let srcs_len : length srcs ≡ length heads = (let t = c.if-len-heads.false in let l = c.len.ensures in let ok = c.args.srcs.ok.0 in omega (arith, t, l, ok)) in
-    let snks_len : length snks ≡ length c.as_slice-outputs.result.now = (let t = c.if-len-outputs.false in let l = c.len-else-len-heads.ensures in let ok = c.args.snks.ok.0 in omega (arith, t, l, ok)) in
-    let done = done_for is S.left S.name S.faults K.holds K.name K.faults view (asked_of job c.as_slice-texts.result.now) (asked_of job plan.texts) heads c.as_slice-edges.result.now plan.edges c.as_slice-nodes.result.now plan.nodes srcs snks claims
-    c.run_nodes.result.end c.run_nodes.result.srcs.items c.run_nodes.result.snks.items (ap (asked_of job) c.as_slice-texts.ensures) c.as_slice-edges.ensures c.as_slice-nodes.ensures c.run_nodes.ensures.done in
-    all_files is S.left S.name S.faults K.holds K.name K.faults view job plan heads srcs snks claims c.run_nodes.result.end c.run_nodes.result.srcs.items c.run_nodes.result.snks.items
-    c.requires srcs_len (snks_len ∙ ap length c.as_slice-outputs.ensures) refl done
-
-pub returns-clause-parts : goal.returns-clause-parts
-returns-clause-parts g c =
-    let is = g.K.Kinds.is in
-    let view = g.M.Machine.view in
-    let S = g.Src.Source in
-    let K = g.Snk.Sink in
-    let job = c.args.job.now in
-    let plan = c.args.plan in
-    let heads = c.args.heads.now in
-    let srcs = c.args.srcs.items in
-    let snks = c.args.snks.items in
-    let claims = tell_all S.left K.holds srcs snks in
-    let srcs_len : length srcs ≡ length heads = (let t = c.if-len-heads.false in let l = c.len.ensures in let ok = c.args.srcs.ok.0 in omega (arith, t, l, ok)) in
-    let snks_len : length snks ≡ length c.as_slice-outputs.result.now = (let t = c.if-len-outputs.false in let l = c.len-else-len-heads.ensures in let ok = c.args.snks.ok.0 in omega (arith, t, l, ok)) in
-    let done = done_for is S.left S.name S.faults K.holds K.name K.faults view (asked_of job c.as_slice-texts.result.now) (asked_of job plan.texts) heads c.as_slice-edges.result.now plan.edges c.as_slice-nodes.result.now plan.nodes srcs snks claims
-    c.run_nodes.result.end c.run_nodes.result.srcs.items c.run_nodes.result.snks.items (ap (asked_of job) c.as_slice-texts.ensures) c.as_slice-edges.ensures c.as_slice-nodes.ensures c.run_nodes.ensures.done in
-    all_parts is S.left S.name S.faults K.holds K.name K.faults view job plan heads srcs snks claims c.run_nodes.result.end c.run_nodes.result.srcs.items c.run_nodes.result.snks.items
-    c.requires srcs_len (snks_len ∙ ap length c.as_slice-outputs.ensures) refl done g.met.K.Kinds.holds_on
-
-pub returns-clause-srcs : goal.returns-clause-srcs
-returns-clause-srcs g c =
-    let is = g.K.Kinds.is in
-    let view = g.M.Machine.view in
-    let S = g.Src.Source in
-    let K = g.Snk.Sink in
-    let job = c.args.job.now in
-    let plan = c.args.plan in
-    let heads = c.args.heads.now in
-    let srcs = c.args.srcs.items in
-    let snks = c.args.snks.items in
-    let claims = tell_all S.left K.holds srcs snks in
-    let srcs_len : length srcs ≡ length heads = (let t = c.if-len-heads.false in let l = c.len.ensures in let ok = c.args.srcs.ok.0 in omega (arith, t, l, ok)) in
-    let snks_len : length snks ≡ length c.as_slice-outputs.result.now = (let t = c.if-len-outputs.false in let l = c.len-else-len-heads.ensures in let ok = c.args.snks.ok.0 in omega (arith, t, l, ok)) in
-    let done = done_for is S.left S.name S.faults K.holds K.name K.faults view (asked_of job c.as_slice-texts.result.now) (asked_of job plan.texts) heads c.as_slice-edges.result.now plan.edges c.as_slice-nodes.result.now plan.nodes srcs snks claims
-    c.run_nodes.result.end c.run_nodes.result.srcs.items c.run_nodes.result.snks.items (ap (asked_of job) c.as_slice-texts.ensures) c.as_slice-edges.ensures c.as_slice-nodes.ensures c.run_nodes.ensures.done in
-    keeps_sources is S.left S.name S.faults K.holds K.name K.faults view job plan heads srcs snks claims c.run_nodes.result.end c.run_nodes.result.srcs.items c.run_nodes.result.snks.items
-    c.requires srcs_len (snks_len ∙ ap length c.as_slice-outputs.ensures) refl done
-
-pub returns-clause-snks : goal.returns-clause-snks
-returns-clause-snks g c =
-    let is = g.K.Kinds.is in
-    let view = g.M.Machine.view in
-    let S = g.Src.Source in
-    let K = g.Snk.Sink in
-    let job = c.args.job.now in
-    let plan = c.args.plan in
-    let heads = c.args.heads.now in
-    let srcs = c.args.srcs.items in
-    let snks = c.args.snks.items in
-    let claims = tell_all S.left K.holds srcs snks in
-    let srcs_len : length srcs ≡ length heads = (let t = c.if-len-heads.false in let l = c.len.ensures in let ok = c.args.srcs.ok.0 in omega (arith, t, l, ok)) in
-    let snks_len : length snks ≡ length c.as_slice-outputs.result.now = (let t = c.if-len-outputs.false in let l = c.len-else-len-heads.ensures in let ok = c.args.snks.ok.0 in omega (arith, t, l, ok)) in
-    let done = done_for is S.left S.name S.faults K.holds K.name K.faults view (asked_of job c.as_slice-texts.result.now) (asked_of job plan.texts) heads c.as_slice-edges.result.now plan.edges c.as_slice-nodes.result.now plan.nodes srcs snks claims
-    c.run_nodes.result.end c.run_nodes.result.srcs.items c.run_nodes.result.snks.items (ap (asked_of job) c.as_slice-texts.ensures) c.as_slice-edges.ensures c.as_slice-nodes.ensures c.run_nodes.ensures.done in
-    keeps_sinks is S.left S.name S.faults K.holds K.name K.faults view job plan heads srcs snks claims c.run_nodes.result.end c.run_nodes.result.srcs.items c.run_nodes.result.snks.items
-    c.requires srcs_len (snks_len ∙ ap length c.as_slice-outputs.ensures) refl done
-
-pub returns-clause-ends : goal.returns-clause-ends
-returns-clause-ends g c =
-    let is = g.K.Kinds.is in
-    let view = g.M.Machine.view in
-    let S = g.Src.Source in
-    let K = g.Snk.Sink in
-    let job = c.args.job.now in
-    let plan = c.args.plan in
-    let heads = c.args.heads.now in
-    let srcs = c.args.srcs.items in
-    let snks = c.args.snks.items in
-    let claims = tell_all S.left K.holds srcs snks in
-    let srcs_len : length srcs ≡ length heads = (let t = c.if-len-heads.false in let l = c.len.ensures in let ok = c.args.srcs.ok.0 in omega (arith, t, l, ok)) in
-    let snks_len : length snks ≡ length c.as_slice-outputs.result.now = (let t = c.if-len-outputs.false in let l = c.len-else-len-heads.ensures in let ok = c.args.snks.ok.0 in omega (arith, t, l, ok)) in
-    let done = done_for is S.left S.name S.faults K.holds K.name K.faults view (asked_of job c.as_slice-texts.result.now) (asked_of job plan.texts) heads c.as_slice-edges.result.now plan.edges c.as_slice-nodes.result.now plan.nodes srcs snks claims
-    c.run_nodes.result.end c.run_nodes.result.srcs.items c.run_nodes.result.snks.items (ap (asked_of job) c.as_slice-texts.ensures) c.as_slice-edges.ensures c.as_slice-nodes.ensures c.run_nodes.ensures.done in
-    all_ends is S.left S.name S.faults K.holds K.name K.faults view job plan heads srcs snks claims c.run_nodes.result.end c.run_nodes.result.srcs.items c.run_nodes.result.snks.items
-    c.requires srcs_len (snks_len ∙ ap length c.as_slice-outputs.ensures) refl done
-
-pub returns-clause-sound_srcs : goal.returns-clause-sound_srcs
-returns-clause-sound_srcs g c =
-    let is = g.K.Kinds.is in
-    let view = g.M.Machine.view in
-    let S = g.Src.Source in
-    let K = g.Snk.Sink in
-    let job = c.args.job.now in
-    let plan = c.args.plan in
-    let heads = c.args.heads.now in
-    let srcs = c.args.srcs.items in
-    let snks = c.args.snks.items in
-    let claims = tell_all S.left K.holds srcs snks in
-    let srcs_len : length srcs ≡ length heads = (let t = c.if-len-heads.false in let l = c.len.ensures in let ok = c.args.srcs.ok.0 in omega (arith, t, l, ok)) in
-    let snks_len : length snks ≡ length c.as_slice-outputs.result.now = (let t = c.if-len-outputs.false in let l = c.len-else-len-heads.ensures in let ok = c.args.snks.ok.0 in omega (arith, t, l, ok)) in
-    let done = done_for is S.left S.name S.faults K.holds K.name K.faults view (asked_of job c.as_slice-texts.result.now) (asked_of job plan.texts) heads c.as_slice-edges.result.now plan.edges c.as_slice-nodes.result.now plan.nodes srcs snks claims
-    c.run_nodes.result.end c.run_nodes.result.srcs.items c.run_nodes.result.snks.items (ap (asked_of job) c.as_slice-texts.ensures) c.as_slice-edges.ensures c.as_slice-nodes.ensures c.run_nodes.ensures.done in
-    all_sources is S.left S.name S.faults K.holds K.name K.faults view job plan heads srcs snks claims c.run_nodes.result.end c.run_nodes.result.srcs.items c.run_nodes.result.snks.items
-    c.requires srcs_len (snks_len ∙ ap length c.as_slice-outputs.ensures) refl done
-
-pub returns-clause-sound_snks : goal.returns-clause-sound_snks
-returns-clause-sound_snks g c =
-    let is = g.K.Kinds.is in
-    let view = g.M.Machine.view in
-    let S = g.Src.Source in
-    let K = g.Snk.Sink in
-    let job = c.args.job.now in
-    let plan = c.args.plan in
-    let heads = c.args.heads.now in
-    let srcs = c.args.srcs.items in
-    let snks = c.args.snks.items in
-    let claims = tell_all S.left K.holds srcs snks in
-    let srcs_len : length srcs ≡ length heads = (let t = c.if-len-heads.false in let l = c.len.ensures in let ok = c.args.srcs.ok.0 in omega (arith, t, l, ok)) in
-    let snks_len : length snks ≡ length c.as_slice-outputs.result.now = (let t = c.if-len-outputs.false in let l = c.len-else-len-heads.ensures in let ok = c.args.snks.ok.0 in omega (arith, t, l, ok)) in
-    let done = done_for is S.left S.name S.faults K.holds K.name K.faults view (asked_of job c.as_slice-texts.result.now) (asked_of job plan.texts) heads c.as_slice-edges.result.now plan.edges c.as_slice-nodes.result.now plan.nodes srcs snks claims
-    c.run_nodes.result.end c.run_nodes.result.srcs.items c.run_nodes.result.snks.items (ap (asked_of job) c.as_slice-texts.ensures) c.as_slice-edges.ensures c.as_slice-nodes.ensures c.run_nodes.ensures.done in
-    all_sinks is S.left S.name S.faults K.holds K.name K.faults view job plan heads srcs snks claims c.run_nodes.result.end c.run_nodes.result.srcs.items c.run_nodes.result.snks.items
-    c.requires srcs_len (snks_len ∙ ap length c.as_slice-outputs.ensures) refl done
-
 pub returns-clause-scheduled : goal.returns-clause-scheduled
 returns-clause-scheduled g c =
     let S = g.Src.Source in
@@ -164,21 +31,37 @@ returns-clause-scheduled g c =
     c.before_run-opening.result.state (state_before plan) end srcs' snks' log (ap (asked_of c.args.job.now) c.as_slice-texts.ensures) c.as_slice-edges.ensures c.as_slice-nodes.ensures routes state h)
     c.run_nodes.ensures.logged
 
-pub returns-clause-logged : goal.returns-clause-logged
-returns-clause-logged g c = λ fine bytes told.
+pub returns-clause-ran : goal.returns-clause-ran
+returns-clause-ran g c =
+    let is = g.K.Kinds.is in
+    let view = g.M.Machine.view in
     let S = g.Src.Source in
     let K = g.Snk.Sink in
     let job = c.args.job.now in
+    let plan = c.args.plan in
     let heads = c.args.heads.now in
     let srcs = c.args.srcs.items in
     let snks = c.args.snks.items in
+    let claims = tell_all S.left K.holds srcs snks in
+    let srcs_len : length srcs ≡ length heads = (let t = c.if-len-heads.false in let l = c.len.ensures in let ok = c.args.srcs.ok.0 in omega (arith, t, l, ok)) in
+    let snks_len : length snks ≡ length c.as_slice-outputs.result.now = (let t = c.if-len-outputs.false in let l = c.len-else-len-heads.ensures in let ok = c.args.snks.ok.0 in omega (arith, t, l, ok)) in
+    let done = done_for is S.left S.name S.faults K.holds K.name K.faults view (asked_of job c.as_slice-texts.result.now) (asked_of job plan.texts) heads c.as_slice-edges.result.now plan.edges c.as_slice-nodes.result.now plan.nodes srcs snks claims
+    c.run_nodes.result.end c.run_nodes.result.srcs.items c.run_nodes.result.snks.items (ap (asked_of job) c.as_slice-texts.ensures) c.as_slice-edges.ensures c.as_slice-nodes.ensures c.run_nodes.ensures.done in
     let end = c.run_nodes.result.end in
     let srcs' = c.run_nodes.result.srcs.items in
     let snks' = c.run_nodes.result.snks.items in
-    let srcs_len : length srcs ≡ length heads = (let t = c.if-len-heads.false in let l = c.len.ensures in let ok = c.args.srcs.ok.0 in omega (arith, t, l, ok)) in
-    let snks_len : length snks ≡ length c.as_slice-outputs.result.now = (let t = c.if-len-outputs.false in let l = c.len-else-len-heads.ensures in let ok = c.args.snks.ok.0 in omega (arith, t, l, ok)) in
+    let many = snks_len ∙ ap length c.as_slice-outputs.ensures in
     let machine = g.met.M.Machine g.world.𝓛 g.world.𝓜 g.world.𝓡 ((λ s x. x), (λ x. x), (λ x. x), λ x. x) in
     let laws : (m : g.row.M.Denot) → Laws (g.M.Machine.view m) = machine.laws in
-    has_log _ (IsLogFor g.K.Kinds.is job heads bytes) c.run_nodes.result.log (c.run_nodes.ensures.told fine) (returns-clause-scheduled g c)
-    (λ log h. log_in g.K.Kinds.is g.met.K.Kinds.own S.left S.name S.faults K.holds K.name K.faults g.M.Machine.view laws job c.args.plan heads srcs snks end srcs' snks' log
-    c.requires srcs_len (snks_len ∙ ap length c.as_slice-outputs.ensures) h fine bytes told)
+    record {
+      fine = all_files is S.left S.name S.faults K.holds K.name K.faults view job plan heads srcs snks claims end srcs' snks' c.requires srcs_len many refl done;
+      parts = all_parts is S.left S.name S.faults K.holds K.name K.faults view job plan heads srcs snks claims end srcs' snks' c.requires srcs_len many refl done g.met.K.Kinds.holds_on;
+      srcs_kept = keeps_sources is S.left S.name S.faults K.holds K.name K.faults view job plan heads srcs snks claims end srcs' snks' c.requires srcs_len many refl done;
+      snks_kept = keeps_sinks is S.left S.name S.faults K.holds K.name K.faults view job plan heads srcs snks claims end srcs' snks' c.requires srcs_len many refl done;
+      ends = all_ends is S.left S.name S.faults K.holds K.name K.faults view job plan heads srcs snks claims end srcs' snks' c.requires srcs_len many refl done;
+      sound_srcs = all_sources is S.left S.name S.faults K.holds K.name K.faults view job plan heads srcs snks claims end srcs' snks' c.requires srcs_len many refl done;
+      sound_snks = all_sinks is S.left S.name S.faults K.holds K.name K.faults view job plan heads srcs snks claims end srcs' snks' c.requires srcs_len many refl done;
+      logged = λ fine bytes told. has_log _ (IsLogFor g.K.Kinds.is job heads bytes) c.run_nodes.result.log (c.run_nodes.ensures.told fine) (returns-clause-scheduled g c)
+          (λ log h. log_in g.K.Kinds.is g.met.K.Kinds.own S.left S.name S.faults K.holds K.name K.faults g.M.Machine.view laws job c.args.plan heads srcs snks end srcs' snks' log
+          c.requires srcs_len many h fine bytes told);
+    }
