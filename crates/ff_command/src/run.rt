@@ -1,6 +1,7 @@
 // A job over its files.
 ghost use Rattle.std.specs.Prelude.{◌≡◌, IfSome};
 ghost use Rattle.ff_words.specs.Bounds.{IsBounded};
+ghost use Rattle.ff_files.specs.Counts.{counted};
 ghost use Rattle.ff_files.specs.Works.{HasLog};
 ghost use Rattle.ff_command.specs.Command.{refused_plan, over, IsReported, HoldsPrinted};
 ghost use Rattle.ff_command.specs.Histories.{LogHas};
@@ -86,14 +87,13 @@ pub(crate) fn run_job<H: Host, P: Worker<Begun<H::Src>, H::Snk>>(
     requires able { P.is_able worker.now }
     requires bounded { IsBounded job.now }
     ensures ran { Ran (P.means worker.now) job.now (H.files host.old) (H.files host.new)
-        (record { before = H.in_faults host.old; after = H.in_faults host.new })
-        (record { before = H.out_faults host.old; after = H.out_faults host.new }) result.status }
+        (counted H.in_faults host.old host.new) (counted H.out_faults host.old host.new) result.status }
     ensures logged { result.status ≡ Status.Fine
         → HasLog (IsReported (over (P.means worker.now) job.now)
         (λ heads bytes log. LogHas (P.tells worker.now job.now heads bytes) (P.reads worker.now job.now heads bytes) log) (H.files host.old)) result.log }
     ensures traced { result.status ≡ Status.Fine → IfSome result.log (λ log. HoldsPrinted job.now (H.files host.old) (H.files host.new) log.history) }
     ensures created { CreatesWritten job.now (H.created host.new) (H.files host.old) (H.files host.new)
-        (record { before = H.out_faults host.old; after = H.out_faults host.new }) result.status }
+        (counted H.out_faults host.old host.new) result.status }
     ensures closed { (H.open_sources host.new ≡ H.open_sources host.old) × (H.open_sinks host.new ≡ H.open_sinks host.old) }
 {
     let Ok(files) = written_files(alloc, job) else {

@@ -8,6 +8,10 @@ pub record Counts : Type 0 where
   pub before : List ℕ → ℕ
   pub after : List ℕ → ℕ
 
+-- those that a host keeps, from one state of it to another
+abbrev pub counted : {H : Type 0} → (H → List ℕ → ℕ) → H → H → Counts
+counted faults old new = record { before = faults old; after = faults new }
+
 -- it is one of these names, and the count under it has risen
 abbrev pub Faulted : Counts → List (List ℕ) → ℕ → Type 0
 Faulted counts names k = (k < length names) × Rose (counts.before (name_at names k)) (counts.after (name_at names k))

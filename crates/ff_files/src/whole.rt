@@ -4,7 +4,7 @@ ghost use Rattle.std.specs.List.{All};
 ghost use Rattle.ff_host.specs.Files.{Files, KeepsFiles};
 ghost use Rattle.ff_reader.specs.declared.fault.HeadFault.{HeadFault};
 ghost use Rattle.ff_files.specs.Names.{names_of, AreApart, KeepsAllBut};
-ghost use Rattle.ff_files.specs.Counts.{Faulted, KeepsCounts, AreUnfailed};
+ghost use Rattle.ff_files.specs.Counts.{counted, Faulted, KeepsCounts, AreUnfailed};
 ghost use Rattle.ff_files.specs.Hosts.{AreOpen};
 ghost use Rattle.ff_files.specs.Inputs.{AreBegun};
 ghost use Rattle.ff_files.specs.Outputs.{CreatesOutputs};
@@ -76,8 +76,7 @@ fn write_outputs<H: Host, I: InputFile, N: Named, W: Work<I::Head, Begun<H::Src>
     ensures ends { (before : Option Files) → KeepsFiles before (H.files host.old)
         → AreBegun I.name_text I.head ⟦<Begun<H::Src> as Source>⟧.left before inputs.now srcs.items heads.now
         → Ends (command_of I.name_text I.head N.name_text inputs.now outputs.now count (W.means work.now)) before
-        (record { before = H.in_faults host.old; after = H.in_faults host.new })
-        (record { before = H.out_faults host.old; after = H.out_faults host.new }) result.end }
+        (counted H.in_faults host.old host.new) (counted H.out_faults host.old host.new) result.end }
     ensures not_before { ComesBeforeOutputs result.end → ⊥ }
     ensures in_counts { KeepsCounts (H.in_faults host.old) (H.in_faults host.new) (names_of I.name_text inputs.now)
         (sound_inputs (command_of I.name_text I.head N.name_text inputs.now outputs.now count (W.means work.now)) result.end) }
@@ -89,7 +88,7 @@ fn write_outputs<H: Host, I: InputFile, N: Named, W: Work<I::Head, Begun<H::Src>
     ensures traced { result.end ≡ RunEnd.Fine → (before : Option Files) → KeepsFiles before (H.files host.old) → IfSome result.log (λ log. HoldTrace
         (command_of I.name_text I.head N.name_text inputs.now outputs.now count (W.means work.now)) (W.printed log) before (H.files host.new)) }
     ensures created { CreatesOutputs (H.created host.new) (H.files host.old) (H.files host.new)
-        (record { before = H.out_faults host.old; after = H.out_faults host.new }) (names_of N.name_text outputs.now) (λ k why. result.end ≡ end_by_output k why) }
+        (counted H.out_faults host.old host.new) (names_of N.name_text outputs.now) (λ k why. result.end ≡ end_by_output k why) }
     ensures open_sources { H.open_sources host.new ≡ H.open_sources host.old - vec_len srcs }
     ensures open_sinks { H.open_sinks host.new ≡ H.open_sinks host.old }
 {
@@ -150,8 +149,7 @@ fn plan_outputs<H: Host, I: InputFile, N: Named, W: Work<I::Head, Begun<H::Src>,
     ensures ends { (before : Option Files) → KeepsFiles before (H.files host.old)
         → AreBegun I.name_text I.head ⟦<Begun<H::Src> as Source>⟧.left before inputs.now srcs.items heads.now
         → Ends (command_of I.name_text I.head N.name_text inputs.now outputs.now count (W.means work.now)) before
-        (record { before = H.in_faults host.old; after = H.in_faults host.new })
-        (record { before = H.out_faults host.old; after = H.out_faults host.new }) result.end }
+        (counted H.in_faults host.old host.new) (counted H.out_faults host.old host.new) result.end }
     ensures in_counts { KeepsCounts (H.in_faults host.old) (H.in_faults host.new) (names_of I.name_text inputs.now)
         (sound_inputs (command_of I.name_text I.head N.name_text inputs.now outputs.now count (W.means work.now)) result.end) }
     ensures out_counts { KeepsCounts (H.out_faults host.old) (H.out_faults host.new) (names_of N.name_text outputs.now)
@@ -162,7 +160,7 @@ fn plan_outputs<H: Host, I: InputFile, N: Named, W: Work<I::Head, Begun<H::Src>,
     ensures traced { result.end ≡ RunEnd.Fine → (before : Option Files) → KeepsFiles before (H.files host.old) → IfSome result.log (λ log. HoldTrace
         (command_of I.name_text I.head N.name_text inputs.now outputs.now count (W.means work.now)) (W.printed log) before (H.files host.new)) }
     ensures created { CreatesOutputs (H.created host.new) (H.files host.old) (H.files host.new)
-        (record { before = H.out_faults host.old; after = H.out_faults host.new }) (names_of N.name_text outputs.now) (λ k why. result.end ≡ end_by_output k why) }
+        (counted H.out_faults host.old host.new) (names_of N.name_text outputs.now) (λ k why. result.end ≡ end_by_output k why) }
     ensures open_sources { H.open_sources host.new ≡ H.open_sources host.old - vec_len srcs }
     ensures open_sinks { H.open_sinks host.new ≡ H.open_sinks host.old }
 {
@@ -200,8 +198,7 @@ fn run_files<H: Host, I: InputFile, N: Named, W: Work<I::Head, Begun<H::Src>, H:
     ensures others { KeepsAllBut (H.files host.old) (H.files host.new) (names_of N.name_text outputs.now) (length outputs.now) }
     ensures untouched { ComesBeforeOutputs result.end → KeepsFiles (H.files host.old) (H.files host.new) }
     ensures ends { Ends (command_of I.name_text I.head N.name_text inputs.now outputs.now count (W.means work.now)) (H.files host.old)
-        (record { before = H.in_faults host.old; after = H.in_faults host.new })
-        (record { before = H.out_faults host.old; after = H.out_faults host.new }) result.end }
+        (counted H.in_faults host.old host.new) (counted H.out_faults host.old host.new) result.end }
     ensures in_counts { KeepsCounts (H.in_faults host.old) (H.in_faults host.new) (names_of I.name_text inputs.now)
         (sound_inputs (command_of I.name_text I.head N.name_text inputs.now outputs.now count (W.means work.now)) result.end) }
     ensures out_counts { KeepsCounts (H.out_faults host.old) (H.out_faults host.new) (names_of N.name_text outputs.now)
@@ -212,7 +209,7 @@ fn run_files<H: Host, I: InputFile, N: Named, W: Work<I::Head, Begun<H::Src>, H:
     ensures traced { result.end ≡ RunEnd.Fine → IfSome result.log (λ log. HoldTrace
         (command_of I.name_text I.head N.name_text inputs.now outputs.now count (W.means work.now)) (W.printed log) (H.files host.old) (H.files host.new)) }
     ensures created { CreatesOutputs (H.created host.new) (H.files host.old) (H.files host.new)
-        (record { before = H.out_faults host.old; after = H.out_faults host.new }) (names_of N.name_text outputs.now) (λ k why. result.end ≡ end_by_output k why) }
+        (counted H.out_faults host.old host.new) (names_of N.name_text outputs.now) (λ k why. result.end ≡ end_by_output k why) }
     ensures closed { (H.open_sources host.new ≡ H.open_sources host.old) × (H.open_sinks host.new ≡ H.open_sinks host.old) }
 {
     let Ok(mut srcs) = room_for(alloc, inputs.len()) else {
@@ -268,8 +265,7 @@ pub fn over_files<H: Host, I: InputFile, N: Named, W: Work<I::Head, Begun<H::Src
     ensures others { KeepsAllBut (H.files host.old) (H.files host.new) (names_of N.name_text outputs.now) (length outputs.now) }
     ensures untouched { ComesBeforeOutputs result.end → KeepsFiles (H.files host.old) (H.files host.new) }
     ensures ends { Ends (command_of I.name_text I.head N.name_text inputs.now outputs.now count (W.means work.now)) (H.files host.old)
-        (record { before = H.in_faults host.old; after = H.in_faults host.new })
-        (record { before = H.out_faults host.old; after = H.out_faults host.new }) result.end }
+        (counted H.in_faults host.old host.new) (counted H.out_faults host.old host.new) result.end }
     ensures in_counts { KeepsCounts (H.in_faults host.old) (H.in_faults host.new) (names_of I.name_text inputs.now)
         (sound_inputs (command_of I.name_text I.head N.name_text inputs.now outputs.now count (W.means work.now)) result.end) }
     ensures out_counts { KeepsCounts (H.out_faults host.old) (H.out_faults host.new) (names_of N.name_text outputs.now)
@@ -281,22 +277,22 @@ pub fn over_files<H: Host, I: InputFile, N: Named, W: Work<I::Head, Begun<H::Src
         (command_of I.name_text I.head N.name_text inputs.now outputs.now count (W.means work.now)) (W.printed log) (H.files host.old) (H.files host.new)) }
     // No output is created before all inputs have heads and a plan. Where one can't be, that is the end, whatever a closing does.
     ensures created { CreatesOutputs (H.created host.new) (H.files host.old) (H.files host.new)
-        (record { before = H.out_faults host.old; after = H.out_faults host.new }) (names_of N.name_text outputs.now) (λ k why. result.end ≡ end_by_output k why) }
+        (counted H.out_faults host.old host.new) (names_of N.name_text outputs.now) (λ k why. result.end ≡ end_by_output k why) }
     ensures closed { (H.open_sources host.new ≡ H.open_sources host.old) × (H.open_sinks host.new ≡ H.open_sinks host.old) }
     // An input is refused exactly where it is the first whose head is, unless it or one before it couldn't be opened or read.
     ensures refused { (k : ℕ) (why : HeadFault)
         → IsFirstRefused (command_of I.name_text I.head N.name_text inputs.now outputs.now count (W.means work.now)) (H.files host.old) k why
-        → ((i : ℕ) → i ≤ k → Faulted (record { before = H.in_faults host.old; after = H.in_faults host.new }) (names_of I.name_text inputs.now) i → ⊥)
+        → ((i : ℕ) → i ≤ k → Faulted (counted H.in_faults host.old host.new) (names_of I.name_text inputs.now) i → ⊥)
         → (result.end ≡ refusal k why) ⊎ (result.end ≡ RunEnd.NoMemory) }
     // The plan is refused exactly where the heads give none, unless an input couldn't be opened or read.
     ensures no_plan { (why : W.Refusal)
         → HasNoPlan (command_of I.name_text I.head N.name_text inputs.now outputs.now count (W.means work.now)) (H.files host.old) why
-        → ((i : ℕ) → Faulted (record { before = H.in_faults host.old; after = H.in_faults host.new }) (names_of I.name_text inputs.now) i → ⊥)
+        → ((i : ℕ) → Faulted (counted H.in_faults host.old host.new) (names_of I.name_text inputs.now) i → ⊥)
         → (result.end ≡ RunEnd.Refused why) ⊎ (result.end ≡ RunEnd.NoMemory) }
     // Nothing else keeps it from being done.
     ensures complete { CanBeDone (command_of I.name_text I.head N.name_text inputs.now outputs.now count (W.means work.now)) (H.files host.old)
-        → ((i : ℕ) → Faulted (record { before = H.in_faults host.old; after = H.in_faults host.new }) (names_of I.name_text inputs.now) i → ⊥)
-        → ((j : ℕ) → Faulted (record { before = H.out_faults host.old; after = H.out_faults host.new }) (names_of N.name_text outputs.now) j → ⊥)
+        → ((i : ℕ) → Faulted (counted H.in_faults host.old host.new) (names_of I.name_text inputs.now) i → ⊥)
+        → ((j : ℕ) → Faulted (counted H.out_faults host.old host.new) (names_of N.name_text outputs.now) j → ⊥)
         → (result.end ≡ RunEnd.Fine) ⊎ (result.end ≡ RunEnd.NoMemory) }
 {
     run_files(alloc, host, inputs, outputs, count, work)

@@ -10,6 +10,7 @@ ghost use Rattle.ff_reader.specs.declared.fault.HeadFault.TheVariants as head_fa
 ghost use Rattle.ff_words.specs.Words.{texts, fault};
 ghost use Rattle.ff_words.specs.declared.error.Fault.{Fault};
 ghost use Rattle.ff_run_plan.specs.declared.fault.RunFault.TheVariants as run_fault;
+ghost use Rattle.ff_files.specs.Counts.{counted};
 ghost use Rattle.ff_files.specs.Ends.{IsPlanRefused, IsBroken};
 ghost use Rattle.ff_command.specs.Command.{AsksAlone, AsksText, AskGenerated, AsksGenerated, IsDue, IsOwnAnswer, ReportsOwn, ReportsOwnReads};
 ghost use Rattle.ff_command.specs.Command.{AskFor, AreWrong, KeepsOtherFiles, ComesBeforeOutputs, ReportsHistory, ReportsReads, HoldsTrace};
@@ -95,14 +96,14 @@ pub fn ffmpeg<R: Threads + Wait + Sync, H: Host, E: Sink>(
     ensures damaged { (i offset : ℕ) → result.status ≡ Status.Damaged i offset
         → AsksGenerated (texts words.now) ⊎ AskFor (texts words.now) (λ job. IsDamaged job_means job (H.files host.old) (H.files host.new) i offset) }
     ensures refused { (i : ℕ) (why : HeadFault)
-        → GivesNoHead job_means (texts words.now) (H.files host.old) (record { before = H.in_faults host.old; after = H.in_faults host.new }) i why
+        → GivesNoHead job_means (texts words.now) (H.files host.old) (counted H.in_faults host.old host.new) i why
         → (result.status ≡ refused_head i why) ⊎ (result.status ≡ Status.NoMemory) }
 
     // The plan is refused exactly where the heads give none, unless reading failed.
     ensures plan { (why : PlanError) → result.status ≡ Status.Plan why
         → AsksGenerated (texts words.now) ⊎ AskFor (texts words.now) (λ job. IsPlanRefused (over job_means job) (H.files host.old) why) }
     ensures no_plan { (why : PlanError)
-        → GivesNoPlan job_means (texts words.now) (H.files host.old) (record { before = H.in_faults host.old; after = H.in_faults host.new }) why
+        → GivesNoPlan job_means (texts words.now) (H.files host.old) (counted H.in_faults host.old host.new) why
         → (result.status ≡ refused_plan why) ⊎ (result.status ≡ Status.NoMemory) }
     ensures plan_memory { result.status ≢ Status.Plan PlanError.NoMemory }
 
@@ -114,26 +115,24 @@ pub fn ffmpeg<R: Threads + Wait + Sync, H: Host, E: Sink>(
 
     // A fault of a device is answered only where the count of that file's name rose.
     ensures device { (file : _) → result.status ≡ Status.Device file → AskFor (texts words.now) (λ job. HasFailed job_means job (H.files host.old)
-        (record { before = H.in_faults host.old; after = H.in_faults host.new })
-        (record { before = H.out_faults host.old; after = H.out_faults host.new }) file) }
+        (counted H.in_faults host.old host.new) (counted H.out_faults host.old host.new) file) }
 
     // With status Fine no count has changed. A failure of reading is the status, unless a fault came before it or memory ran out.
     // Under names that are no input, or no output, nothing is counted.
     ensures in_counts { KeepsInputCounts job_means (texts words.now) (H.files host.old)
-        (record { before = H.in_faults host.old; after = H.in_faults host.new }) result.status }
+        (counted H.in_faults host.old host.new) result.status }
     ensures out_counts { KeepsOutputCounts job_means (texts words.now) (H.files host.old)
-        (record { before = H.out_faults host.old; after = H.out_faults host.new }) result.status }
+        (counted H.out_faults host.old host.new) result.status }
 
     // Nothing else keeps the command from being done.
     ensures complete { GivesAll job_means (texts words.now) (H.files host.old)
-        (record { before = H.in_faults host.old; after = H.in_faults host.new })
-        (record { before = H.out_faults host.old; after = H.out_faults host.new })
+        (counted H.in_faults host.old host.new) (counted H.out_faults host.old host.new)
         → (result.status ≡ Status.Fine) ⊎ (result.status ≡ Status.NoMemory) }
 
     // No file is created before all inputs have heads and a plan. Where one can't be, that is the status, whatever a closing does, and
     // a failure is never answered as want of memory.
     ensures created { CreatesAsked (texts words.now) (H.created host.new) (H.files host.old) (H.files host.new)
-        (record { before = H.out_faults host.old; after = H.out_faults host.new }) result.status }
+        (counted H.out_faults host.old host.new) result.status }
 
     // Whatever the status, each source and each sink that it opened is given back.
     ensures closed { (H.open_sources host.new ≡ H.open_sources host.old) × (H.open_sinks host.new ≡ H.open_sinks host.old) }

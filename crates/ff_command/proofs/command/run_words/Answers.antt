@@ -1,5 +1,5 @@
 use Rattle.std.proofs.Common.{Ok, inl, inr, refl, sym, ◌∙◌, subst}
-use Rattle.ff_files.specs.Counts.{Counts}
+use Rattle.ff_files.specs.Counts.{counted}
 use Rattle.ff_words.specs.Words.{texts}
 use Rattle.ff_words.specs.declared.job.Solo.TheVariants.{SelfRun}
 use Rattle.ff_words.specs.Reading.{Answers}
@@ -15,8 +15,8 @@ pub returns-in-Err-clause-answered : goal.returns-in-Err-clause-answered
 returns-in-Err-clause-answered g c =
     let H = g.H.Host in
     let words = texts c.args.words.now in
-    let ins : Counts = record { before = H.in_faults c.args.host.now; after = H.in_faults c.args.host.now } in
-    let outs : Counts = record { before = H.out_faults c.args.host.now; after = H.out_faults c.args.host.now } in
+    let ins = counted H.in_faults c.args.host.now c.args.host.now in
+    let outs = counted H.out_faults c.args.host.now c.args.host.now in
     words-answered (g.P.Worker.means c.args.worker.now) words (H.files c.args.host.now) ins outs (λ n. refl) (λ n. refl) c.in-Err.error c.status_of_words.result
     (subst (Answers words) c.in-Err.is c.read_words.ensures.answer) c.status_of_words.ensures
 
@@ -24,8 +24,8 @@ pub returns-in-Ok-Solo-clause-answered : goal.returns-in-Ok-Solo-clause-answered
 returns-in-Ok-Solo-clause-answered g c =
     let H = g.H.Host in
     let words = texts c.args.words.now in
-    let ins : Counts = record { before = H.in_faults c.args.host.now; after = H.in_faults c.args.host.now } in
-    let outs : Counts = record { before = H.out_faults c.args.host.now; after = H.out_faults c.args.host.now } in
+    let ins = counted H.in_faults c.args.host.now c.args.host.now in
+    let outs = counted H.out_faults c.args.host.now c.args.host.now in
     let asks = subst (λ x. Answers words (Ok x)) c.in-Ok-Solo.field-0-is (subst (Answers words) c.in-Ok-Solo.is c.read_words.ensures.answer) in
     solo-answered (g.P.Worker.means c.args.worker.now) words (H.files c.args.host.now) ins outs (λ n. refl) (λ n. refl) (g.Q.Worker.means c.args.own.now) c.in-Ok-Solo.solo asks c.tell-status.result.status
     (λ text. (c.tell-status.ensures.alone text).0) c.tell-status.ensures.generated
@@ -34,8 +34,8 @@ pub returns-in-Ok-Run-clause-answered : goal.returns-in-Ok-Run-clause-answered
 returns-in-Ok-Run-clause-answered g c =
     let H = g.H.Host in
     let words = texts c.args.words.now in
-    let ins : Counts = record { before = H.in_faults c.args.host.now; after = H.in_faults c.run_job-status.new.host } in
-    let outs : Counts = record { before = H.out_faults c.args.host.now; after = H.out_faults c.run_job-status.new.host } in
+    let ins = counted H.in_faults c.args.host.now c.run_job-status.new.host in
+    let outs = counted H.out_faults c.args.host.now c.run_job-status.new.host in
     job-answered (g.P.Worker.means c.args.worker.now) words c.in-Ok-Run.job (H.files c.args.host.now) (H.files c.run_job-status.new.host) ins outs c.run_job-status.result.status
     (subst (λ x. Answers words (Ok x)) c.in-Ok-Run.field-0-is (subst (Answers words) c.in-Ok-Run.is c.read_words.ensures.answer)) c.run_job-status.ensures.ran
 

@@ -1,5 +1,5 @@
 use Rattle.std.proofs.Common.{◌≡◌, length, sym, ap, ◌∙◌, subst}
-use Rattle.ff_files.specs.Counts.{Counts}
+use Rattle.ff_files.specs.Counts.{counted}
 use Rattle.ff_files.specs.Names.{names_of, AreApart, KeepsAllBut}
 use Rattle.ff_files.specs.Works.{HoldTrace, AreHeadsIn, told_bytes}
 use Rattle.ff_files.specs.Outputs.{CreatesOutputs}
@@ -26,8 +26,8 @@ pub returns-clause-ran : goal.returns-clause-ran
 returns-clause-ran g c =
     let H = g.H.Host in
     let job = c.args.job.now in
-    let ins : Counts = record { before = H.in_faults c.args.host.now; after = H.in_faults c.over_files-end.new.host } in
-    let outs : Counts = record { before = H.out_faults c.args.host.now; after = H.out_faults c.over_files-end.new.host } in
+    let ins = counted H.in_faults c.args.host.now c.over_files-end.new.host in
+    let outs = counted H.out_faults c.args.host.now c.over_files-end.new.host in
     let names = names_of (λ (w : Written). w.name.now) c.as_slice.result.now in
     let same : names ≡ written job = ap (names_of (λ (w : Written). w.name.now)) c.as_slice.ensures.value ∙ c.in-Ok.ensures in
     let e = c.over_files-end.ensures in
@@ -52,8 +52,8 @@ returns-clause-logged g c = λ fine.
     let means = g.P.Worker.means c.args.worker.now in
     let before = H.files c.args.host.now in
     let after = H.files c.over_files-end.new.host in
-    let ins : Counts = record { before = H.in_faults c.args.host.now; after = H.in_faults c.over_files-end.new.host } in
-    let outs : Counts = record { before = H.out_faults c.args.host.now; after = H.out_faults c.over_files-end.new.host } in
+    let ins = counted H.in_faults c.args.host.now c.over_files-end.new.host in
+    let outs = counted H.out_faults c.args.host.now c.over_files-end.new.host in
     let names = names_of (λ (w : Written). w.name.now) c.as_slice.result.now in
     let same : names ≡ written job = ap (names_of (λ (w : Written). w.name.now)) c.as_slice.ensures.value ∙ c.in-Ok.ensures in
     let n = length c.as_slice-count.result.now in
@@ -74,8 +74,8 @@ returns-clause-traced g c = λ fine.
     let means = g.P.Worker.means c.args.worker.now in
     let before = H.files c.args.host.now in
     let after = H.files c.over_files-end.new.host in
-    let ins : Counts = record { before = H.in_faults c.args.host.now; after = H.in_faults c.over_files-end.new.host } in
-    let outs : Counts = record { before = H.out_faults c.args.host.now; after = H.out_faults c.over_files-end.new.host } in
+    let ins = counted H.in_faults c.args.host.now c.over_files-end.new.host in
+    let outs = counted H.out_faults c.args.host.now c.over_files-end.new.host in
     let names = names_of (λ (w : Written). w.name.now) c.as_slice.result.now in
     let same : names ≡ written job = ap (names_of (λ (w : Written). w.name.now)) c.as_slice.ensures.value ∙ c.in-Ok.ensures in
     let n = length c.as_slice-count.result.now in
@@ -91,7 +91,7 @@ returns-clause-created g c =
     let before = H.files c.args.host.now in
     let after = H.files c.over_files-end.new.host in
     let made = H.created c.over_files-end.new.host in
-    let outs : Counts = record { before = H.out_faults c.args.host.now; after = H.out_faults c.over_files-end.new.host } in
+    let outs = counted H.out_faults c.args.host.now c.over_files-end.new.host in
     let names = names_of (λ (w : Written). w.name.now) c.as_slice.result.now in
     let same : names ≡ written job = ap (names_of (λ (w : Written). w.name.now)) c.as_slice.ensures.value ∙ c.in-Ok.ensures in
     let end = c.over_files-end.result.end in

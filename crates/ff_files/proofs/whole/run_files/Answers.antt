@@ -1,6 +1,6 @@
 use Rattle.std.proofs.Common.{◌≡◌, inl, List, length, arith, sym, ◌∙◌, subst}
 use Rattle.ff_files.specs.Names.{names_of}
-use Rattle.ff_files.specs.Counts.{Counts, KeepsCounts}
+use Rattle.ff_files.specs.Counts.{counted, KeepsCounts}
 use Rattle.ff_files.specs.Inputs.{AreBegun, begun_left, begun_faults, sound_before}
 use Rattle.ff_files.specs.Works.{command_of, told_bytes, HasLog, HoldMeaning, HoldWritten}
 use Rattle.ff_files.specs.Ends.{Ends, end_of_output, sound_inputs}
@@ -15,8 +15,8 @@ pub returns-in-Err-clause-ends : goal.returns-in-Err-clause-ends
 returns-in-Err-clause-ends g c =
     let H = g.H.Host in
     let cmd = command_of g.I.Named.name_text g.I.InputFile.head g.N.Named.name_text c.args.inputs.now c.args.outputs.now c.args.count (g.W.Work.means c.args.work.now) in
-    let ins : Counts = record { before = H.in_faults c.args.host.now; after = H.in_faults c.close_sources.new.host } in
-    let outs : Counts = record { before = H.out_faults c.args.host.now; after = H.out_faults c.close_sources.new.host } in
+    let ins = counted H.in_faults c.args.host.now c.close_sources.new.host in
+    let outs = counted H.out_faults c.args.host.now c.close_sources.new.host in
     subst (λ (e : _). Ends cmd (H.files c.args.host.now) ins outs e) (sym c.end_of.ensures)
     (ends_headless cmd (H.files c.args.host.now) ins outs (begun_faults g.H.Src.Source.faults) (H.in_faults c.open_inputs.new.host) c.open_inputs.new.srcs.items c.in-Err.field-0.input c.in-Err.field-0.end
     c.in-Err.ensures.refused (names_len g.I.Named.name_text c.args.inputs.now) (λ n. c.close_sources.ensures.later.ins_later n) (λ n. c.in-Err.ensures.later.ins_later n) c.close_sources.ensures.counted)
@@ -60,8 +60,8 @@ returns-clause-ends g c =
     let mid = c.open_inputs.new.host in
     let new = c.plan_outputs.new.host in
     let srcs = c.open_inputs.new.srcs.items in
-    let ins : Counts = record { before = H.in_faults mid; after = H.in_faults new } in
-    let outs : Counts = record { before = H.out_faults mid; after = H.out_faults new } in
+    let ins = counted H.in_faults mid new in
+    let outs = counted H.out_faults mid new in
     let later = c.in-Ok-open_inputs.ensures.later in
     ends_earlier cmd (H.files old) (H.in_faults old) (H.in_faults new) (H.out_faults old) (H.out_faults new) (H.in_faults mid) (H.out_faults mid) c.plan_outputs.result.end (λ n. later.ins_later n) (λ n. later.outs_later n)
     (subst (λ (hs : List g.row.I-Head.Denot). AreBegun g.I.Named.name_text g.I.InputFile.head (begun_left g.H.Src.Source.left) (H.files old) c.args.inputs.now srcs hs → Ends cmd (H.files old) ins outs c.plan_outputs.result.end) c.deref.ensures.value

@@ -1,6 +1,6 @@
 use Rattle.std.proofs.Common.{◌≡◌, ◌<◌, ◌≤◌, inl, inr, ℕ, length, vec_len, arith, sym, ◌∙◌, subst}
 use Rattle.ff_files.specs.Names.{names_of, name_at, KeepsAllBut}
-use Rattle.ff_files.specs.Counts.{Counts, KeepsCounts}
+use Rattle.ff_files.specs.Counts.{counted, KeepsCounts}
 use Rattle.ff_files.specs.Inputs.{begun_left, begun_name, begun_faults}
 use Rattle.ff_files.specs.Outputs.{FailsAt}
 use Rattle.ff_files.specs.Works.{AreTold, FailNoMore, GainTexts, HoldTrace, command_of, sound_sources, told_bytes}
@@ -52,8 +52,8 @@ pub returns-in-Err-clause-ends : goal.returns-in-Err-clause-ends
 returns-in-Err-clause-ends g c = λ before keeps begun.
     let H = g.H.Host in
     let cmd = command_of g.I.Named.name_text g.I.InputFile.head g.N.Named.name_text c.args.inputs.now c.args.outputs.now c.args.count (g.W.Work.means c.args.work.now) in
-    let ins : Counts = record { before = H.in_faults c.args.host.now; after = H.in_faults c.close_all.new.host } in
-    let outs : Counts = record { before = H.out_faults c.args.host.now; after = H.out_faults c.close_all.new.host } in
+    let ins = counted H.in_faults c.args.host.now c.close_all.new.host in
+    let outs = counted H.out_faults c.args.host.now c.close_all.new.host in
     subst (λ (e : _). Ends cmd before ins outs e) (sym c.end_of_output.ensures)
     (ends_uncreated cmd (begun_left g.H.Src.Source.left) before ins outs c.args.srcs.items c.args.heads.now (H.out_faults c.create_outputs.new.host) c.in-Err.field-0.output c.in-Err.field-0.end
     c.in-Err.ensures.refused (λ n. c.close_all.ensures.later.outs_later n) begun c.requires.planned)
@@ -137,8 +137,8 @@ returns-in-Ok-clause-ends g c = λ before keeps begun.
     let cmd = command_of g.I.Named.name_text g.I.InputFile.head g.N.Named.name_text c.args.inputs.now c.args.outputs.now c.args.count means in
     let left = begun_left S.left in
     let outputs = names_of g.N.Named.name_text c.args.outputs.now in
-    let ins : Counts = record { before = H.in_faults c.args.host.now; after = H.in_faults c.close_all-unclosed.new.host } in
-    let outs : Counts = record { before = H.out_faults c.args.host.now; after = H.out_faults c.close_all-unclosed.new.host } in
+    let ins = counted H.in_faults c.args.host.now c.close_all-unclosed.new.host in
+    let outs = counted H.out_faults c.args.host.now c.close_all-unclosed.new.host in
     let in_mid = H.in_faults c.create_outputs.new.host in
     let out_mid = H.out_faults c.create_outputs.new.host in
     let done = c.close_all-unclosed.ensures in
