@@ -18,8 +18,8 @@ use Rattle.ff_words.specs.declared.error.Fault.{Fault}
 use Rattle.ff_words.specs.Words.{IsAnswer, written}
 use Rattle.ff_input.specs.declared.heads.head.InputHead.{InputHead}
 use Rattle.ff_input.specs.heads.Formats.{input_head}
-use Rattle.ff_plan.specs.declared.planned.PlanError.{PlanError}
-use Rattle.ff_plan.specs.declared.planned.PlanError.TheVariants as why
+use Rattle.ff_plan_layout.specs.declared.error.PlanError.{PlanError}
+use Rattle.ff_plan_layout.specs.declared.error.PlanError.TheVariants as why
 use Rattle.ff_run_plan.specs.declared.fault.RunFault.{RunFault}
 use Rattle.ff_run_plan.specs.declared.fault.RunFault.TheVariants as run_fault
 use Rattle.ff_files.specs.Names.{name_at, names_of, KeepsAllBut}

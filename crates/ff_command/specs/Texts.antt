@@ -5,8 +5,8 @@ use Rattle.ff_frame.specs.declared.config.ConfigError.{ConfigError}
 use Rattle.ff_frame.specs.declared.config.ConfigError.TheVariants as config
 use Rattle.ff_words.specs.declared.error.WordKind.{WordKind}
 use Rattle.ff_words.specs.declared.error.WordKind.TheVariants as word
-use Rattle.ff_plan.specs.declared.planned.PlanError.{PlanError}
-use Rattle.ff_plan.specs.declared.planned.PlanError.TheVariants as refusal
+use Rattle.ff_plan_layout.specs.declared.error.PlanError.{PlanError}
+use Rattle.ff_plan_layout.specs.declared.error.PlanError.TheVariants as refusal
 use Rattle.ff_command.specs.declared.report.Status.{Status}
 use Rattle.ff_command.specs.declared.report.Status.TheVariants as status
 use Rattle.ff_command.specs.declared.report.Line.{Line}

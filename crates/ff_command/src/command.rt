@@ -27,7 +27,7 @@ use crate::run::{JobRun, run_job};
 use crate::told::{Told, tell};
 use crate::worker::Worker;
 use ff_host::{Begun, Host, QuietSink, QuietSource, Sink};
-use ff_plan::PlanError;
+use ff_plan_layout::PlanError;
 use ff_run_plan::RunLog;
 use ff_words::{Command, Job, WordError, WordKind, read_words};
 use std::alloc::Global;

@@ -3,7 +3,7 @@ ghost use Rattle.std.specs.Prelude.{◌≡◌};
 ghost use Rattle.ff_command.specs.Texts.{number_of, exit_number_of};
 
 use crate::history::History;
-use ff_plan::PlanError;
+use ff_plan_layout::PlanError;
 use ff_words::WordKind;
 
 /// A file that a command names.

@@ -12,7 +12,7 @@ use crate::worker::{JobWork, Worker};
 use crate::written::written_files;
 use ff_files::{Outcome, RunEnd, over_files};
 use ff_host::{Begun, Host};
-use ff_plan::PlanError;
+use ff_plan_layout::PlanError;
 use ff_run_plan::{RunFault, RunLog};
 use ff_words::Job;
 use std::alloc::Global;

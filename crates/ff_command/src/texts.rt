@@ -5,7 +5,7 @@ ghost use Rattle.ff_command.specs.Texts.{word_fault, filter_fault, plan_fault, s
 
 use crate::report::Status;
 use ff_frame::ConfigError;
-use ff_plan::PlanError;
+use ff_plan_layout::PlanError;
 use ff_words::WordKind;
 use std::alloc::{AllocError, Global};
 

@@ -6,21 +6,23 @@ use Rattle.std.specs.declared.vec.Vec.{Vec}
 use Rattle.ff_frame.specs.declared.head.StreamHead.{StreamHead}
 use Rattle.ff_map.specs.declared.streams.Stream.{Stream}
 use Rattle.ff_map.specs.Choice.{all_streams}
-use Rattle.ff_plan.specs.declared.layout.InPad.{InPad}
-use Rattle.ff_plan.specs.declared.layout.OutStream.{OutStream}
-use Rattle.ff_plan.specs.declared.layout.Placed.{Placed}
+use Rattle.ff_plan_layout.specs.declared.layout.InPad.{InPad}
+use Rattle.ff_plan_layout.specs.declared.layout.OutStream.{OutStream}
+use Rattle.ff_plan_layout.specs.declared.layout.Placed.{Placed}
 use Rattle.ff_plan.specs.declared.number.Wire.{Wire}
 use Rattle.ff_plan.specs.declared.numbering.Drawing.{Drawing}
-use Rattle.ff_plan.specs.declared.planned.GraphText.{GraphText}
+use Rattle.ff_plan_layout.specs.declared.layout.GraphText.{GraphText}
 use Rattle.ff_plan.specs.declared.planned.Plan.{Plan}
 use Rattle.ff_sched.specs.declared.routes.Routes.{Routes}
-use Rattle.ff_plan.specs.Layout.{Laid, Layout, place_row, place_from, placed, shows, used, used_inputs}
+use Rattle.ff_plan_layout.specs.declared.layout.Laid.{Laid}
+use Rattle.ff_plan_layout.specs.Layout.{Layout, place_row, place_from, placed, shows, used, used_inputs}
 use Rattle.ff_plan.specs.Nodes.{plan_of, nodes_of, routes_of}
-use Rattle.ff_plan.specs.Numbering.{Firsts, firsts_at, all_sources, demux_wire_in, pad_wire_in, pad_wires_in, shortest_wire_in, enc_wire_in, joint_wire_in, mux_wire_in, frame_wires_in, wires_in, streams_in, inputs_in, routes_in, drawing_of, with_drawing, plan_in, HasFewIns}
-use Rattle.ff_plan.specs.Rows.{rows}
+use Rattle.ff_plan.specs.Numbering.{Firsts, firsts_at, all_sources, demux_wire_in, pad_wire_in, pad_wires_in, shortest_wire_in, enc_wire_in, mux_wire_in, frame_wires_in, wires_in, streams_in, inputs_in, routes_in, drawing_of, with_drawing, plan_in}
+use Rattle.ff_plan_layout.specs.Limits.{HasFewIns}
+use Rattle.ff_plan_layout.specs.Rows.{rows}
 use Rattle.ff_plan.specs.Wires.{edges_of}
-use Rattle.ff_plan.proofs.Layouts.{joined_length, map_length, range_length, row_length}
-use Rattle.ff_plan.proofs.Limits.{filter_few, streams_length}
+use Rattle.ff_plan_layout.proofs.Sizes.{joined_length, map_length, range_length, row_length}
+use Rattle.ff_plan_layout.proofs.Bounds.{filter_few, streams_length}
 
 -- few streams are used
 pub few_used : (heads : List (List StreamHead)) (graphs : List Laid) (places : List Placed) → length heads ≤ 16 → AllByRecursion (λ hs. length hs ≤ 16) heads → length (streams_in heads graphs places) ≤ 256
@@ -41,22 +43,21 @@ module _ (f : Firsts) (streams : List Stream) (graphs : List Laid) where
       let rest = pads_few gs all.1 in
       omega (arith, j, m, here, rest)
 
-  frames_few : (joint : Bool) (ps : List Placed) → length (frame_wires_in f streams graphs joint ps) ≤ 2 * length ps
-  frames_few true ps =
-      (let j = joined_length (map (shortest_wire_in f streams graphs) ps) (map (joint_wire_in f) ps) in
+  frames_few : (ps : List Placed) → length (frame_wires_in f streams graphs ps) ≤ 2 * length ps
+  frames_few ps =
+      (let j = joined_length (map (shortest_wire_in f streams graphs) ps) (map (enc_wire_in f) ps) in
       let a = map_length (λ (p : Placed). shortest_wire_in f streams graphs p) ps in
-      let b = map_length (λ (p : Placed). joint_wire_in f p) ps in
+      let b = map_length (λ (p : Placed). enc_wire_in f p) ps in
       omega (arith, j, a, b))
-  frames_few false ps = (let a = map_length (λ (p : Placed). enc_wire_in f streams graphs p) ps in omega (arith, a))
 
-  pub wires_few : (inputs : List ℕ) (joint : Bool) (ps : List Placed) → length streams ≤ 256 → length graphs ≤ 16 → AllByRecursion HasFewIns graphs → length ps ≤ 16 → length (wires_in f inputs streams graphs joint ps) < 2 ^ 32
-  wires_few inputs joint ps few_streams few_graphs ins few_places =
+  pub wires_few : (inputs : List ℕ) (ps : List Placed) → length streams ≤ 256 → length graphs ≤ 16 → AllByRecursion HasFewIns graphs → length ps ≤ 16 → length (wires_in f inputs streams graphs ps) < 2 ^ 32
+  wires_few inputs ps few_streams few_graphs ins few_places =
       let a = map (demux_wire_in f inputs streams) streams in let b = flat_map (pad_wires_in f streams graphs) graphs in
-      let c = frame_wires_in f streams graphs joint ps in let d = map (mux_wire_in f) ps in
+      let c = frame_wires_in f streams graphs ps in let d = map (mux_wire_in f) ps in
       let j1 = joined_length a (b ++ (c ++ d)) in let j2 = joined_length b (c ++ d) in let j3 = joined_length c d in
       let la = map_length (λ (k : Stream). demux_wire_in f inputs streams k) streams in
       let lb = pads_few graphs ins in
-      let lc = frames_few joint ps in
+      let lc = frames_few ps in
       let ld = map_length (λ (p : Placed). mux_wire_in f p) ps in
       omega (arith, j1, j2, j3, la, lb, lc, ld, few_streams, few_graphs, few_places)
 
@@ -73,51 +74,44 @@ rows_few n o (v ∷ all) few =
 -- ---- the plan of a layout
 
 module _ (heads : List (List StreamHead)) (graphs : List Laid) (outputs : List (List OutStream)) (texts : List GraphText) where
-  abbrev whole : Bool → Layout
-  whole joint = record { heads = heads; graphs = graphs; outputs = outputs; texts = texts; joint = joint }
+  abbrev whole : Layout
+  whole = record { heads = heads; graphs = graphs; outputs = outputs; texts = texts }
 
   abbrev streams : List Stream
-  streams = used (whole true)
+  streams = used whole
 
   abbrev inputs : List ℕ
-  inputs = used_inputs (whole true)
+  inputs = used_inputs whole
 
-  -- where so many Shortest nodes stand before the Encs
-  abbrev behind_shortests : ℕ → Firsts
-  behind_shortests k = firsts_at (length inputs) (length streams) (length graphs) k (length (placed (whole true)))
+  abbrev firsts : Firsts
+  firsts = firsts_at (length inputs) (length streams) (length graphs) (length outputs) (length (placed whole))
 
   -- with these wires to the Encs and to the Muxes
-  abbrev with_wires : Firsts → List Wire → Plan
-  with_wires f ws = record {
-    nodes = nodes_of (whole true);
-    edges = edges_of (map (demux_wire_in f inputs streams) streams ++ (flat_map (pad_wires_in f streams graphs) graphs ++ ws));
-    routes = routes_of (whole true);
+  abbrev with_wires : List Wire → Plan
+  with_wires ws = record {
+    nodes = nodes_of whole;
+    edges = edges_of (map (demux_wire_in firsts inputs streams) streams ++ (flat_map (pad_wires_in firsts streams graphs) graphs ++ ws));
+    routes = routes_of whole;
     texts = texts;
   }
 
-  abbrev last_wires : Firsts → List Wire
-  last_wires f = frame_wires_in f streams graphs true (placed (whole true)) ++ map (mux_wire_in f) (placed (whole true))
-
-  pub plan_is : (joint : Bool) → plan_in heads joint graphs (placed (whole joint)) (length outputs) texts ≡ plan_of (whole joint)
-  plan_is false = refl
-  plan_is true =
-      let f = behind_shortests (length (range_with_len 0 (length outputs))) in
-      ap (λ (k : ℕ). with_wires (behind_shortests k) (last_wires (behind_shortests k))) (sym (range_length 0 (length outputs)))
-      ∙ ap (λ (ws : List Wire). with_wires f ws)
-      (append_assoc (map (shortest_wire_in f streams graphs) (placed (whole true))) (map (joint_wire_in f) (placed (whole true))) (map (mux_wire_in f) (placed (whole true))))
+  pub plan_is : plan_in heads graphs (placed whole) (length outputs) texts ≡ plan_of whole
+  plan_is =
+      ap with_wires
+      (append_assoc (map (shortest_wire_in firsts streams graphs) (placed whole)) (map (enc_wire_in firsts) (placed whole)) (map (mux_wire_in firsts) (placed whole)))
 
   -- by what the calls gave
-  pub plan_by : (joint : Bool) (gs : List Laid) (ps : List Placed) (n : ℕ) → gs ≡ graphs → ps ≡ place_from 0 0 outputs → n ≡ length outputs → plan_in heads joint gs ps n texts ≡ plan_of (whole joint)
-  plan_by joint gs ps n g p e =
-      ap (λ (l : List Laid). plan_in heads joint l ps n texts) g
-      ∙ (ap (λ (l : List Placed). plan_in heads joint graphs l n texts) p ∙ (ap (λ (k : ℕ). plan_in heads joint graphs (place_from 0 0 outputs) k texts) e ∙ plan_is joint))
+  pub plan_by : (gs : List Laid) (ps : List Placed) (n : ℕ) → gs ≡ graphs → ps ≡ place_from 0 0 outputs → n ≡ length outputs → plan_in heads gs ps n texts ≡ plan_of whole
+  plan_by gs ps n g p e =
+      ap (λ (l : List Laid). plan_in heads l ps n texts) g
+      ∙ (ap (λ (l : List Placed). plan_in heads graphs l n texts) p ∙ (ap (λ (k : ℕ). plan_in heads graphs (place_from 0 0 outputs) k texts) e ∙ plan_is))
 
 -- by what was drawn
-pub drawn_by : (heads : List (List StreamHead)) (graphs : List Laid) (joint : Bool) (ps : List Placed) (n sources : ℕ) (texts whole : List GraphText) (is : List ℕ) (ss : List Stream) (d : Drawing) (r : Routes)
-    → d ≡ drawing_of is ss graphs joint ps n → is ≡ inputs_in heads graphs ps → ss ≡ streams_in heads graphs ps → r ≡ routes_in sources graphs ps → sources ≡ length heads → whole ≡ texts
-    → with_drawing d r whole ≡ plan_in heads joint graphs ps n texts
-drawn_by heads graphs joint ps n sources texts whole is ss d r drawn i s ways count same =
-    let drawing = drawing_of (inputs_in heads graphs ps) (streams_in heads graphs ps) graphs joint ps n in
-    ap (λ (x : Drawing). with_drawing x r whole) (drawn ∙ (ap (λ (l : List ℕ). drawing_of l ss graphs joint ps n) i ∙ ap (λ (l : List Stream). drawing_of (inputs_in heads graphs ps) l graphs joint ps n) s))
+pub drawn_by : (heads : List (List StreamHead)) (graphs : List Laid) (ps : List Placed) (n sources : ℕ) (texts whole : List GraphText) (is : List ℕ) (ss : List Stream) (d : Drawing) (r : Routes)
+    → d ≡ drawing_of is ss graphs ps n → is ≡ inputs_in heads graphs ps → ss ≡ streams_in heads graphs ps → r ≡ routes_in sources graphs ps → sources ≡ length heads → whole ≡ texts
+    → with_drawing d r whole ≡ plan_in heads graphs ps n texts
+drawn_by heads graphs ps n sources texts whole is ss d r drawn i s ways count same =
+    let drawing = drawing_of (inputs_in heads graphs ps) (streams_in heads graphs ps) graphs ps n in
+    ap (λ (x : Drawing). with_drawing x r whole) (drawn ∙ (ap (λ (l : List ℕ). drawing_of l ss graphs ps n) i ∙ ap (λ (l : List Stream). drawing_of (inputs_in heads graphs ps) l graphs ps n) s))
     ∙ (ap (λ (x : Routes). with_drawing drawing x whole) (ways ∙ ap (λ (k : ℕ). routes_in k graphs ps) count)
     ∙ ap (λ (t : List GraphText). with_drawing drawing (routes_in (length heads) graphs ps) t) same)

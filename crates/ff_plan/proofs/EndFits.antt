@@ -13,34 +13,37 @@ use Rattle.ff_map.specs.declared.streams.Stream.{Stream}
 use Rattle.ff_frame.specs.declared.head.StreamHead.{StreamHead}
 use Rattle.ff_words.specs.declared.job.Job.{Job}
 use Rattle.ff_words.specs.declared.job.OutputJob.{OutputJob}
-use Rattle.ff_plan.specs.declared.layout.InPad.{InPad}
-use Rattle.ff_plan.specs.declared.layout.OutStream.{OutStream}
-use Rattle.ff_plan.specs.declared.layout.Placed.{Placed}
+use Rattle.ff_plan_layout.specs.declared.layout.InPad.{InPad}
+use Rattle.ff_plan_layout.specs.declared.layout.OutStream.{OutStream}
+use Rattle.ff_plan_layout.specs.declared.layout.Placed.{Placed}
 use Rattle.ff_plan.specs.declared.planned.Plan.{Plan}
 use Rattle.ff_plan.specs.declared.planned.PlanNode.{PlanNode}
 use Rattle.ff_plan.specs.declared.planned.PlanNode.TheVariants as node
 use Rattle.ff_plan.specs.EndFits.{FitsEnd, EndsFit}
-use Rattle.ff_plan.specs.Labels.{taken_labels}
-use Rattle.ff_plan.specs.Laws.{IsLaid}
-use Rattle.ff_plan.specs.Layout.{IsAmong, Laid, Layout, place_row, place_from, placed, used, used_inputs}
-use Rattle.ff_plan.specs.Nodes.{before_decs, before_graphs, before_shortests, before_encs, before_muxes, shortests, output_numbers, nodes_of, demux_wire, pad_wire, pad_wires, shortest_wire, enc_wire, mux_wire, shortest_wires, wires_of, plan_of}
-use Rattle.ff_plan.specs.Order.{numbers}
-use Rattle.ff_plan.specs.Pads.{unlabelled}
-use Rattle.ff_plan.specs.Planned.{labels_of, graphs_of, layout_of, laid_out, planned}
-use Rattle.ff_plan.specs.Rules.{Rules}
-use Rattle.ff_plan.specs.Streams.{Inside, Passed, graph_of, packed_as}
+use Rattle.ff_plan_layout.specs.Labels.{taken_labels}
+use Rattle.ff_plan_layout.specs.declared.layout.Laid.{Laid}
+use Rattle.ff_plan_layout.specs.Layout.{IsLaid, IsAmong, Layout, place_row, place_from, placed, used, used_inputs}
+use Rattle.ff_plan.specs.Nodes.{before_decs, before_graphs, before_shortests, before_encs, before_muxes, output_numbers, nodes_of, demux_wire, pad_wire, pad_wires, shortest_wire, enc_wire, mux_wire, wires_of, plan_of}
+use Rattle.ff_plan_layout.specs.Order.{numbers}
+use Rattle.ff_plan_layout.specs.Pads.{unlabelled}
+use Rattle.ff_plan_layout.specs.LaidOut.{labels_of, graphs_of, layout_of, laid_out}
+use Rattle.ff_plan.specs.Planned.{planned}
+use Rattle.ff_plan_layout.specs.Rules.{Rules}
+use Rattle.ff_plan_layout.specs.declared.layout.Passed.{Passed}
+use Rattle.ff_plan_layout.specs.Streams.{Inside, graph_of, packed_as}
 use Rattle.ff_plan.specs.Wires.{Wire, enters_node, leaves_node, edges_of}
 use Rattle.ff_plan.proofs.Rising.{number_at}
-use Rattle.ff_plan.proofs.Among.{never}
-use Rattle.ff_plan.proofs.Graphed.{Walked, walked, walked_laid, inside_of}
+use Rattle.ff_plan_layout.proofs.Among.{never}
+use Rattle.ff_plan_layout.proofs.Graphed.{Walked, walked, walked_laid, inside_of}
 use Rattle.ff_plan.proofs.GraphFits.{get_either, get_left, get_map, get_right}
 use Rattle.ff_plan.proofs.GraphLanes.{lanes_joined, lanes_none}
-use Rattle.ff_plan.proofs.Kept.{nothing, same_some, at_map, below_at, one_kept}
+use Rattle.ff_plan_layout.proofs.Kept.{nothing, same_some, at_map, below_at, one_kept}
 use Rattle.ff_plan.proofs.Lanes.{wire_lanes, into_is, out_is}
-use Rattle.ff_plan.proofs.Layouts.{demux_below, dec_below, map_length, range_length, row_length, number_in, output_in, graph_below, stream_below, pad_up, wires_next}
-use Rattle.ff_plan.proofs.Outs.{IsPassed, AllPassed, AreOutputs}
-use Rattle.ff_plan.proofs.Results.{same_ok, behind_ok}
-use Rattle.ff_plan.proofs.Steps.{same_test, other_test}
+use Rattle.ff_plan.proofs.Layouts.{demux_below, dec_below, number_in, output_in, graph_below, stream_below, pad_up, wires_next}
+use Rattle.ff_plan_layout.proofs.Sizes.{map_length, range_length, row_length}
+use Rattle.ff_plan_layout.proofs.Outs.{IsPassed, AllPassed, AreOutputs}
+use Rattle.ff_plan_layout.proofs.Results.{same_ok, behind_ok}
+use Rattle.ff_plan_layout.proofs.Tests.{same_test, other_test}
 
 -- ---- the streams of one output among all
 
@@ -130,11 +133,11 @@ module _ (l : Layout) (laid : IsLaid l) where
 
   -- of all wires, by their five rows
   pub five : (q : Wire → Bool) (a b c d e : List Lane) → wire_lanes q (map (demux_wire l) (used l)) ≡ a → wire_lanes q (flat_map (pad_wires l) l.graphs) ≡ b
-      → wire_lanes q (shortest_wires l l.joint) ≡ c → wire_lanes q (map (enc_wire l l.joint) ps) ≡ d → wire_lanes q (map (mux_wire l) ps) ≡ e
+      → wire_lanes q (map (shortest_wire l) ps) ≡ c → wire_lanes q (map (enc_wire l) ps) ≡ d → wire_lanes q (map (mux_wire l) ps) ≡ e
       → wire_lanes q (wires_of l) ≡ a ++ (b ++ (c ++ (d ++ e)))
   five q a b c d e ea eb ec ed ee =
-      let demuxes = map (demux_wire l) (used l) in let pads = flat_map (pad_wires l) l.graphs in let shorts = shortest_wires l l.joint in
-      let encs = map (enc_wire l l.joint) ps in let muxes = map (mux_wire l) ps in
+      let demuxes = map (demux_wire l) (used l) in let pads = flat_map (pad_wires l) l.graphs in let shorts = map (shortest_wire l) ps in
+      let encs = map (enc_wire l) ps in let muxes = map (mux_wire l) ps in
       lanes_joined q demuxes (pads ++ (shorts ++ (encs ++ muxes)))
       ∙ (ap (λ (ls : List Lane). ls ++ wire_lanes q (pads ++ (shorts ++ (encs ++ muxes)))) ea
       ∙ ap (λ (ls : List Lane). a ++ ls) (lanes_joined q pads (shorts ++ (encs ++ muxes))
@@ -164,53 +167,41 @@ module _ (l : Layout) (laid : IsLaid l) where
     pads_out = pads_none (leaves_node k) l.graphs (λ y iy i ii. other_test (pad_wire l y.graph i).from k
         (λ e. (let up = pad_up l laid y iy i ii in let below = up.0 in let lt = graph_below l laid y iy in omega (arith, e, below, lt, high))))
 
-    shorts_out : (b : Bool) → wire_lanes (leaves_node k) (shortest_wires l b) ≡ []
-    shorts_out true = lanes_none (leaves_node k) (shortest_wire l) ps (λ p i. other_test (shortest_wire l p).from k (λ e. (let lt = stream_below l laid p i in omega (arith, e, lt, high))))
-    shorts_out false = refl
+    shorts_out : wire_lanes (leaves_node k) (map (shortest_wire l) ps) ≡ []
+    shorts_out = lanes_none (leaves_node k) (shortest_wire l) ps (λ p i. other_test (shortest_wire l p).from k (λ e. (let lt = stream_below l laid p i in omega (arith, e, lt, high))))
 
     out_lanes : (ls : List Lane) → wire_lanes (leaves_node k) (wires_of l) ≡ ls → lanes_out_of (edges_of (wires_of l)) k ≡ ls
     out_lanes ls e = out_is k (wires_of l) (wires_next l laid k (inr high)) ∙ e
 
-  -- as many Shortest nodes as outputs, where there are any
-  shortest_count : l.joint ≡ true → length (shortests l) ≡ length l.outputs
-  shortest_count e = ap (λ (b : Bool). length (cond b (output_numbers l) [])) e ∙ range_length 0 (length l.outputs)
+  shorts_in_high : (k : ℕ) → before_encs l ≤ k → wire_lanes (enters_node k) (map (shortest_wire l) ps) ≡ []
+  shorts_in_high k le = lanes_none (enters_node k) (shortest_wire l) ps (λ p i. other_test (shortest_wire l p).to k
+      (λ f. (let lt = output_in l p i in omega (arith, f, lt, le))))
 
-  shorts_in_high : (k : ℕ) → before_encs l ≤ k → (b : Bool) → l.joint ≡ b → wire_lanes (enters_node k) (shortest_wires l b) ≡ []
-  shorts_in_high k le true e = lanes_none (enters_node k) (shortest_wire l) ps (λ p i. other_test (shortest_wire l p).to k
-      (λ f. (let lt = output_in l p i in let n = shortest_count e in omega (arith, f, lt, n, le))))
-  shorts_in_high k le false e = refl
-
-  encs_out_high : (k : ℕ) → before_encs l ≤ k → (b : Bool) → l.joint ≡ b → wire_lanes (leaves_node k) (map (enc_wire l b) ps) ≡ []
-  encs_out_high k le true e = lanes_none (leaves_node k) (enc_wire l true) ps (λ p i. other_test (enc_wire l true p).from k
-      (λ f. (let lt = output_in l p i in let n = shortest_count e in omega (arith, f, lt, n, le))))
-  encs_out_high k le false e = lanes_none (leaves_node k) (enc_wire l false) ps (λ p i. other_test (enc_wire l false p).from k (λ f. (let lt = stream_below l laid p i in omega (arith, f, lt, le))))
+  encs_out_high : (k : ℕ) → before_encs l ≤ k → wire_lanes (leaves_node k) (map (enc_wire l) ps) ≡ []
+  encs_out_high k le = lanes_none (leaves_node k) (enc_wire l) ps (λ p i. other_test (enc_wire l p).from k
+      (λ f. (let lt = output_in l p i in omega (arith, f, lt, le))))
 
   -- ---- a Shortest node
 
-  module _ (o : ℕ) (joint : l.joint ≡ true) (lt : o < length l.outputs) where
+  module _ (o : ℕ) (lt : o < length l.outputs) where
     abbrev k : ℕ
     k = before_shortests l + o
 
     below_encs : k < before_encs l
-    below_encs = (let n = shortest_count joint in omega (arith, n, lt))
+    below_encs = omega (arith, lt)
 
-    own_in : (b : Bool) → l.joint ≡ b → wire_lanes (enters_node k) (shortest_wires l b) ≡ map (λ (s : OutStream). Frames s.head) (slice_index_or l.outputs o [])
-    own_in true e =
+    own_in : wire_lanes (enters_node k) (map (shortest_wire l) ps) ≡ map (λ (s : OutStream). Frames s.head) (slice_index_or l.outputs o [])
+    own_in =
         lanes_some (enters_node k) (shortest_wire l) (λ p. p.output == o) ps (λ p. shift_test p.output o (before_shortests l))
         ∙ own_rows (λ (s : OutStream). Frames s.head) o 0 0 o l.outputs (omega arith)
-    own_in false e = absurd (never (sym e ∙ joint))
 
-    own_out : (b : Bool) → l.joint ≡ b → wire_lanes (leaves_node k) (map (enc_wire l b) ps) ≡ map (λ (s : OutStream). Frames s.head) (slice_index_or l.outputs o [])
-    own_out true e =
-        lanes_some (leaves_node k) (enc_wire l true) (λ p. p.output == o) ps (λ p. shift_test p.output o (before_shortests l))
+    own_out : wire_lanes (leaves_node k) (map (enc_wire l) ps) ≡ map (λ (s : OutStream). Frames s.head) (slice_index_or l.outputs o [])
+    own_out =
+        lanes_some (leaves_node k) (enc_wire l) (λ p. p.output == o) ps (λ p. shift_test p.output o (before_shortests l))
         ∙ own_rows (λ (s : OutStream). Frames s.head) o 0 0 o l.outputs (omega arith)
-    own_out false e = absurd (never (sym e ∙ joint))
 
-    encs_in : wire_lanes (enters_node k) (map (enc_wire l l.joint) ps) ≡ []
-    encs_in = step l.joint where
-      step : (b : Bool) → wire_lanes (enters_node k) (map (enc_wire l b) ps) ≡ []
-      step true = lanes_none (enters_node k) (enc_wire l true) ps (λ p i. other_test (enc_wire l true p).to k (λ e. (let b = below_encs in omega (arith, e, b))))
-      step false = lanes_none (enters_node k) (enc_wire l false) ps (λ p i. other_test (enc_wire l false p).to k (λ e. (let b = below_encs in omega (arith, e, b))))
+    encs_in : wire_lanes (enters_node k) (map (enc_wire l) ps) ≡ []
+    encs_in = lanes_none (enters_node k) (enc_wire l) ps (λ p i. other_test (enc_wire l p).to k (λ e. (let b = below_encs in omega (arith, e, b))))
 
     muxes_in : wire_lanes (enters_node k) (map (mux_wire l) ps) ≡ []
     muxes_in = lanes_none (enters_node k) (mux_wire l) ps (λ p i. other_test (mux_wire l p).to k (λ e. (let b = below_encs in omega (arith, e, b))))
@@ -222,13 +213,13 @@ module _ (l : Layout) (laid : IsLaid l) where
     shortest_ins =
         let own = map (λ (s : OutStream). Frames s.head) (slice_index_or l.outputs o []) in
         into_is k (wires_of l)
-        ∙ (five (enters_node k) [] [] own [] [] (demuxes_in k (omega arith)) (pads_in k (omega arith)) (own_in l.joint refl) encs_in muxes_in ∙ append-nil own)
+        ∙ (five (enters_node k) [] [] own [] [] (demuxes_in k (omega arith)) (pads_in k (omega arith)) own_in encs_in muxes_in ∙ append-nil own)
 
     shortest_outs : lanes_out_of (edges_of (wires_of l)) k ≡ map (λ (s : OutStream). Frames s.head) (slice_index_or l.outputs o [])
     shortest_outs =
         let own = map (λ (s : OutStream). Frames s.head) (slice_index_or l.outputs o []) in
         out_lanes k (omega arith) own
-        (five (leaves_node k) [] [] [] own [] (demuxes_out k (omega arith)) (pads_out k (omega arith)) (shorts_out k (omega arith) l.joint) (own_out l.joint refl) muxes_out ∙ append-nil own)
+        (five (leaves_node k) [] [] [] own [] (demuxes_out k (omega arith)) (pads_out k (omega arith)) (shorts_out k (omega arith)) own_out muxes_out ∙ append-nil own)
 
   -- ---- an Enc node
 
@@ -245,11 +236,9 @@ module _ (l : Layout) (laid : IsLaid l) where
     below_muxes : e_node < before_muxes l
     below_muxes = (let lt = below_at p ps i at in omega (arith, lt))
 
-    enc_in : (b : Bool) → wire_lanes (enters_node e_node) (map (enc_wire l b) ps) ≡ Frames p.what.head ∷ []
-    enc_in true =
-        lanes_some (enters_node e_node) (enc_wire l true) (λ q. q.number == i) ps (λ q. shift_test q.number i (before_encs l)) ∙ ap (λ (qs : List Placed). map (λ (q : Placed). Frames q.what.head) qs) one_there
-    enc_in false =
-        lanes_some (enters_node e_node) (enc_wire l false) (λ q. q.number == i) ps (λ q. shift_test q.number i (before_encs l)) ∙ ap (λ (qs : List Placed). map (λ (q : Placed). Frames q.what.head) qs) one_there
+    enc_in : wire_lanes (enters_node e_node) (map (enc_wire l) ps) ≡ Frames p.what.head ∷ []
+    enc_in =
+        lanes_some (enters_node e_node) (enc_wire l) (λ q. q.number == i) ps (λ q. shift_test q.number i (before_encs l)) ∙ ap (λ (qs : List Placed). map (λ (q : Placed). Frames q.what.head) qs) one_there
 
     enc_out : wire_lanes (leaves_node e_node) (map (mux_wire l) ps) ≡ Packets p.what.packed ∷ []
     enc_out = lanes_some (leaves_node e_node) (mux_wire l) (λ q. q.number == i) ps (λ q. shift_test q.number i (before_encs l)) ∙ ap (λ (qs : List Placed). map (λ (q : Placed). Packets q.what.packed) qs) one_there
@@ -259,12 +248,12 @@ module _ (l : Layout) (laid : IsLaid l) where
 
     enc_ins : lanes_into (edges_of (wires_of l)) e_node ≡ Frames p.what.head ∷ []
     enc_ins = into_is e_node (wires_of l)
-        ∙ five (enters_node e_node) [] [] [] (Frames p.what.head ∷ []) [] (demuxes_in e_node (omega arith)) (pads_in e_node (omega arith)) (shorts_in_high e_node (omega arith) l.joint refl) (enc_in l.joint) enc_muxes_in
+        ∙ five (enters_node e_node) [] [] [] (Frames p.what.head ∷ []) [] (demuxes_in e_node (omega arith)) (pads_in e_node (omega arith)) (shorts_in_high e_node (omega arith)) enc_in enc_muxes_in
 
     enc_outs : lanes_out_of (edges_of (wires_of l)) e_node ≡ Packets p.what.packed ∷ []
     enc_outs = out_lanes e_node (omega arith) (Packets p.what.packed ∷ [])
-        (five (leaves_node e_node) [] [] [] [] (Packets p.what.packed ∷ []) (demuxes_out e_node (omega arith)) (pads_out e_node (omega arith)) (shorts_out e_node (omega arith) l.joint)
-        (encs_out_high e_node (omega arith) l.joint refl) enc_out)
+        (five (leaves_node e_node) [] [] [] [] (Packets p.what.packed ∷ []) (demuxes_out e_node (omega arith)) (pads_out e_node (omega arith)) (shorts_out e_node (omega arith))
+        (encs_out_high e_node (omega arith)) enc_out)
 
   -- ---- a Mux node
 
@@ -277,9 +266,8 @@ module _ (l : Layout) (laid : IsLaid l) where
         lanes_some (enters_node m_node) (mux_wire l) (λ p. p.output == o) ps (λ p. shift_test p.output o (before_muxes l))
         ∙ own_rows (λ (s : OutStream). Packets s.packed) o 0 0 o l.outputs (omega arith)
 
-    mux_encs_in : (b : Bool) → wire_lanes (enters_node m_node) (map (enc_wire l b) ps) ≡ []
-    mux_encs_in true = lanes_none (enters_node m_node) (enc_wire l true) ps (λ p i. other_test (enc_wire l true p).to m_node (λ e. (let lt = number_in l p i in omega (arith, e, lt))))
-    mux_encs_in false = lanes_none (enters_node m_node) (enc_wire l false) ps (λ p i. other_test (enc_wire l false p).to m_node (λ e. (let lt = number_in l p i in omega (arith, e, lt))))
+    mux_encs_in : wire_lanes (enters_node m_node) (map (enc_wire l) ps) ≡ []
+    mux_encs_in = lanes_none (enters_node m_node) (enc_wire l) ps (λ p i. other_test (enc_wire l p).to m_node (λ e. (let lt = number_in l p i in omega (arith, e, lt))))
 
     mux_out : wire_lanes (leaves_node m_node) (map (mux_wire l) ps) ≡ []
     mux_out = lanes_none (leaves_node m_node) (mux_wire l) ps (λ p i. other_test (mux_wire l p).from m_node (λ e. (let lt = number_in l p i in omega (arith, e, lt))))
@@ -287,11 +275,11 @@ module _ (l : Layout) (laid : IsLaid l) where
     mux_ins : lanes_into (edges_of (wires_of l)) m_node ≡ map (λ (s : OutStream). Packets s.packed) (slice_index_or l.outputs o [])
     mux_ins = into_is m_node (wires_of l)
         ∙ five (enters_node m_node) [] [] [] [] (map (λ (s : OutStream). Packets s.packed) (slice_index_or l.outputs o [])) (demuxes_in m_node (omega arith)) (pads_in m_node (omega arith))
-        (shorts_in_high m_node (omega arith) l.joint refl) (mux_encs_in l.joint) mux_in
+        (shorts_in_high m_node (omega arith)) mux_encs_in mux_in
 
     mux_outs : lanes_out_of (edges_of (wires_of l)) m_node ≡ []
     mux_outs = out_lanes m_node (omega arith) []
-        (five (leaves_node m_node) [] [] [] [] [] (demuxes_out m_node (omega arith)) (pads_out m_node (omega arith)) (shorts_out m_node (omega arith) l.joint) (encs_out_high m_node (omega arith) l.joint refl) mux_out)
+        (five (leaves_node m_node) [] [] [] [] [] (demuxes_out m_node (omega arith)) (pads_out m_node (omega arith)) (shorts_out m_node (omega arith)) (encs_out_high m_node (omega arith)) mux_out)
 
 -- ---- packets are those of frames
 
@@ -331,16 +319,16 @@ pub data IsAt (l : Layout) (k : ℕ) (d : PlanNode) : Type 0 where
   In_demuxes : (i r : ℕ) → node.Demux i ≡ d → k ≡ r → slice_get (used_inputs l) r ≡ Some i → IsAt l k d
   In_decs : (s : Stream) (r : ℕ) → node.Dec s.at ≡ d → k ≡ before_decs l + r → slice_get (used l) r ≡ Some s → IsAt l k d
   In_graphs : (x : Laid) (r : ℕ) → node.Graph x.graph ≡ d → k ≡ before_graphs l + r → slice_get l.graphs r ≡ Some x → IsAt l k d
-  In_shortests : (o r : ℕ) → node.Shortest o ≡ d → k ≡ before_shortests l + r → slice_get (shortests l) r ≡ Some o → IsAt l k d
+  In_shortests : (o r : ℕ) → node.Shortest o ≡ d → k ≡ before_shortests l + r → slice_get (output_numbers l) r ≡ Some o → IsAt l k d
   In_encs : (p : Placed) (r : ℕ) → node.Enc p.output p.stream ≡ d → k ≡ before_encs l + r → slice_get (placed l) r ≡ Some p → IsAt l k d
   In_muxes : (o r : ℕ) → node.Mux o ≡ d → k ≡ before_muxes l + r → slice_get (output_numbers l) r ≡ Some o → IsAt l k d
 
 pub is_at : (l : Layout) (k : ℕ) (d : PlanNode) → slice_get (nodes_of l) k ≡ Some d → IsAt l k d
 is_at l k d e =
     let a = map (λ i. node.Demux i) (used_inputs l) in let b = map (λ (s : Stream). node.Dec s.at) (used l) in let c = map (λ (x : Laid). node.Graph x.graph) l.graphs in
-    let f = map (λ o. node.Shortest o) (shortests l) in let g = map (λ (p : Placed). node.Enc p.output p.stream) (placed l) in let h = map (λ o. node.Mux o) (output_numbers l) in
+    let f = map (λ o. node.Shortest o) (output_numbers l) in let g = map (λ (p : Placed). node.Enc p.output p.stream) (placed l) in let h = map (λ o. node.Mux o) (output_numbers l) in
     let la = map_length (λ i. node.Demux i) (used_inputs l) in let lb = map_length (λ (s : Stream). node.Dec s.at) (used l) in let lc = map_length (λ (x : Laid). node.Graph x.graph) l.graphs in
-    let lf = map_length (λ o. node.Shortest o) (shortests l) in let lg = map_length (λ (p : Placed). node.Enc p.output p.stream) (placed l) in
+    let lf = map_length (λ o. node.Shortest o) (output_numbers l) in let lr = range_length 0 (length l.outputs) in let lg = map_length (λ (p : Placed). node.Enc p.output p.stream) (placed l) in
     elim (get_either a (b ++ (c ++ (f ++ (g ++ h)))) k d e) [
       | inl x ↦ (let y = at_map (λ i. node.Demux i) (used_inputs l) k d x in In_demuxes y.0 k y.2 refl y.1)
       | inr r1 ↦ elim (get_either b (c ++ (f ++ (g ++ h))) r1.0 d r1.2) [
@@ -348,13 +336,13 @@ is_at l k d e =
         | inr r2 ↦ elim (get_either c (f ++ (g ++ h)) r2.0 d r2.2) [
           | inl x ↦ (let y = at_map (λ (x : Laid). node.Graph x.graph) l.graphs r2.0 d x in let n1 = r1.1 in let n2 = r2.1 in In_graphs y.0 r2.0 y.2 (omega (arith, n1, n2, la, lb)) y.1)
           | inr r3 ↦ elim (get_either f (g ++ h) r3.0 d r3.2) [
-            | inl x ↦ (let y = at_map (λ o. node.Shortest o) (shortests l) r3.0 d x in let n1 = r1.1 in let n2 = r2.1 in let n3 = r3.1 in
+            | inl x ↦ (let y = at_map (λ o. node.Shortest o) (output_numbers l) r3.0 d x in let n1 = r1.1 in let n2 = r2.1 in let n3 = r3.1 in
                 In_shortests y.0 r3.0 y.2 (omega (arith, n1, n2, n3, la, lb, lc)) y.1)
             | inr r4 ↦ elim (get_either g h r4.0 d r4.2) [
               | inl x ↦ (let y = at_map (λ (p : Placed). node.Enc p.output p.stream) (placed l) r4.0 d x in let n1 = r1.1 in let n2 = r2.1 in let n3 = r3.1 in let n4 = r4.1 in
-                  In_encs y.0 r4.0 y.2 (omega (arith, n1, n2, n3, n4, la, lb, lc, lf)) y.1)
+                  In_encs y.0 r4.0 y.2 (omega (arith, n1, n2, n3, n4, la, lb, lc, lf, lr)) y.1)
               | inr r5 ↦ (let y = at_map (λ o. node.Mux o) (output_numbers l) r5.0 d r5.2 in let n1 = r1.1 in let n2 = r2.1 in let n3 = r3.1 in let n4 = r4.1 in let n5 = r5.1 in
-                  In_muxes y.0 r5.0 y.2 (omega (arith, n1, n2, n3, n4, n5, la, lb, lc, lf, lg)) y.1)
+                  In_muxes y.0 r5.0 y.2 (omega (arith, n1, n2, n3, n4, n5, la, lb, lc, lf, lr, lg)) y.1)
             ]
           ]
         ]
@@ -407,7 +395,7 @@ spot_of n o (row ∷ rows) (suc i) j lt =
 pub enc_there : (l : Layout) (r : ℕ) (p : Placed) → slice_get (placed l) r ≡ Some p → (e : ℕ) × (slice_get (nodes_of l) e ≡ Some (node.Enc p.output p.stream))
 enc_there l r p at =
     let a = map (λ i. node.Demux i) (used_inputs l) in let b = map (λ (s : Stream). node.Dec s.at) (used l) in let c = map (λ (x : Laid). node.Graph x.graph) l.graphs in
-    let f = map (λ o. node.Shortest o) (shortests l) in let g = map (λ (p : Placed). node.Enc p.output p.stream) (placed l) in let h = map (λ o. node.Mux o) (output_numbers l) in
+    let f = map (λ o. node.Shortest o) (output_numbers l) in let g = map (λ (p : Placed). node.Enc p.output p.stream) (placed l) in let h = map (λ o. node.Mux o) (output_numbers l) in
     let last = get_left g h r (node.Enc p.output p.stream) (get_map (λ (p : Placed). node.Enc p.output p.stream) (placed l) r p at) in
     let e1 = length f + r in let e2 = length c + e1 in let e3 = length b + e2 in let e4 = length a + e3 in (
       e4,
@@ -456,15 +444,14 @@ module _ (rules : Rules) (job : Job) (heads : List (List StreamHead)) (l : Layou
   abbrev Fit : ℕ → PlanNode → Type 0
   Fit k d = FitsEnd job.outputs by_output (edges_of (wires_of whole)) k d
 
-  shortest_fit : (k o r : ℕ) (b : Bool) → whole.joint ≡ b → k ≡ before_shortests whole + r → slice_get (cond b (output_numbers whole) []) r ≡ Some o → Fit k (node.Shortest o)
-  shortest_fit k o r false e place_ at = absurd (nothing o at)
-  shortest_fit k o r true e place_ at =
+  shortest_fit : (k o r : ℕ) → k ≡ before_shortests whole + r → slice_get (output_numbers whole) r ≡ Some o → Fit k (node.Shortest o)
+  shortest_fit k o r place_ at =
       let number = number_at 0 (length whole.outputs) r o at in
       let long = range_length 0 (length whole.outputs) in let below = below_at o (output_numbers whole) r at in
       let lt : o < length whole.outputs = omega (arith, number, long, below) in
       let same : before_shortests whole + o ≡ k = omega (arith, place_, number) in
       let lanes = frames_of (row o) ∙ ap (λ (hs : List StreamHead). map (λ (h : StreamHead). Frames h) hs) (sym (heads_are o)) in
-      subst (λ (i : ℕ). Fit i (node.Shortest o)) same (record { ins = shortest_ins whole laid_whole o e lt ∙ lanes; outs = shortest_outs whole laid_whole o e lt ∙ lanes })
+      subst (λ (i : ℕ). Fit i (node.Shortest o)) same (record { ins = shortest_ins whole laid_whole o lt ∙ lanes; outs = shortest_outs whole laid_whole o lt ∙ lanes })
 
   enc_fit : (k r : ℕ) (p : Placed) → k ≡ before_encs whole + r → slice_get (placed whole) r ≡ Some p → Fit k (node.Enc p.output p.stream)
   enc_fit k r p place_ at =
@@ -500,7 +487,7 @@ module _ (rules : Rules) (job : Job) (heads : List (List StreamHead)) (l : Layou
   at_fit k d (In_demuxes i r e place_ at) = subst (Fit k) e tt
   at_fit k d (In_decs s r e place_ at) = subst (Fit k) e tt
   at_fit k d (In_graphs x r e place_ at) = subst (Fit k) e tt
-  at_fit k d (In_shortests o r e place_ at) = subst (Fit k) e (shortest_fit k o r whole.joint refl place_ at)
+  at_fit k d (In_shortests o r e place_ at) = subst (Fit k) e (shortest_fit k o r place_ at)
   at_fit k d (In_encs p r e place_ at) = subst (Fit k) e (enc_fit k r p place_ at)
   at_fit k d (In_muxes o r e place_ at) = subst (Fit k) e (mux_fit k o r place_ at)
 

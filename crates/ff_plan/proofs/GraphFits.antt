@@ -5,8 +5,8 @@ use Rattle.ff_map.specs.declared.streams.Stream.{Stream}
 use Rattle.ff_plan.specs.declared.planned.Plan.{Plan}
 use Rattle.ff_plan.specs.declared.planned.PlanNode.{PlanNode}
 use Rattle.ff_plan.specs.declared.planned.PlanNode.TheVariants as node
-use Rattle.ff_plan.specs.Labels.{taken_labels}
-use Rattle.ff_plan.proofs.Results.{same_ok, behind_ok}
+use Rattle.ff_plan_layout.specs.Labels.{taken_labels}
+use Rattle.ff_plan_layout.proofs.Results.{same_ok, behind_ok}
 use Rattle.std.specs.List.{AllByRecursion, list_any, filter_map, flat_map, cons_option, range_with_len}
 use Rattle.ff_stream.specs.edges.Ports.{tally}
 use Rattle.ff_stream.specs.declared.item.Lane.{Lane}
@@ -17,34 +17,41 @@ use Rattle.ff_frame.specs.declared.head.StreamHead.{StreamHead}
 use Rattle.ff_graph_links.specs.labels.Order.{ComeInOrder, HasNoLoop, graph_order, feeds, is_in}
 use Rattle.ff_words.specs.declared.job.Job.{Job}
 use Rattle.ff_words.specs.declared.job.OutputJob.{OutputJob}
-use Rattle.ff_plan.specs.declared.layout.InPad.{InPad}
-use Rattle.ff_plan.specs.declared.layout.Origin.{Origin}
-use Rattle.ff_plan.specs.declared.layout.Origin.TheVariants as origin
-use Rattle.ff_plan.specs.declared.layout.OutStream.{OutStream}
-use Rattle.ff_plan.specs.declared.layout.Placed.{Placed}
-use Rattle.ff_plan.specs.Choice.{kind_of}
-use Rattle.ff_plan.specs.Graphs.{AreRules}
+use Rattle.ff_plan_layout.specs.declared.layout.InPad.{InPad}
+use Rattle.ff_plan_layout.specs.declared.layout.Origin.{Origin}
+use Rattle.ff_plan_layout.specs.declared.layout.Origin.TheVariants as origin
+use Rattle.ff_plan_layout.specs.declared.layout.OutStream.{OutStream}
+use Rattle.ff_plan_layout.specs.declared.layout.Placed.{Placed}
+use Rattle.ff_plan_layout.specs.Choice.{kind_of}
+use Rattle.ff_plan_layout.specs.Graphs.{AreRules}
 use Rattle.ff_plan.specs.GraphFits.{FitsGraph, GraphsFit}
-use Rattle.ff_plan.specs.Texts.{GraphText, Complex, simple_in, graph_text, simple_or_null, texts_of_laid, texts_of_row, texts_from}
-use Rattle.ff_plan.specs.Laws.{IsLaid}
-use Rattle.ff_plan.specs.Layout.{IsAmong, Laid, Layout, placed, used, used_inputs}
-use Rattle.ff_plan.specs.Nodes.{before_graphs, before_shortests, shortests, output_numbers, nodes_of, wires_of, plan_of}
-use Rattle.ff_plan.specs.Order.{numbers}
-use Rattle.ff_plan.specs.Pads.{Want, Made, all_wants, made_at, pad_in, head_in, unlabelled}
-use Rattle.ff_plan.specs.Planned.{labels_of, graphs_of, layout_of, laid_out, planned}
-use Rattle.ff_plan.specs.Rules.{Rules, OpenOut}
-use Rattle.ff_plan.specs.Streams.{Inside, Passed, graph_of, null_graph, simple_of}
+use Rattle.ff_plan_layout.specs.declared.layout.GraphText.{GraphText}
+use Rattle.ff_plan_layout.specs.declared.layout.GraphText.TheVariants.{Complex}
+use Rattle.ff_plan_layout.specs.Texts.{simple_in, graph_text, simple_or_null, texts_of_laid, texts_of_row, texts_from}
+use Rattle.ff_plan_layout.specs.declared.layout.Laid.{Laid}
+use Rattle.ff_plan_layout.specs.Layout.{IsLaid, IsAmong, Layout, placed, used, used_inputs}
+use Rattle.ff_plan.specs.Nodes.{before_graphs, before_shortests, output_numbers, nodes_of, wires_of, plan_of}
+use Rattle.ff_plan_layout.specs.Order.{numbers}
+use Rattle.ff_plan_layout.specs.declared.layout.Want.{Want}
+use Rattle.ff_plan_layout.specs.declared.layout.Made.{Made}
+use Rattle.ff_plan_layout.specs.Pads.{all_wants, made_at, pad_in, head_in, unlabelled}
+use Rattle.ff_plan_layout.specs.LaidOut.{labels_of, graphs_of, layout_of, laid_out}
+use Rattle.ff_plan.specs.Planned.{planned}
+use Rattle.ff_plan_layout.specs.declared.open_pads.OpenOut.{OpenOut}
+use Rattle.ff_plan_layout.specs.Rules.{Rules}
+use Rattle.ff_plan_layout.specs.declared.layout.Passed.{Passed}
+use Rattle.ff_plan_layout.specs.Streams.{Inside, graph_of, null_graph, simple_of}
 use Rattle.ff_plan.specs.Wires.{edges_of}
-use Rattle.ff_plan.proofs.Among.{never, all_map, among_either, among_left, among_right, among_flat, among_map, each_of, of_flat}
-use Rattle.ff_plan.proofs.Counts.{below_range, tally_any, tally_joined, tally_among}
-use Rattle.ff_plan.proofs.Graphed.{Stands, Walked, walked, walked_laid, inside_of, ins_from, of_map}
+use Rattle.ff_plan_layout.proofs.Among.{never, all_map, among_either, among_left, among_right, among_flat, among_map, each_of, of_flat}
+use Rattle.ff_plan_layout.proofs.Counts.{below_range, tally_any, tally_joined, tally_among}
+use Rattle.ff_plan_layout.proofs.Graphed.{Stands, Walked, walked, walked_laid, inside_of, ins_from, of_map}
 use Rattle.ff_plan.proofs.GraphLanes.{into_graph, out_of_graph}
-use Rattle.ff_plan.proofs.Kept.{nothing, same_some, among_at, at_map, below_at}
-use Rattle.ff_plan.proofs.Layouts.{map_length, range_length, nat_self, place_holds}
-use Rattle.ff_plan.proofs.Made.{Comes, comes_left}
-use Rattle.ff_plan.proofs.Numbered.{tally_hit}
-use Rattle.ff_plan.proofs.Once.{in_all, had, clear_at}
-use Rattle.ff_plan.proofs.Outs.{IsFiltered, IsPassed, AllPassed, AreOutputs, Passes}
+use Rattle.ff_plan_layout.proofs.Kept.{nothing, same_some, among_at, at_map, below_at}
+use Rattle.ff_plan_layout.proofs.Sizes.{map_length, range_length, place_holds}
+use Rattle.ff_plan_layout.proofs.Tests.{nat_self, tally_hit}
+use Rattle.ff_plan_layout.proofs.Makings.{Comes, comes_left}
+use Rattle.ff_plan_layout.proofs.Once.{in_all, had, clear_at}
+use Rattle.ff_plan_layout.proofs.Outs.{IsFiltered, IsPassed, AllPassed, AreOutputs, Passes}
 use Rattle.ff_plan.proofs.Ported.{stands, passing, simple_numbers, complex_count, simple_count, numbered_once}
 
 -- ---- which pad a source is
@@ -487,7 +494,7 @@ pub graph_node : (l : Layout) (k g : ℕ) → slice_get (nodes_of l) k ≡ Some 
     → (before_graphs l ≤ k) × (k < before_shortests l) × ((x : Laid) × (slice_get l.graphs (k - before_graphs l) ≡ Some x) × (x.graph ≡ g))
 graph_node l k g e =
     let a = map (λ i. node.Demux i) (used_inputs l) in let b = map (λ (s : Stream). node.Dec s.at) (used l) in let c = map (λ (x : Laid). node.Graph x.graph) l.graphs in
-    let d = map (λ o. node.Shortest o) (shortests l) in let f = map (λ (p : Placed). node.Enc p.output p.stream) (placed l) in let h = map (λ o. node.Mux o) (output_numbers l) in
+    let d = map (λ o. node.Shortest o) (output_numbers l) in let f = map (λ (p : Placed). node.Enc p.output p.stream) (placed l) in let h = map (λ o. node.Mux o) (output_numbers l) in
     let la = map_length (λ i. node.Demux i) (used_inputs l) in let lb = map_length (λ (s : Stream). node.Dec s.at) (used l) in
     elim (get_either a (b ++ (c ++ (d ++ (f ++ h)))) k (node.Graph g) e) [
       | inl x ↦ absurd (not_here (λ i. node.Demux i) g (λ i t. t) (used_inputs l) k x)
@@ -499,7 +506,7 @@ graph_node l k g e =
               let same : r2.0 ≡ k - before_graphs l = omega (arith, n1, n2, la, lb) in
               (omega (arith, n1, n2, la, lb), omega (arith, n1, n2, la, lb, lt), (y.0, ap (λ (i : ℕ). slice_get l.graphs i) (sym same) ∙ y.1, ap graph_of_node y.2)))
           | inr r3 ↦ elim (get_either d (f ++ h) r3.0 (node.Graph g) r3.2) [
-            | inl x ↦ absurd (not_here (λ o. node.Shortest o) g (λ o t. t) (shortests l) r3.0 x)
+            | inl x ↦ absurd (not_here (λ o. node.Shortest o) g (λ o t. t) (output_numbers l) r3.0 x)
             | inr r4 ↦ elim (get_either f h r4.0 (node.Graph g) r4.2) [
               | inl x ↦ absurd (not_here (λ (p : Placed). node.Enc p.output p.stream) g (λ p t. t) (placed l) r4.0 x)
               | inr r5 ↦ absurd (not_here (λ o. node.Mux o) g (λ o t. t) (output_numbers l) r5.0 r5.2)

@@ -9,26 +9,25 @@ use Rattle.ff_stream.specs.edges.Ports.{tally, HasOuts, at_ports, edge_from, lan
 use Rattle.ff_stream.specs.declared.item.Lane.{Lane}
 use Rattle.ff_stream.specs.declared.item.Lane.TheVariants.{Frames}
 use Rattle.ff_frame.specs.declared.head.StreamHead.{StreamHead}
-use Rattle.ff_plan.specs.declared.layout.InPad.{InPad}
-use Rattle.ff_plan.specs.declared.layout.Origin.{Origin}
-use Rattle.ff_plan.specs.declared.layout.Origin.TheVariants as origin
-use Rattle.ff_plan.specs.declared.layout.Placed.{Placed}
-use Rattle.ff_plan.specs.Laws.{IsLaid}
-use Rattle.ff_plan.specs.Layout.{IsAmong, Laid, Layout, placed, used, origins}
-use Rattle.ff_plan.specs.Nodes.{before_graphs, before_shortests, graph_at, origin_at, origin_port, demux_wire, pad_wire, pad_wires, shortest_wire, enc_wire, mux_wire, shortest_wires, wires_of}
-use Rattle.ff_plan.specs.Rules.{OpenOut}
+use Rattle.ff_plan_layout.specs.declared.layout.InPad.{InPad}
+use Rattle.ff_plan_layout.specs.declared.layout.Origin.{Origin}
+use Rattle.ff_plan_layout.specs.declared.layout.Origin.TheVariants as origin
+use Rattle.ff_plan_layout.specs.declared.layout.Placed.{Placed}
+use Rattle.ff_plan_layout.specs.declared.layout.Laid.{Laid}
+use Rattle.ff_plan_layout.specs.Layout.{IsLaid, IsAmong, Layout, placed, used, origins}
+use Rattle.ff_plan.specs.Nodes.{before_graphs, before_shortests, graph_at, origin_at, origin_port, demux_wire, pad_wire, pad_wires, shortest_wire, enc_wire, mux_wire, wires_of}
+use Rattle.ff_plan_layout.specs.declared.open_pads.OpenOut.{OpenOut}
 use Rattle.ff_plan.specs.Wires.{Wire, port_or, leaves_node, enters_node, edges_behind, edges_of}
-use Rattle.ff_plan.proofs.Among.{all_joined, all_map, all_flat}
-use Rattle.ff_plan.proofs.Counts.{once_length, tally_among}
+use Rattle.ff_plan_layout.proofs.Among.{all_joined, all_map, all_flat}
+use Rattle.ff_plan_layout.proofs.Counts.{once_length, tally_among}
 use Rattle.ff_plan.proofs.GraphWires.{of_graph, graph_test, stream_test, pad_test, are_named, node_outs, all_named, pads_count, pads_of}
-use Rattle.ff_plan.proofs.Kept.{nothing, same_some, among_at, below_at}
+use Rattle.ff_plan_layout.proofs.Kept.{nothing, same_some, among_at, below_at}
 use Rattle.ff_plan.proofs.Lanes.{wire_lanes, into_is, at_ports_is, mapped}
-use Rattle.ff_plan.proofs.Layouts.{demux_below, dec_below, nat_self}
+use Rattle.ff_plan.proofs.Layouts.{demux_below, dec_below}
+use Rattle.ff_plan_layout.proofs.Tests.{nat_self, is_same, not_same, tally_hit, tally_miss, same_test, other_test}
 use Rattle.ff_plan.proofs.Named.{named_count}
-use Rattle.ff_plan.proofs.Numbered.{is_same, not_same, tally_hit, tally_miss}
-use Rattle.ff_plan.proofs.Steps.{same_test, other_test}
 use Rattle.ff_plan.proofs.Upward.{first_passes, some_of}
-use Rattle.ff_plan.proofs.Uses.{pad_is}
+use Rattle.ff_plan_layout.proofs.Uses.{pad_is}
 
 -- ---- the lanes of some wires
 
@@ -100,17 +99,16 @@ module _ (l : Layout) (laid : IsLaid l) (k : ℕ) (low : before_graphs l ≤ k) 
       ∙ (ap (λ (ls : List Lane). ls ++ wire_lanes test (flat_map (pad_wires l) gs)) (row_lanes y)
       ∙ ap (λ (ls : List Lane). cond (y.graph == x.graph) (in_lanes y) [] ++ ls) (rows_lanes gs))
 
-  ends_none : (b : Bool) → wire_lanes test (shortest_wires l b) ++ (wire_lanes test (map (enc_wire l b) (placed l)) ++ []) ≡ []
-  ends_none true =
-      ap (λ (ls : List Lane). ls ++ (wire_lanes test (map (enc_wire l true) (placed l)) ++ []))
+  ends_none : wire_lanes test (map (shortest_wire l) (placed l)) ++ (wire_lanes test (map (enc_wire l) (placed l)) ++ []) ≡ []
+  ends_none =
+      ap (λ (ls : List Lane). ls ++ (wire_lanes test (map (enc_wire l) (placed l)) ++ []))
       (lanes_none test (shortest_wire l) (placed l) (λ p i. other_test (shortest_wire l p).to k (λ e. omega (arith, e, high))))
-      ∙ ap (λ (ls : List Lane). ls ++ []) (lanes_none test (enc_wire l true) (placed l) (λ p i. other_test (enc_wire l true p).to k (λ e. omega (arith, e, high))))
-  ends_none false = ap (λ (ls : List Lane). ls ++ []) (lanes_none test (enc_wire l false) (placed l) (λ p i. other_test (enc_wire l false p).to k (λ e. omega (arith, e, high))))
+      ∙ ap (λ (ls : List Lane). ls ++ []) (lanes_none test (enc_wire l) (placed l) (λ p i. other_test (enc_wire l p).to k (λ e. omega (arith, e, high))))
 
   pub into_graph : lanes_into (edges_of (wires_of l)) k ≡ in_lanes x
   into_graph =
-      let demuxes = map (demux_wire l) (used l) in let pads = flat_map (pad_wires l) l.graphs in let shorts = shortest_wires l l.joint in
-      let encs = map (enc_wire l l.joint) (placed l) in let muxes = map (mux_wire l) (placed l) in
+      let demuxes = map (demux_wire l) (used l) in let pads = flat_map (pad_wires l) l.graphs in let shorts = map (shortest_wire l) (placed l) in
+      let encs = map (enc_wire l) (placed l) in let muxes = map (mux_wire l) (placed l) in
       into_is k (wires_of l)
       ∙ (lanes_joined test demuxes (pads ++ (shorts ++ (encs ++ muxes)))
       ∙ (ap (λ (ls : List Lane). ls ++ wire_lanes test (pads ++ (shorts ++ (encs ++ muxes))))
@@ -121,7 +119,7 @@ module _ (l : Layout) (laid : IsLaid l) (k : ℕ) (low : before_graphs l ≤ k) 
       ∙ (ap (λ (ls : List Lane). wire_lanes test shorts ++ ls)
       (lanes_joined test encs muxes ∙ ap (λ (ls : List Lane). wire_lanes test encs ++ ls)
       (lanes_none test (mux_wire l) (placed l) (λ p i. other_test (mux_wire l p).to k (λ e. omega (arith, e, high)))))
-      ∙ ends_none l.joint))
+      ∙ ends_none))
       ∙ (append-nil (wire_lanes test pads)
       ∙ (rows_lanes l.graphs ∙ only_so (λ (y : Laid). y.graph == x.graph) in_lanes l.graphs (k - before_graphs l) x at (nat_self x.graph) one))))))
 
@@ -142,17 +140,16 @@ module _ (l : Layout) (laid : IsLaid l) (k : ℕ) (low : before_graphs l ≤ k) 
         let r = fits p (ap (λ (g : ℕ). origin.Pad g p) same) in
         (p, r.0, refl, r.1, ap (λ (y : StreamHead). Frames y) r.2)
 
-    ends_carry : (b : Bool) → AllByRecursion Carries (shortest_wires l b) × AllByRecursion Carries (map (enc_wire l b) (placed l))
-    ends_carry true = (
+    ends_carry : AllByRecursion Carries (map (shortest_wire l) (placed l)) × AllByRecursion Carries (map (enc_wire l) (placed l))
+    ends_carry = (
       all_map Carries (shortest_wire l) (placed l) (λ p i e. carried p.what.source p.what.head (stream_test l laid k low high x at one p i) (streams_fit p i) e),
-      all_map Carries (enc_wire l true) (placed l) (λ p i e. absurd (omega (arith, e, high))),
+      all_map Carries (enc_wire l) (placed l) (λ p i e. absurd (omega (arith, e, high))),
     )
-    ends_carry false = (tt, all_map Carries (enc_wire l false) (placed l) (λ p i e. carried p.what.source p.what.head (stream_test l laid k low high x at one p i) (streams_fit p i) e))
 
     all_carry : AllByRecursion Carries (wires_of l)
     all_carry =
-        let shorts = shortest_wires l l.joint in let encs = map (enc_wire l l.joint) (placed l) in let muxes = map (mux_wire l) (placed l) in
-        let ends = ends_carry l.joint in
+        let shorts = map (shortest_wire l) (placed l) in let encs = map (enc_wire l) (placed l) in let muxes = map (mux_wire l) (placed l) in
+        let ends = ends_carry in
         all_joined Carries (map (demux_wire l) (used l)) (flat_map (pad_wires l) l.graphs ++ (shorts ++ (encs ++ muxes)))
         (all_map Carries (demux_wire l) (used l) (λ s i e. absurd (let lt = demux_below l s i in omega (arith, e, lt, low))))
         (all_joined Carries (flat_map (pad_wires l) l.graphs) (shorts ++ (encs ++ muxes))

@@ -5,22 +5,22 @@ use Rattle.std.specs.Prelude.{slice_get}
 use Rattle.std.specs.List.{AllByRecursion, flat_map, cons_option, position_or_len}
 use Rattle.ff_stream.specs.edges.Ports.{tally, HasOuts}
 use Rattle.ff_map.specs.declared.streams.StreamRef.{StreamRef}
-use Rattle.ff_plan.specs.declared.layout.InPad.{InPad}
-use Rattle.ff_plan.specs.declared.layout.Origin.{Origin}
-use Rattle.ff_plan.specs.declared.layout.Origin.TheVariants as origin
-use Rattle.ff_plan.specs.declared.layout.Placed.{Placed}
-use Rattle.ff_plan.specs.Laws.{IsThere, IsLaid, IsNamedOf, named_at, EachOnce}
-use Rattle.ff_plan.specs.Layout.{IsAmong, Laid, Layout, placed, used, origins}
-use Rattle.ff_plan.specs.Nodes.{before_graphs, before_shortests, dec_at, graph_at, origin_at, origin_port, demux_wire, pad_wire, pad_wires, shortest_wire, enc_wire, mux_wire, shortest_wires, wires_of}
+use Rattle.ff_plan_layout.specs.declared.layout.InPad.{InPad}
+use Rattle.ff_plan_layout.specs.declared.layout.Origin.{Origin}
+use Rattle.ff_plan_layout.specs.declared.layout.Origin.TheVariants as origin
+use Rattle.ff_plan_layout.specs.declared.layout.Placed.{Placed}
+use Rattle.ff_plan_layout.specs.declared.layout.Laid.{Laid}
+use Rattle.ff_plan_layout.specs.Layout.{IsThere, IsLaid, EachOnce, IsAmong, Layout, placed, used, origins}
+use Rattle.ff_plan.specs.Laws.{IsNamedOf, named_at}
+use Rattle.ff_plan.specs.Nodes.{before_graphs, before_shortests, dec_at, graph_at, origin_at, origin_port, demux_wire, pad_wire, pad_wires, shortest_wire, enc_wire, mux_wire, wires_of}
 use Rattle.ff_plan.specs.Wires.{Wire, edges_of}
-use Rattle.ff_plan.proofs.Among.{all_joined, all_map, all_flat, among_left, among_right, among_map, among_flat}
-use Rattle.ff_plan.proofs.Counts.{once_each}
-use Rattle.ff_plan.proofs.Kept.{place_passes}
-use Rattle.ff_plan.proofs.Layouts.{demux_below, dec_below, is_used_stream, nat_self}
+use Rattle.ff_plan_layout.proofs.Among.{all_joined, all_map, all_flat, among_left, among_right, among_map, among_flat}
+use Rattle.ff_plan_layout.proofs.Counts.{once_each}
+use Rattle.ff_plan_layout.proofs.Kept.{place_passes}
+use Rattle.ff_plan.proofs.Layouts.{demux_below, dec_below, is_used_stream}
+use Rattle.ff_plan_layout.proofs.Tests.{nat_self, is_same, not_same, same_test, other_test}
 use Rattle.ff_plan.proofs.Named.{named_outs}
-use Rattle.ff_plan.proofs.Numbered.{is_same, not_same}
-use Rattle.ff_plan.proofs.Steps.{same_test, other_test}
-use Rattle.ff_plan.proofs.Uses.{pad_is, only_place}
+use Rattle.ff_plan_layout.proofs.Uses.{pad_is, only_place}
 
 -- whether it is a pad of this graph
 abbrev pub of_graph : ℕ → Origin → Bool
@@ -134,17 +134,15 @@ module _ (l : Layout) (laid : IsLaid l) (k : ℕ) (low : before_graphs l ≤ k) 
   muxes_none = none_named k (mux_wire l) (placed l) (λ p i e. omega (arith, e, high))
 
   -- what is joined to the streams of outputs, by Shortest nodes or not
-  ends_named : (b : Bool) → named_at k (shortest_wires l b) ++ (named_at k (map (enc_wire l b) (placed l)) ++ []) ≡ pads_of g out_sources
-  ends_named true =
-      ap (λ (ps : List ℕ). named_at k (map (shortest_wire l) (placed l)) ++ (ps ++ [])) (none_named k (enc_wire l true) (placed l) (λ p i e. omega (arith, e, high)))
+  ends_named : named_at k (map (shortest_wire l) (placed l)) ++ (named_at k (map (enc_wire l) (placed l)) ++ []) ≡ pads_of g out_sources
+  ends_named =
+      ap (λ (ps : List ℕ). named_at k (map (shortest_wire l) (placed l)) ++ (ps ++ [])) (none_named k (enc_wire l) (placed l) (λ p i e. omega (arith, e, high)))
       ∙ (append-nil (named_at k (map (shortest_wire l) (placed l))) ∙ some_named k (shortest_wire l) g (λ (p : Placed). p.what.source) (placed l) stream_test (λ p. refl))
-  ends_named false =
-      append-nil (named_at k (map (enc_wire l false) (placed l))) ∙ some_named k (enc_wire l false) g (λ (p : Placed). p.what.source) (placed l) stream_test (λ p. refl)
 
   pub all_named : named_at k (wires_of l) ≡ pads_of g (origins l)
   all_named =
-      let demuxes = map (demux_wire l) (used l) in let pads = flat_map (pad_wires l) l.graphs in let shorts = shortest_wires l l.joint in
-      let encs = map (enc_wire l l.joint) (placed l) in let muxes = map (mux_wire l) (placed l) in
+      let demuxes = map (demux_wire l) (used l) in let pads = flat_map (pad_wires l) l.graphs in let shorts = map (shortest_wire l) (placed l) in
+      let encs = map (enc_wire l) (placed l) in let muxes = map (mux_wire l) (placed l) in
       named_joined k demuxes (pads ++ (shorts ++ (encs ++ muxes)))
       ∙ (ap (λ (ps : List ℕ). ps ++ named_at k (pads ++ (shorts ++ (encs ++ muxes)))) demuxes_none
       ∙ (named_joined k pads (shorts ++ (encs ++ muxes))
@@ -152,7 +150,7 @@ module _ (l : Layout) (laid : IsLaid l) (k : ℕ) (low : before_graphs l ≤ k) 
       ∙ (ap (λ (ps : List ℕ). pads_of g (in_sources l.graphs) ++ ps)
       (named_joined k shorts (encs ++ muxes)
       ∙ (ap (λ (ps : List ℕ). named_at k shorts ++ ps) (named_joined k encs muxes ∙ ap (λ (ps : List ℕ). named_at k encs ++ ps) muxes_none)
-      ∙ ends_named l.joint))
+      ∙ ends_named))
       ∙ sym (pads_joined g (in_sources l.graphs) out_sources)))))
 
   -- ---- all of them are named
@@ -161,18 +159,17 @@ module _ (l : Layout) (laid : IsLaid l) (k : ℕ) (low : before_graphs l ≤ k) 
   named_origin (origin.Stream s) t e = absurd (not_same (dec_at l s) k t e)
   named_origin (origin.Pad h p) t e = (p, refl)
 
-  ends_have : (b : Bool) → AllByRecursion (IsNamedOf k) (shortest_wires l b) × AllByRecursion (IsNamedOf k) (map (enc_wire l b) (placed l))
-  ends_have true = (
+  ends_have : AllByRecursion (IsNamedOf k) (map (shortest_wire l) (placed l)) × AllByRecursion (IsNamedOf k) (map (enc_wire l) (placed l))
+  ends_have = (
     all_map (IsNamedOf k) (shortest_wire l) (placed l) (λ p i e. named_origin p.what.source (stream_test p i) e),
-    all_map (IsNamedOf k) (enc_wire l true) (placed l) (λ p i e. absurd (omega (arith, e, high))),
+    all_map (IsNamedOf k) (enc_wire l) (placed l) (λ p i e. absurd (omega (arith, e, high))),
   )
-  ends_have false = (tt, all_map (IsNamedOf k) (enc_wire l false) (placed l) (λ p i e. named_origin p.what.source (stream_test p i) e))
 
   pub are_named : AllByRecursion (IsNamedOf k) (wires_of l)
   are_named =
       let N = IsNamedOf k in
-      let shorts = shortest_wires l l.joint in let encs = map (enc_wire l l.joint) (placed l) in let muxes = map (mux_wire l) (placed l) in
-      let ends = ends_have l.joint in
+      let shorts = map (shortest_wire l) (placed l) in let encs = map (enc_wire l) (placed l) in let muxes = map (mux_wire l) (placed l) in
+      let ends = ends_have in
       all_joined N (map (demux_wire l) (used l)) (flat_map (pad_wires l) l.graphs ++ (shorts ++ (encs ++ muxes)))
       (all_map N (demux_wire l) (used l) (λ s i e. absurd (let lt = demux_below l s i in omega (arith, e, lt, low))))
       (all_joined N (flat_map (pad_wires l) l.graphs) (shorts ++ (encs ++ muxes))

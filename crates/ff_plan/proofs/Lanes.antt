@@ -7,7 +7,8 @@ use Rattle.ff_stream.specs.declared.edges.edge.Edge.{Edge}
 use Rattle.ff_stream.specs.edges.Ports.{tally, at_ports, edge_to, edge_from, lane_of, lanes_into, lanes_out_of}
 use Rattle.ff_plan.specs.Wires.{Wire, leaves_node, enters_node, edge_behind, edges_behind, edges_of}
 use Rattle.ff_plan.specs.Laws.{IsNextOf}
-use Rattle.ff_plan.proofs.Numbered.{Numbered, hit, miss, tally_hit, tally_miss, both, other_port, other_key, ins_numbered, outs_numbered}
+use Rattle.ff_plan.proofs.Numbered.{Numbered, both, other_port, other_key, ins_numbered, outs_numbered}
+use Rattle.ff_plan_layout.proofs.Tests.{hit, miss, tally_hit, tally_miss}
 
 -- the value at each port, of so many
 pub at_ports_is : (f : ℕ → ℕ) (n : ℕ) → at_ports f n ≡ map f (range_with_len 0 n)

@@ -11,23 +11,20 @@ use Rattle.ff_frame.specs.declared.head.StreamHead.{StreamHead}
 use Rattle.ff_map.specs.declared.streams.StreamRef.{StreamRef}
 use Rattle.ff_map.specs.declared.streams.Stream.{Stream}
 use Rattle.ff_map.specs.Choice.{numbered, streams_from, all_streams}
-use Rattle.ff_plan.specs.declared.layout.InPad.{InPad}
-use Rattle.ff_plan.specs.declared.layout.Origin.{Origin}
-use Rattle.ff_plan.specs.declared.layout.Origin.TheVariants as origin
-use Rattle.ff_plan.specs.declared.layout.OutStream.{OutStream}
-use Rattle.ff_plan.specs.declared.layout.Placed.{Placed}
-use Rattle.ff_plan.specs.Layout.{IsAmong, Laid, Layout, same_ref, place_row, place_from, placed, origins, shows, used, is_used, used_inputs}
-use Rattle.ff_plan.specs.Nodes.{before_decs, before_graphs, before_shortests, node_count, shortests, output_numbers, demux_at, dec_at, graph_at, origin_at, origin_port, nodes_of, demux_wire, pad_wire, pad_wires, shortest_wire, enc_wire, mux_wire, shortest_wires, wires_of}
+use Rattle.ff_plan_layout.specs.declared.layout.InPad.{InPad}
+use Rattle.ff_plan_layout.specs.declared.layout.Origin.{Origin}
+use Rattle.ff_plan_layout.specs.declared.layout.Origin.TheVariants as origin
+use Rattle.ff_plan_layout.specs.declared.layout.OutStream.{OutStream}
+use Rattle.ff_plan_layout.specs.declared.layout.Placed.{Placed}
+use Rattle.ff_plan_layout.specs.declared.layout.Laid.{Laid}
+use Rattle.ff_plan_layout.specs.Layout.{IsAmong, Layout, same_ref, place_row, place_from, placed, origins, shows, used, is_used, used_inputs, IsThere, IsLaid}
+use Rattle.ff_plan.specs.Nodes.{before_decs, before_graphs, before_shortests, node_count, output_numbers, demux_at, dec_at, graph_at, origin_at, origin_port, nodes_of, demux_wire, pad_wire, pad_wires, shortest_wire, enc_wire, mux_wire, wires_of}
 use Rattle.ff_plan.specs.declared.planned.PlanNode.TheVariants as node
-use Rattle.ff_plan.specs.Laws.{IsThere, IsLaid, IsUp, IsNextOf, IsNoGraph, GraphsHaveOuts}
+use Rattle.ff_plan.specs.Laws.{IsUp, IsNextOf, IsNoGraph, GraphsHaveOuts}
 use Rattle.ff_stream.specs.edges.Ports.{HasOuts}
-use Rattle.ff_plan.proofs.Among.{all_joined, all_map, all_flat, any_among, place_among, kept_among, was_among, among_left, among_right, among_either, among_map, among_flat, in_range}
-
-pub same_self : (s : StreamRef) → same_ref s s ≡ true
-same_self s = grind (arith, nat_tests)
-
-pub nat_self : (i : ℕ) → (i == i) ≡ true
-nat_self i = grind (arith, nat_tests)
+use Rattle.ff_plan_layout.proofs.Among.{all_joined, all_map, all_flat, any_among, place_among, kept_among, was_among, among_left, among_right, among_either, among_map, among_flat, in_range}
+use Rattle.ff_plan_layout.proofs.Tests.{same_self, nat_self}
+use Rattle.ff_plan_layout.proofs.Sizes.{joined_length, place_in, map_length, range_length, less_or}
 
 -- the input of each stream is there
 known_row : (input stream : ℕ) (hs : List StreamHead) (k : Stream) → IsAmong k (numbered input stream hs) → k.at.input ≡ input
@@ -42,61 +39,15 @@ known_in input (row ∷ rows) k i = elim (among_either k (numbered input 0 row) 
   | inr j ↦ (let lt = known_in (input + 1) rows k j in omega (arith, lt))
 ]
 
--- the numbers of a stream of an output
-pub row_length : (number output stream : ℕ) (ss : List OutStream) → length (place_row number output stream ss) ≡ length ss
-row_length number output stream [] = refl
-row_length number output stream (s ∷ ss) = ap suc (row_length (number + 1) output (stream + 1) ss)
-
-row_in : (number output stream : ℕ) (ss : List OutStream) (p : Placed) → IsAmong p (place_row number output stream ss) → (p.number < number + length ss) × (p.output ≡ output)
-row_in number output stream [] p i = absurd i
-row_in number output stream (s ∷ ss) p (inl e) = (let n : number ≡ p.number = ap (λ (p : Placed). p.number) e in (omega (arith, n), sym (ap (λ (p : Placed). p.output) e)))
-row_in number output stream (s ∷ ss) p (inr i) = (let r = row_in (number + 1) output (stream + 1) ss p i in let lt = r.0 in (omega (arith, lt), r.1))
-
--- what holds of each stream of outputs holds of it in its place
-row_holds : (T : OutStream → Type 0) (n o k : ℕ) (ss : List OutStream) → AllByRecursion T ss → AllByRecursion (λ p. T p.what) (place_row n o k ss)
-row_holds T n o k [] all = tt
-row_holds T n o k (s ∷ ss) all = (all.0, row_holds T (n + 1) o (k + 1) ss all.1)
-
-pub place_holds : (T : OutStream → Type 0) (n o : ℕ) (rows : List (List OutStream)) → AllByRecursion (λ row. AllByRecursion T row) rows → AllByRecursion (λ p. T p.what) (place_from n o rows)
-place_holds T n o [] all = tt
-place_holds T n o (row ∷ rows) all = all_joined (λ p. T p.what) (place_row n o 0 row) (place_from (n + length row) (o + 1) rows) (row_holds T n o 0 row all.0) (place_holds T (n + length row) (o + 1) rows all.1)
-
-pub joined_length : {A : Type 0} (xs ys : List A) → length (xs ++ ys) ≡ length xs + length ys
-joined_length [] ys = omega arith
-joined_length (x ∷ xs) ys = (let e = joined_length xs ys in omega (arith, e))
-
-pub place_in : (number output : ℕ) (rows : List (List OutStream)) (p : Placed) → IsAmong p (place_from number output rows) → (p.number < number + length (place_from number output rows)) × (p.output < output + length rows)
-place_in number output [] p i = absurd i
-place_in number output (row ∷ rows) p i =
-    let long = joined_length (place_row number output 0 row) (place_from (number + length row) (output + 1) rows) in
-    let here = row_length number output 0 row in
-    elim (among_either p (place_row number output 0 row) (place_from (number + length row) (output + 1) rows) i) [
-      | inl j ↦ (let r = row_in number output 0 row p j in let lt = r.0 in let e = r.1 in (omega (arith, lt, long, here), omega (arith, e)))
-      | inr j ↦ (let r = place_in (number + length row) (output + 1) rows p j in let lt = r.0 in let out = r.1 in (omega (arith, lt, long, here), omega (arith, out)))
-    ]
-
-pub map_length : {A B : Type 0} (f : A → B) (xs : List A) → length (map f xs) ≡ length xs
-map_length f [] = refl
-map_length f (x ∷ xs) = ap suc (map_length f xs)
-
-pub range_length : (a n : ℕ) → length (range_with_len a n) ≡ n
-range_length a zero = refl
-range_length a (suc n) = ap suc (range_length (a + 1) n)
-
-pub less_or : (k a : ℕ) → (k < a) ⊎ (a ≤ k)
-less_or k zero = inr (omega arith)
-less_or zero (suc a) = inl (omega arith)
-less_or (suc k) (suc a) = elim (less_or k a) [ inl lt ↦ inl (omega (arith, lt)) | inr le ↦ inr (omega (arith, le)) ]
-
 module _ (l : Layout) where
   pub counted : length (nodes_of l) ≡ node_count l
   counted =
       let a = map (λ i. node.Demux i) (used_inputs l) in let b = map (λ k. node.Dec k.at) (used l) in let c = map (λ g. node.Graph g.graph) l.graphs in
-      let d = map (λ o. node.Shortest o) (shortests l) in let e = map (λ p. node.Enc p.output p.stream) (placed l) in let f = map (λ o. node.Mux o) (output_numbers l) in
+      let d = map (λ o. node.Shortest o) (output_numbers l) in let e = map (λ p. node.Enc p.output p.stream) (placed l) in let f = map (λ o. node.Mux o) (output_numbers l) in
       let j1 = joined_length a (b ++ (c ++ (d ++ (e ++ f)))) in let j2 = joined_length b (c ++ (d ++ (e ++ f))) in let j3 = joined_length c (d ++ (e ++ f)) in
       let j4 = joined_length d (e ++ f) in let j5 = joined_length e f in
       let la = map_length (λ i. node.Demux i) (used_inputs l) in let lb = map_length (λ k. node.Dec k.at) (used l) in let lc = map_length (λ g. node.Graph g.graph) l.graphs in
-      let ld = map_length (λ o. node.Shortest o) (shortests l) in let le = map_length (λ p. node.Enc p.output p.stream) (placed l) in let lf = map_length (λ o. node.Mux o) (output_numbers l) in
+      let ld = map_length (λ o. node.Shortest o) (output_numbers l) in let le = map_length (λ p. node.Enc p.output p.stream) (placed l) in let lf = map_length (λ o. node.Mux o) (output_numbers l) in
       let lr = range_length 0 (length l.outputs) in
       omega (arith, j1, j2, j3, j4, j5, la, lb, lc, ld, le, lf, lr)
 
@@ -146,22 +97,18 @@ module _ (l : Layout) where
     pub pad_up : (g : Laid) → IsAmong g l.graphs → (i : InPad) → IsAmong i g.ins → IsUp (node_count l) (pad_wire l g.graph i)
     pad_up g ga i ia = (origin_below (position_or_len (λ x. x.graph == g.graph) l.graphs) i.source (laid.graphs g i ga ia) (pad_origin g i ga ia), (let lt = graph_below g ga in omega (arith, lt)))
 
-    shortest_up : l.joint ≡ true → (p : Placed) → IsAmong p (placed l) → IsUp (node_count l) (shortest_wire l p)
-    shortest_up joint p i =
+    shortest_up : (p : Placed) → IsAmong p (placed l) → IsUp (node_count l) (shortest_wire l p)
+    shortest_up p i =
         let a = stream_below p i in let o = output_in p i in
-        let n : length (shortests l) ≡ length l.outputs = ap (λ (b : Bool). length (cond b (output_numbers l) [])) joint ∙ range_length 0 (length l.outputs) in
-        (omega (arith, a), omega (arith, o, n))
+        (omega (arith, a), omega (arith, o))
 
-    shortests_up : (b : Bool) → l.joint ≡ b → AllByRecursion (IsUp (node_count l)) (shortest_wires l b)
-    shortests_up true e = all_map (IsUp (node_count l)) (shortest_wire l) (placed l) (shortest_up e)
-    shortests_up false e = tt
+    shortests_up : AllByRecursion (IsUp (node_count l)) (map (shortest_wire l) (placed l))
+    shortests_up = all_map (IsUp (node_count l)) (shortest_wire l) (placed l) shortest_up
 
-    enc_up : (b : Bool) → l.joint ≡ b → (p : Placed) → IsAmong p (placed l) → IsUp (node_count l) (enc_wire l b p)
-    enc_up true joint p i =
+    enc_up : (p : Placed) → IsAmong p (placed l) → IsUp (node_count l) (enc_wire l p)
+    enc_up p i =
         let o = output_in p i in let m = number_in p i in
-        let n : length (shortests l) ≡ length l.outputs = ap (λ (b : Bool). length (cond b (output_numbers l) [])) joint ∙ range_length 0 (length l.outputs) in
-        (omega (arith, o, n), omega (arith, m))
-    enc_up false joint p i = (let a = stream_below p i in let m = number_in p i in (omega (arith, a), omega (arith, m)))
+        (omega (arith, o), omega (arith, m))
 
     mux_up : (p : Placed) → IsAmong p (placed l) → IsUp (node_count l) (mux_wire l p)
     mux_up p i = (let o = output_in p i in let m = number_in p i in (omega (arith, m), omega (arith, o)))
@@ -169,11 +116,11 @@ module _ (l : Layout) where
     pub wires_up : AllByRecursion (IsUp (node_count l)) (wires_of l)
     wires_up =
         let P = IsUp (node_count l) in
-        let shorts = shortest_wires l l.joint in let encs = map (enc_wire l l.joint) (placed l) in let muxes = map (mux_wire l) (placed l) in
+        let shorts = map (shortest_wire l) (placed l) in let encs = map (enc_wire l) (placed l) in let muxes = map (mux_wire l) (placed l) in
         all_joined P (map (demux_wire l) (used l)) (flat_map (pad_wires l) l.graphs ++ (shorts ++ (encs ++ muxes))) (all_map P (demux_wire l) (used l) demux_up)
         (all_joined P (flat_map (pad_wires l) l.graphs) (shorts ++ (encs ++ muxes)) (all_flat P (pad_wires l) l.graphs (λ g i. all_map P (pad_wire l g.graph) g.ins (pad_up g i)))
-        (all_joined P shorts (encs ++ muxes) (shortests_up l.joint refl)
-        (all_joined P encs muxes (all_map P (enc_wire l l.joint) (placed l) (enc_up l.joint refl)) (all_map P (mux_wire l) (placed l) mux_up))))
+        (all_joined P shorts (encs ++ muxes) shortests_up
+        (all_joined P encs muxes (all_map P (enc_wire l) (placed l) enc_up) (all_map P (mux_wire l) (placed l) mux_up))))
 
     -- only a graph's ports are named
     origin_next : (k before : ℕ) → IsNoGraph l k → before ≤ length l.graphs → (source : Origin) → IsThere l before source → origin_at l source ≡ k → origin_port source ≡ None
@@ -189,22 +136,20 @@ module _ (l : Layout) where
       pad_next g ga i ia e = (let lt = place_among (λ x. x.graph == g.graph) g l.graphs ga (nat_self g.graph) in
           origin_next k (position_or_len (λ x. x.graph == g.graph) l.graphs) free (omega (arith, lt)) i.source (laid.graphs g i ga ia) e)
 
-      shortests_next : (b : Bool) → AllByRecursion (IsNextOf k) (shortest_wires l b)
-      shortests_next true = all_map (IsNextOf k) (shortest_wire l) (placed l) stream_next
-      shortests_next false = tt
+      shortests_next : AllByRecursion (IsNextOf k) (map (shortest_wire l) (placed l))
+      shortests_next = all_map (IsNextOf k) (shortest_wire l) (placed l) stream_next
 
-      enc_next : (b : Bool) → (p : Placed) → IsAmong p (placed l) → IsNextOf k (enc_wire l b p)
-      enc_next true p i e = refl
-      enc_next false p i e = stream_next p i e
+      enc_next : (p : Placed) → IsAmong p (placed l) → IsNextOf k (enc_wire l p)
+      enc_next p i e = refl
 
       pub wires_next : AllByRecursion (IsNextOf k) (wires_of l)
       wires_next =
           let P = IsNextOf k in
-          let shorts = shortest_wires l l.joint in let encs = map (enc_wire l l.joint) (placed l) in let muxes = map (mux_wire l) (placed l) in
+          let shorts = map (shortest_wire l) (placed l) in let encs = map (enc_wire l) (placed l) in let muxes = map (mux_wire l) (placed l) in
           all_joined P (map (demux_wire l) (used l)) (flat_map (pad_wires l) l.graphs ++ (shorts ++ (encs ++ muxes))) (all_map P (demux_wire l) (used l) (λ k i e. refl))
           (all_joined P (flat_map (pad_wires l) l.graphs) (shorts ++ (encs ++ muxes)) (all_flat P (pad_wires l) l.graphs (λ g i. all_map P (pad_wire l g.graph) g.ins (pad_next g i)))
-          (all_joined P shorts (encs ++ muxes) (shortests_next l.joint)
-          (all_joined P encs muxes (all_map P (enc_wire l l.joint) (placed l) (enc_next l.joint)) (all_map P (mux_wire l) (placed l) (λ p i e. refl)))))
+          (all_joined P shorts (encs ++ muxes) shortests_next
+          (all_joined P encs muxes (all_map P (enc_wire l) (placed l) enc_next) (all_map P (mux_wire l) (placed l) (λ p i e. refl)))))
 
       pub no_graph_outs : HasOuts (edges_of (wires_of l)) k
       no_graph_outs = has_outs k (wires_of l) wires_next

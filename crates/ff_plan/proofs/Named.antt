@@ -3,12 +3,13 @@ use Rattle.std.proofs.Common.{◌≡◌, ℕ, zero, suc, ◌<◌, inl, inr, ◌=
 use Rattle.std.specs.List.{position_or_len, AllByRecursion, cons_option, IsDistinct}
 use Rattle.std.proofs.lemmas.Bool.Decides.{nat_tests}
 use Rattle.ff_stream.specs.declared.edges.edge.Edge.{Edge}
-use Rattle.ff_plan.specs.Layout.{IsAmong}
+use Rattle.ff_plan_layout.specs.Layout.{IsAmong, EachOnce}
 use Rattle.ff_plan.specs.Wires.{Wire, port_or, leaves_node, edge_behind, edges_behind, edges_of}
 use Rattle.ff_stream.specs.edges.Ports.{tally}
-use Rattle.ff_plan.specs.Laws.{IsNamedOf, named_at, EachOnce}
+use Rattle.ff_plan.specs.Laws.{IsNamedOf, named_at}
 use Rattle.ff_stream.specs.edges.Ports.{EachPort, HasOuts}
-use Rattle.ff_plan.proofs.Numbered.{hit, miss, tally_hit, tally_miss, both, other_key, not_same, is_same}
+use Rattle.ff_plan_layout.proofs.Tests.{hit, miss, tally_hit, tally_miss, not_same, is_same}
+use Rattle.ff_plan.proofs.Numbered.{both, other_key}
 
 -- an edge at this node has another port
 other_name : (a k b p : ℕ) → (b == p) ≡ false → ((a == k) && (b == p)) ≡ false

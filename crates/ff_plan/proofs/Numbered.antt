@@ -7,24 +7,7 @@ use Rattle.ff_plan.specs.Wires.{Wire, leaves_node, enters_node, port_or, edge_be
 use Rattle.ff_stream.specs.edges.Ports.{tally}
 use Rattle.ff_plan.specs.Laws.{IsNextOf}
 use Rattle.ff_stream.specs.edges.Ports.{EachPort, HasIns, HasOuts}
-
-pub hit : {A : Type 0} (p : A → Bool) (x : A) (xs : List A) → p x ≡ true → position_or_len p (x ∷ xs) ≡ 0
-hit p x xs e = ap (λ (b : Bool). cond (not b) (1 + position_or_len p xs) 0) e
-
-pub miss : {A : Type 0} (p : A → Bool) (x : A) (xs : List A) → p x ≡ false → position_or_len p (x ∷ xs) ≡ 1 + position_or_len p xs
-miss p x xs e = ap (λ (b : Bool). cond (not b) (1 + position_or_len p xs) 0) e
-
-pub tally_hit : {A : Type 0} (p : A → Bool) (x : A) (xs : List A) → p x ≡ true → tally p (x ∷ xs) ≡ suc (tally p xs)
-tally_hit p x xs e = ap (λ (b : Bool). cond b (suc (tally p xs)) (tally p xs)) e
-
-pub tally_miss : {A : Type 0} (p : A → Bool) (x : A) (xs : List A) → p x ≡ false → tally p (x ∷ xs) ≡ tally p xs
-tally_miss p x xs e = ap (λ (b : Bool). cond b (suc (tally p xs)) (tally p xs)) e
-
-pub same_or_above : (n p : ℕ) → n ≤ p → (n ≡ p) ⊎ (suc n ≤ p)
-same_or_above zero zero le = inl refl
-same_or_above zero (suc p) le = inr (omega arith)
-same_or_above (suc n) zero le = absurd (omega (arith, le))
-same_or_above (suc n) (suc p) le = elim (same_or_above n p (omega (arith, le))) [ inl e ↦ inl (ap suc e) | inr l ↦ inr (omega (arith, l)) ]
+use Rattle.ff_plan_layout.proofs.Tests.{hit, miss, tally_hit, tally_miss, same_or_above, not_same, is_same}
 
 pub both : (a k b p : ℕ) → (a == k) ≡ true → b ≡ p → ((a == k) && (b == p)) ≡ true
 both a k b p e f = grind (arith, nat_tests)
@@ -34,12 +17,6 @@ other_port a k b p lt = grind (arith, nat_tests)
 
 pub other_key : (a k b p : ℕ) → (a == k) ≡ false → ((a == k) && (b == p)) ≡ false
 other_key a k b p e = ap (λ (t : Bool). t && (b == p)) e
-
-pub not_same : (a k : ℕ) → (a == k) ≡ false → a ≡ k → ⊥
-not_same a k e f = grind (arith, nat_tests)
-
-pub is_same : (a k : ℕ) → (a == k) ≡ true → a ≡ k
-is_same a k e = grind (arith, nat_tests)
 
 module _ (key port : Edge → ℕ) where
   abbrev at_port : ℕ → ℕ → Edge → Bool

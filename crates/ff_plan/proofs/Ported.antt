@@ -11,48 +11,42 @@ use Rattle.ff_frame.specs.declared.head.StreamHead.{StreamHead}
 use Rattle.ff_graph_links.specs.labels.Order.{ComeInOrder, HasNoLoop, graph_order, feeds, is_in}
 use Rattle.ff_words.specs.declared.job.Job.{Job}
 use Rattle.ff_words.specs.declared.job.OutputJob.{OutputJob}
-use Rattle.ff_plan.specs.declared.layout.InPad.{InPad}
-use Rattle.ff_plan.specs.declared.layout.Origin.{Origin}
-use Rattle.ff_plan.specs.declared.layout.OutStream.{OutStream}
-use Rattle.ff_plan.specs.declared.layout.Placed.{Placed}
-use Rattle.ff_plan.specs.Graphs.{AreRules}
-use Rattle.ff_plan.specs.Labels.{taken_labels}
-use Rattle.ff_plan.specs.Laws.{IsLaid, GraphsHaveOuts}
-use Rattle.ff_plan.specs.Layout.{IsAmong, Laid, Layout, placed, origins}
+use Rattle.ff_plan_layout.specs.declared.layout.InPad.{InPad}
+use Rattle.ff_plan_layout.specs.declared.layout.Origin.{Origin}
+use Rattle.ff_plan_layout.specs.declared.layout.OutStream.{OutStream}
+use Rattle.ff_plan_layout.specs.declared.layout.Placed.{Placed}
+use Rattle.ff_plan_layout.specs.Graphs.{AreRules}
+use Rattle.ff_plan_layout.specs.Labels.{taken_labels}
+use Rattle.ff_plan_layout.specs.declared.layout.Laid.{Laid}
+use Rattle.ff_plan_layout.specs.Layout.{IsLaid, IsAmong, Layout, placed, origins}
+use Rattle.ff_plan.specs.Laws.{GraphsHaveOuts}
 use Rattle.ff_plan.specs.Nodes.{before_graphs, before_shortests, plan_of, wires_of}
 use Rattle.ff_plan.specs.Wires.{edges_of}
 use Rattle.ff_plan.specs.declared.planned.Plan.{Plan}
-use Rattle.ff_plan.specs.Order.{numbers}
-use Rattle.ff_plan.specs.Pads.{Made, has_label, all_wants, unlabelled}
-use Rattle.ff_plan.specs.Planned.{labels_of, graphs_of, layout_of, laid_out, planned}
-use Rattle.ff_plan.specs.Rules.{Rules, OpenOut}
-use Rattle.ff_plan.specs.Streams.{Passed, graph_of}
-use Rattle.ff_plan.proofs.Among.{among_either, among_map, each_of, of_flat}
-use Rattle.ff_plan.proofs.Counts.{below_range, tally_among, text_self, total, total_same, total_zero, total_map, tally_joined, tally_none, tally_same, tally_map, tally_flat}
-use Rattle.ff_plan.proofs.Given.{given_among}
-use Rattle.ff_plan.proofs.Graphed.{Stands, Walked, walked, walked_laid, laid, inside_of, ins_from, unlabelled_come, of_map, graph_number}
+use Rattle.ff_plan_layout.specs.Order.{numbers}
+use Rattle.ff_plan_layout.specs.declared.layout.Made.{Made}
+use Rattle.ff_plan_layout.specs.Pads.{has_label, all_wants, unlabelled}
+use Rattle.ff_plan_layout.specs.LaidOut.{labels_of, graphs_of, layout_of, laid_out}
+use Rattle.ff_plan.specs.Planned.{planned}
+use Rattle.ff_plan_layout.specs.declared.open_pads.OpenOut.{OpenOut}
+use Rattle.ff_plan_layout.specs.Rules.{Rules}
+use Rattle.ff_plan_layout.specs.declared.layout.Passed.{Passed}
+use Rattle.ff_plan_layout.specs.Streams.{graph_of}
+use Rattle.ff_plan_layout.proofs.Among.{among_either, among_map, each_of, of_flat}
+use Rattle.ff_plan_layout.proofs.Counts.{below_range, tally_among, text_self, total, total_same, total_zero, total_map, tally_joined, tally_none, tally_same, tally_map, tally_flat}
+use Rattle.ff_plan_layout.proofs.GraphNumbers.{number_of, range_above, rows_numbers}
+use Rattle.ff_plan_layout.proofs.Given.{given_among}
+use Rattle.ff_plan_layout.proofs.Graphed.{Stands, Walked, walked, walked_laid, laid, inside_of, ins_from, unlabelled_come, of_map, graph_number}
 use Rattle.ff_plan.proofs.GraphWires.{node_outs}
-use Rattle.ff_plan.proofs.Kept.{among_at, at_below, below_at}
-use Rattle.ff_plan.proofs.Layouts.{counted, fed, joined_length, less_or, nat_self}
-use Rattle.ff_plan.proofs.Made.{Comes, comes_left}
-use Rattle.ff_plan.proofs.Once.{once_in, low_in, numbers_are, placed_sources, standing, used_once, label_is_open, complex_none, complex_own, streams_are}
-use Rattle.ff_plan.proofs.Outs.{IsPassed, AllPassed, AreOutputs, Passes, outputs_pass}
-use Rattle.ff_plan.proofs.Results.{same_ok, behind_ok}
-use Rattle.ff_plan.proofs.Uses.{pad_is, shows_pad, has_at, free_at, free_label}
-
--- ---- numbers in a row
-
-range_join : (a m k : ℕ) → range_with_len a m ++ range_with_len (a + m) k ≡ range_with_len a (m + k)
-range_join a zero k = ap (λ (b : ℕ). range_with_len b k) (omega arith) ∙ ap (λ (n : ℕ). range_with_len a n) (omega arith)
-range_join a (suc m) k =
-    ap (λ (b : ℕ). a ∷ (range_with_len (a + 1) m ++ range_with_len b k)) (omega arith)
-    ∙ (ap (λ (ns : List ℕ). a ∷ ns) (range_join (a + 1) m k) ∙ ap (λ (n : ℕ). range_with_len a n) (let e : suc (m + k) ≡ suc m + k = omega arith in e))
-
-pub range_above : (h a n : ℕ) → h < a → tally (λ x. x == h) (range_with_len a n) ≡ 0
-range_above h a zero lt = refl
-range_above h a (suc n) lt =
-    let off : (a == h) ≡ false = grind (arith, nat_tests, lt) in
-    ap (λ (b : Bool). cond b (suc (tally (λ x. x == h) (range_with_len (a + 1) n))) (tally (λ x. x == h) (range_with_len (a + 1) n))) off ∙ range_above h (a + 1) n (omega (arith, lt))
+use Rattle.ff_plan_layout.proofs.Kept.{among_at, at_below, below_at}
+use Rattle.ff_plan.proofs.Layouts.{counted, fed}
+use Rattle.ff_plan_layout.proofs.Sizes.{joined_length, less_or}
+use Rattle.ff_plan_layout.proofs.Tests.{nat_self}
+use Rattle.ff_plan_layout.proofs.Makings.{Comes, comes_left}
+use Rattle.ff_plan_layout.proofs.Once.{once_in, low_in, numbers_are, placed_sources, standing, used_once, label_is_open, complex_none, complex_own, streams_are}
+use Rattle.ff_plan_layout.proofs.Outs.{IsPassed, AllPassed, AreOutputs, Passes, outputs_pass}
+use Rattle.ff_plan_layout.proofs.Results.{same_ok, behind_ok}
+use Rattle.ff_plan_layout.proofs.Uses.{pad_is, shows_pad, has_at, free_at, free_label}
 
 pub range_few : (h a n : ℕ) → tally (λ x. x == h) (range_with_len a n) ≤ 1
 range_few h a zero = omega arith
@@ -61,49 +55,6 @@ range_few h a (suc n) = step (a == h) refl (range_few h (a + 1) n) where
       → cond b (suc (tally (λ x. x == h) (range_with_len (a + 1) n))) (tally (λ x. x == h) (range_with_len (a + 1) n)) ≤ 1
   step true e rest = (let z = range_above h (a + 1) n (let lt : h < a + 1 = grind (arith, nat_tests, e) in lt) in omega (arith, z))
   step false e rest = rest
-
--- ---- the numbers of simple graphs
-
-abbrev number_of : Laid → ℕ
-number_of x = x.graph
-
-module _ (rules : Rules) where
-  own_graph : (out : OutputJob) (g : ℕ) (i : InPad) (p : Passed) → IsPassed rules out g i p → (graph_of p ≡ []) ⊎ ((x : Laid) × (graph_of p ≡ x ∷ []) × (x.graph ≡ g))
-  own_graph out g i p (inl e) = inl (ap graph_of (sym e))
-  own_graph out g i p (inr f) = inr (record { graph = g; ins = i ∷ [] }, ap graph_of (sym f.is), refl)
-
-  row_numbers : (out : OutputJob) (g : ℕ) (is : List InPad) (ps : List Passed) → AllPassed rules out g is ps → map number_of (flat_map graph_of ps) ≡ range_with_len g (graphs_of ps)
-  row_numbers out g [] [] s = refl
-  row_numbers out g [] (p ∷ ps) s = absurd s
-  row_numbers out g (i ∷ is) [] s = absurd s
-  row_numbers out g (i ∷ is) (p ∷ ps) s = step (own_graph out g i p s.0) (row_numbers out (g + length (graph_of p)) is ps s.1) where
-    rest : List Laid
-    rest = flat_map graph_of ps
-
-    step : (graph_of p ≡ []) ⊎ ((x : Laid) × (graph_of p ≡ x ∷ []) × (x.graph ≡ g)) → map number_of (flat_map graph_of ps) ≡ range_with_len (g + length (graph_of p)) (graphs_of ps)
-        → map number_of (graph_of p ++ flat_map graph_of ps) ≡ range_with_len g (length (graph_of p ++ flat_map graph_of ps))
-    step (inl none) e =
-        let at : g + length (graph_of p) ≡ g = (let z = ap (λ (xs : List Laid). length xs) none in omega (arith, z)) in
-        ap (λ (xs : List Laid). map number_of (xs ++ flat_map graph_of ps)) none
-        ∙ (e ∙ (ap (λ (n : ℕ). range_with_len n (graphs_of ps)) at ∙ ap (λ (xs : List Laid). range_with_len g (length (xs ++ flat_map graph_of ps))) (sym none)))
-    step (inr (x, one, num)) e =
-        let at : g + length (graph_of p) ≡ g + 1 = (let z = ap (λ (xs : List Laid). length xs) one in omega (arith, z)) in
-        ap (λ (xs : List Laid). map number_of (xs ++ flat_map graph_of ps)) one
-        ∙ (ap (λ (n : ℕ). n ∷ map number_of (flat_map graph_of ps)) num
-        ∙ (ap (λ (ns : List ℕ). g ∷ ns) (e ∙ ap (λ (n : ℕ). range_with_len n (graphs_of ps)) at)
-        ∙ ap (λ (xs : List Laid). range_with_len g (length (xs ++ flat_map graph_of ps))) (sym one)))
-
-  pub rows_numbers : (inside : _) (g : ℕ) (used : List (List ℕ)) (before : List InPad) (outs : List OutputJob) (rows : List (List Passed)) → AreOutputs rules inside g used before outs rows
-      → map number_of (flat_map (λ ps. flat_map graph_of ps) rows) ≡ range_with_len g (length (flat_map (λ ps. flat_map graph_of ps) rows))
-  rows_numbers inside g used before [] [] s = refl
-  rows_numbers inside g used before [] (ps ∷ rows) s = absurd s
-  rows_numbers inside g used before (out ∷ outs) [] s = absurd s
-  rows_numbers inside g used before (out ∷ outs) (ps ∷ rows) s =
-      let later = flat_map (λ (qs : List Passed). flat_map graph_of qs) rows in
-      map-append number_of (flat_map graph_of ps) later
-      ∙ (ap (λ (ns : List ℕ). ns ++ map number_of later) (row_numbers out g s.0 ps s.2)
-      ∙ (ap (λ (ns : List ℕ). range_with_len g (graphs_of ps) ++ ns) (rows_numbers inside (g + graphs_of ps) (labels_of out ++ used) [] outs rows s.3)
-      ∙ (range_join g (graphs_of ps) (length later) ∙ ap (λ (n : ℕ). range_with_len g n) (sym (joined_length (flat_map graph_of ps) later)))))
 
 module _ (rules : Rules) (are : AreRules rules) (job : Job) (heads : List (List StreamHead)) (l : Layout) (w : Walked rules job heads l)
     (come : ComeInOrder (feeds job.graphs) (length job.graphs) [] (graph_order job.graphs))

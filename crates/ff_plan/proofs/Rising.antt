@@ -5,10 +5,10 @@ use Rattle.std.specs.List.{filter, range_with_len}
 use Rattle.ff_frame.specs.declared.head.StreamHead.{StreamHead}
 use Rattle.ff_map.specs.Choice.{numbered, streams_from, all_streams}
 use Rattle.ff_map.specs.declared.streams.Stream.{Stream}
-use Rattle.ff_plan.specs.Choice.{head_at}
-use Rattle.ff_plan.specs.Layout.{IsAmong}
-use Rattle.ff_plan.proofs.Among.{among_either}
-use Rattle.ff_plan.proofs.Kept.{nothing, same_some}
+use Rattle.ff_plan_layout.specs.Choice.{head_at}
+use Rattle.ff_plan_layout.specs.Layout.{IsAmong}
+use Rattle.ff_plan_layout.proofs.Among.{among_either}
+use Rattle.ff_plan_layout.proofs.Kept.{nothing, same_some}
 
 -- ---- numbers that rise
 

@@ -13,40 +13,41 @@ use Rattle.ff_map.specs.declared.streams.StreamRef.{StreamRef}
 use Rattle.ff_map.specs.Choice.{numbered, streams_from, all_streams}
 use Rattle.ff_frame.specs.declared.head.StreamHead.{StreamHead}
 use Rattle.ff_words.specs.declared.job.Job.{Job}
-use Rattle.ff_plan.specs.declared.layout.InPad.{InPad}
-use Rattle.ff_plan.specs.declared.layout.Origin.{Origin}
-use Rattle.ff_plan.specs.declared.layout.Origin.TheVariants as origin
-use Rattle.ff_plan.specs.declared.layout.OutStream.{OutStream}
-use Rattle.ff_plan.specs.declared.layout.Placed.{Placed}
+use Rattle.ff_plan_layout.specs.declared.layout.InPad.{InPad}
+use Rattle.ff_plan_layout.specs.declared.layout.Origin.{Origin}
+use Rattle.ff_plan_layout.specs.declared.layout.Origin.TheVariants as origin
+use Rattle.ff_plan_layout.specs.declared.layout.OutStream.{OutStream}
+use Rattle.ff_plan_layout.specs.declared.layout.Placed.{Placed}
 use Rattle.ff_plan.specs.declared.planned.Plan.{Plan}
 use Rattle.ff_plan.specs.declared.planned.PlanNode.{PlanNode}
 use Rattle.ff_plan.specs.declared.planned.PlanNode.TheVariants as node
-use Rattle.ff_plan.specs.Choice.{head_at}
-use Rattle.ff_plan.specs.Graphs.{AreRules}
-use Rattle.ff_plan.specs.Planned.{layout_of, laid_out, planned}
-use Rattle.ff_plan.specs.Rules.{Rules}
-use Rattle.ff_plan.specs.Streams.{Passed}
-use Rattle.ff_plan.specs.Layout.{IsAmong, Laid, Layout, same_ref, placed, origins, shows, used, is_used, used_inputs}
-use Rattle.ff_plan.specs.Nodes.{before_decs, before_graphs, demux_at, dec_at, graph_at, origin_at, demux_wire, pad_wire, pad_wires, shortest_wire, enc_wire, mux_wire, shortest_wires, wires_of, plan_of}
-use Rattle.ff_plan.specs.Laws.{IsLaid}
+use Rattle.ff_plan_layout.specs.Choice.{head_at}
+use Rattle.ff_plan_layout.specs.Graphs.{AreRules}
+use Rattle.ff_plan_layout.specs.LaidOut.{layout_of, laid_out}
+use Rattle.ff_plan.specs.Planned.{planned}
+use Rattle.ff_plan_layout.specs.Rules.{Rules}
+use Rattle.ff_plan_layout.specs.declared.layout.Passed.{Passed}
+use Rattle.ff_plan_layout.specs.declared.layout.Laid.{Laid}
+use Rattle.ff_plan_layout.specs.Layout.{IsAmong, Layout, same_ref, placed, origins, shows, used, is_used, used_inputs, IsLaid}
+use Rattle.ff_plan.specs.Nodes.{before_decs, before_graphs, demux_at, dec_at, graph_at, origin_at, demux_wire, pad_wire, pad_wires, shortest_wire, enc_wire, mux_wire, wires_of, plan_of}
 use Rattle.ff_plan.specs.StartFits.{FitsCutter, FitsStart, StartsFit, FitsDec}
 use Rattle.ff_plan.specs.Wires.{Wire, enters_node, leaves_node, edges_of}
-use Rattle.ff_plan.proofs.Among.{never, all_joined, all_map, all_flat, was_among, among_either, among_map, among_flat, of_flat}
-use Rattle.ff_plan.proofs.Counts.{tally_any, tally_joined, tally_among, tally_filter_few}
+use Rattle.ff_plan_layout.proofs.Among.{never, all_joined, all_map, all_flat, was_among, among_either, among_map, among_flat, of_flat}
+use Rattle.ff_plan_layout.proofs.Counts.{tally_any, tally_joined, tally_among, tally_filter_few}
 use Rattle.ff_plan.proofs.EndFits.{IsAt, In_demuxes, In_decs, In_graphs, In_shortests, In_encs, In_muxes, is_at, five, lanes_some}
-use Rattle.ff_plan.proofs.Graphed.{Walked, walked, walked_laid, inside_of, of_map}
+use Rattle.ff_plan_layout.proofs.Graphed.{Walked, walked, walked_laid, inside_of, of_map}
 use Rattle.ff_plan.proofs.GraphFits.{in_comes, by_rows}
 use Rattle.ff_plan.proofs.GraphLanes.{lanes_joined, lanes_none}
-use Rattle.ff_plan.proofs.Kept.{any_there, same_some, among_at, below_at, first_place, place_passes, one_kept}
+use Rattle.ff_plan_layout.proofs.Kept.{any_there, same_some, among_at, below_at, first_place, place_passes, one_kept}
 use Rattle.ff_plan.proofs.Lanes.{wire_lanes, into_is, out_is}
-use Rattle.ff_plan.proofs.Layouts.{demux_below, map_length, less_or, nat_self, same_self, wires_next}
-use Rattle.ff_plan.proofs.Made.{Comes}
-use Rattle.ff_plan.proofs.Numbered.{is_same}
-use Rattle.ff_plan.proofs.Outs.{Passes}
-use Rattle.ff_plan.proofs.Results.{same_ok, behind_ok}
+use Rattle.ff_plan.proofs.Layouts.{demux_below, wires_next}
+use Rattle.ff_plan_layout.proofs.Sizes.{map_length, less_or}
+use Rattle.ff_plan_layout.proofs.Tests.{nat_self, same_self, is_same, same_test, other_test}
+use Rattle.ff_plan_layout.proofs.Makings.{Comes}
+use Rattle.ff_plan_layout.proofs.Outs.{Passes}
+use Rattle.ff_plan_layout.proofs.Results.{same_ok, behind_ok}
 use Rattle.ff_plan.proofs.Rising.{rises_less, range_rises, head_is}
-use Rattle.ff_plan.proofs.Steps.{same_test, other_test}
-use Rattle.ff_plan.proofs.Uses.{only_place}
+use Rattle.ff_plan_layout.proofs.Uses.{only_place}
 
 -- ---- no place stands twice
 
@@ -167,8 +168,8 @@ module _ (l : Layout) (laid : IsLaid l) where
     none_in = five l laid (enters_node k) [] [] [] [] []
         (lanes_none (enters_node k) (demux_wire l) (used l) (λ s a. other_test (demux_wire l s).to k (λ e. (let lt = low in omega (arith, e, lt)))))
         (pads_none_in l.graphs)
-        (shorts_none_in l.joint)
-        (encs_none_in l.joint)
+        shorts_none_in
+        encs_none_in
         (lanes_none (enters_node k) (mux_wire l) ps (λ p a. other_test (mux_wire l p).to k (λ e. (let lt = low in omega (arith, e, lt))))) where
           pads_none_in : (gs : List Laid) → wire_lanes (enters_node k) (flat_map (pad_wires l) gs) ≡ []
           pads_none_in [] = refl
@@ -177,13 +178,11 @@ module _ (l : Layout) (laid : IsLaid l) where
               ∙ (ap (λ (ls : List Lane). ls ++ wire_lanes (enters_node k) (flat_map (pad_wires l) gs)) (lanes_none (enters_node k) (pad_wire l y.graph) y.ins (λ p a. other_test (graph_at l y.graph) k (λ e. (let lt = low in omega (arith, e, lt)))))
               ∙ pads_none_in gs)
 
-          shorts_none_in : (b : Bool) → wire_lanes (enters_node k) (shortest_wires l b) ≡ []
-          shorts_none_in true = lanes_none (enters_node k) (shortest_wire l) ps (λ p a. other_test (shortest_wire l p).to k (λ e. (let lt = low in omega (arith, e, lt))))
-          shorts_none_in false = refl
+          shorts_none_in : wire_lanes (enters_node k) (map (shortest_wire l) ps) ≡ []
+          shorts_none_in = lanes_none (enters_node k) (shortest_wire l) ps (λ p a. other_test (shortest_wire l p).to k (λ e. (let lt = low in omega (arith, e, lt))))
 
-          encs_none_in : (b : Bool) → wire_lanes (enters_node k) (map (enc_wire l b) ps) ≡ []
-          encs_none_in true = lanes_none (enters_node k) (enc_wire l true) ps (λ p a. other_test (enc_wire l true p).to k (λ e. (let lt = low in omega (arith, e, lt))))
-          encs_none_in false = lanes_none (enters_node k) (enc_wire l false) ps (λ p a. other_test (enc_wire l false p).to k (λ e. (let lt = low in omega (arith, e, lt))))
+          encs_none_in : wire_lanes (enters_node k) (map (enc_wire l) ps) ≡ []
+          encs_none_in = lanes_none (enters_node k) (enc_wire l) ps (λ p a. other_test (enc_wire l p).to k (λ e. (let lt = low in omega (arith, e, lt))))
 
     abbrev own : Stream → Bool
     own s = s.at.input == i
@@ -191,7 +190,7 @@ module _ (l : Layout) (laid : IsLaid l) where
     own_out : wire_lanes (leaves_node k) (wires_of l) ≡ map (λ (s : Stream). Packets s.head) (filter own (used l))
     own_out =
         let mine = map (λ (s : Stream). Packets s.head) (filter own (used l)) in
-        five l laid (leaves_node k) mine [] [] [] [] (lanes_some (leaves_node k) (demux_wire l) own (used l) from_test) (pads_none_out l.graphs) (shorts_none_out l.joint) (encs_none_out l.joint)
+        five l laid (leaves_node k) mine [] [] [] [] (lanes_some (leaves_node k) (demux_wire l) own (used l) from_test) (pads_none_out l.graphs) shorts_none_out encs_none_out
         (lanes_none (leaves_node k) (mux_wire l) ps (λ p a. other_test (mux_wire l p).from k (λ e. (let lt = low in omega (arith, e, lt))))) ∙ append-nil mine where
           pads_none_out : (gs : List Laid) → wire_lanes (leaves_node k) (flat_map (pad_wires l) gs) ≡ []
           pads_none_out [] = refl
@@ -201,13 +200,11 @@ module _ (l : Layout) (laid : IsLaid l) where
               (let lt = low in let h = origin_high p.source in omega (arith, e, lt, h)))))
               ∙ pads_none_out gs)
 
-          shorts_none_out : (b : Bool) → wire_lanes (leaves_node k) (shortest_wires l b) ≡ []
-          shorts_none_out true = lanes_none (leaves_node k) (shortest_wire l) ps (λ p a. other_test (shortest_wire l p).from k (λ e. (let lt = low in let h = origin_high p.what.source in omega (arith, e, lt, h))))
-          shorts_none_out false = refl
+          shorts_none_out : wire_lanes (leaves_node k) (map (shortest_wire l) ps) ≡ []
+          shorts_none_out = lanes_none (leaves_node k) (shortest_wire l) ps (λ p a. other_test (shortest_wire l p).from k (λ e. (let lt = low in let h = origin_high p.what.source in omega (arith, e, lt, h))))
 
-          encs_none_out : (b : Bool) → wire_lanes (leaves_node k) (map (enc_wire l b) ps) ≡ []
-          encs_none_out true = lanes_none (leaves_node k) (enc_wire l true) ps (λ p a. other_test (enc_wire l true p).from k (λ e. (let lt = low in omega (arith, e, lt))))
-          encs_none_out false = lanes_none (leaves_node k) (enc_wire l false) ps (λ p a. other_test (enc_wire l false p).from k (λ e. (let lt = low in let h = origin_high p.what.source in omega (arith, e, lt, h))))
+          encs_none_out : wire_lanes (leaves_node k) (map (enc_wire l) ps) ≡ []
+          encs_none_out = lanes_none (leaves_node k) (enc_wire l) ps (λ p a. other_test (enc_wire l p).from k (λ e. (let lt = low in omega (arith, e, lt))))
 
     outs_are : lanes_out_of (edges_of (wires_of l)) k ≡ map (λ (s : Stream). Packets s.head) (filter own (used l))
     outs_are = out_is k (wires_of l) (wires_next l laid k (inl (let lt = low in omega (arith, lt)))) ∙ own_out
@@ -253,7 +250,7 @@ module _ (l : Layout) (laid : IsLaid l) where
     dec_in : wire_lanes (enters_node k) (wires_of l) ≡ Packets s.head ∷ []
     dec_in = five l laid (enters_node k) (Packets s.head ∷ []) [] [] [] []
         (lanes_some (enters_node k) (demux_wire l) (λ (t : Stream). dec_at l t.at == k) (used l) (λ t. refl) ∙ ap (λ (ts : List Stream). map (λ (t : Stream). Packets t.head) ts) only_own)
-        (no_pads l.graphs) (no_shorts l.joint) (no_encs l.joint)
+        (no_pads l.graphs) no_shorts no_encs
         (lanes_none (enters_node k) (mux_wire l) ps (λ p a. other_test (mux_wire l p).to k (λ e. (let lt = dec_low in omega (arith, e, lt))))) where
           no_pads : (gs : List Laid) → wire_lanes (enters_node k) (flat_map (pad_wires l) gs) ≡ []
           no_pads [] = refl
@@ -262,13 +259,11 @@ module _ (l : Layout) (laid : IsLaid l) where
               ∙ (ap (λ (ls : List Lane). ls ++ wire_lanes (enters_node k) (flat_map (pad_wires l) gs)) (lanes_none (enters_node k) (pad_wire l y.graph) y.ins (λ p a. other_test (graph_at l y.graph) k (λ e. (let lt = dec_low in omega (arith, e, lt)))))
               ∙ no_pads gs)
 
-          no_shorts : (b : Bool) → wire_lanes (enters_node k) (shortest_wires l b) ≡ []
-          no_shorts true = lanes_none (enters_node k) (shortest_wire l) ps (λ p a. other_test (shortest_wire l p).to k (λ e. (let lt = dec_low in omega (arith, e, lt))))
-          no_shorts false = refl
+          no_shorts : wire_lanes (enters_node k) (map (shortest_wire l) ps) ≡ []
+          no_shorts = lanes_none (enters_node k) (shortest_wire l) ps (λ p a. other_test (shortest_wire l p).to k (λ e. (let lt = dec_low in omega (arith, e, lt))))
 
-          no_encs : (b : Bool) → wire_lanes (enters_node k) (map (enc_wire l b) ps) ≡ []
-          no_encs true = lanes_none (enters_node k) (enc_wire l true) ps (λ p a. other_test (enc_wire l true p).to k (λ e. (let lt = dec_low in omega (arith, e, lt))))
-          no_encs false = lanes_none (enters_node k) (enc_wire l false) ps (λ p a. other_test (enc_wire l false p).to k (λ e. (let lt = dec_low in omega (arith, e, lt))))
+          no_encs : wire_lanes (enters_node k) (map (enc_wire l) ps) ≡ []
+          no_encs = lanes_none (enters_node k) (enc_wire l) ps (λ p a. other_test (enc_wire l p).to k (λ e. (let lt = dec_low in omega (arith, e, lt))))
 
     -- ---- the wires that leave it
 
@@ -287,14 +282,13 @@ module _ (l : Layout) (laid : IsLaid l) where
     stream_same : (p : Placed) → IsAmong p ps → (origin_at l p.what.source == k) ≡ true → ◌≡◌ {A = Lane} (Frames p.what.head) (Frames s.head)
     stream_same p i e = frames p.what.head (streams_same p i (shown_here p.what.source (is_same (origin_at l p.what.source) k e)))
 
-    ends_same : (b : Bool) → AllByRecursion Same (shortest_wires l b) × AllByRecursion Same (map (enc_wire l b) ps)
-    ends_same true = (all_map Same (shortest_wire l) ps stream_same, all_map Same (enc_wire l true) ps (λ p i e. absurd (let lt = dec_low in let f = is_same (enc_wire l true p).from k e in omega (arith, f, lt))))
-    ends_same false = (tt, all_map Same (enc_wire l false) ps stream_same)
+    ends_same : AllByRecursion Same (map (shortest_wire l) ps) × AllByRecursion Same (map (enc_wire l) ps)
+    ends_same = (all_map Same (shortest_wire l) ps stream_same, all_map Same (enc_wire l) ps (λ p i e. absurd (let lt = dec_low in let f = is_same (enc_wire l p).from k e in omega (arith, f, lt))))
 
     all_same : AllByRecursion Same (wires_of l)
     all_same =
-        let shorts = shortest_wires l l.joint in let encs = map (enc_wire l l.joint) ps in let muxes = map (mux_wire l) ps in
-        let ends = ends_same l.joint in
+        let shorts = map (shortest_wire l) ps in let encs = map (enc_wire l) ps in let muxes = map (mux_wire l) ps in
+        let ends = ends_same in
         all_joined Same (map (demux_wire l) (used l)) (flat_map (pad_wires l) l.graphs ++ (shorts ++ (encs ++ muxes)))
         (all_map Same (demux_wire l) (used l) (λ t i e. absurd (let lt = demux_below l t i in let f = is_same (demux_wire l t).from k e in omega (arith, f, lt, place_))))
         (all_joined Same (flat_map (pad_wires l) l.graphs) (shorts ++ (encs ++ muxes))
@@ -303,17 +297,16 @@ module _ (l : Layout) (laid : IsLaid l) where
         (all_map Same (mux_wire l) ps (λ p i e. absurd (let lt = dec_low in let f = is_same (mux_wire l p).from k e in omega (arith, f, lt)))))))
 
     -- one of them at least
-    some_end : (b : Bool) (p : Placed) → IsAmong p ps → origin_at l p.what.source ≡ k → 1 ≤ tally (leaves_node k) (shortest_wires l b) + tally (leaves_node k) (map (enc_wire l b) ps)
-    some_end true p i e = (let t = tally_among (leaves_node k) (shortest_wire l p) (map (shortest_wire l) ps) (among_map (shortest_wire l) p ps i) (same_test (origin_at l p.what.source) k e) in omega (arith, t))
-    some_end false p i e = (let t = tally_among (leaves_node k) (enc_wire l false p) (map (enc_wire l false) ps) (among_map (enc_wire l false) p ps i) (same_test (origin_at l p.what.source) k e) in omega (arith, t))
+    some_end : (p : Placed) → IsAmong p ps → origin_at l p.what.source ≡ k → 1 ≤ tally (leaves_node k) (map (shortest_wire l) ps) + tally (leaves_node k) (map (enc_wire l) ps)
+    some_end p i e = (let t = tally_among (leaves_node k) (shortest_wire l p) (map (shortest_wire l) ps) (among_map (shortest_wire l) p ps i) (same_test (origin_at l p.what.source) k e) in omega (arith, t))
 
     abbrev in_sources : List Origin
     in_sources = flat_map (λ (y : Laid). map (λ (i : InPad). i.source) y.ins) l.graphs
 
     some_use : (o : Origin) → IsAmong o (origins l) → origin_at l o ≡ k → 1 ≤ tally (leaves_node k) (wires_of l)
     some_use o io e =
-        let demuxes = map (demux_wire l) (used l) in let pads = flat_map (pad_wires l) l.graphs in let shorts = shortest_wires l l.joint in
-        let encs = map (enc_wire l l.joint) ps in let muxes = map (mux_wire l) ps in
+        let demuxes = map (demux_wire l) (used l) in let pads = flat_map (pad_wires l) l.graphs in let shorts = map (shortest_wire l) ps in
+        let encs = map (enc_wire l) ps in let muxes = map (mux_wire l) ps in
         let j1 = tally_joined (leaves_node k) demuxes (pads ++ (shorts ++ (encs ++ muxes))) in let j2 = tally_joined (leaves_node k) pads (shorts ++ (encs ++ muxes)) in
         let j3 = tally_joined (leaves_node k) shorts (encs ++ muxes) in let j4 = tally_joined (leaves_node k) encs muxes in
         elim (among_either o in_sources (map (λ (p : Placed). p.what.source) ps) io) [
@@ -322,7 +315,7 @@ module _ (l : Layout) (laid : IsLaid l) where
               (same_test (origin_at l i.0.source) k (ap (λ (x : Origin). origin_at l x) i.2 ∙ e)) in
               omega (arith, j1, j2, j3, j4, t))
           | inr b ↦ (let p = of_map (λ (p : Placed). p.what.source) o ps b in
-              let t = some_end l.joint p.0 p.1 (ap (λ (x : Origin). origin_at l x) p.2 ∙ e) in
+              let t = some_end p.0 p.1 (ap (λ (x : Origin). origin_at l x) p.2 ∙ e) in
               omega (arith, j1, j2, j3, j4, t))
         ]
 

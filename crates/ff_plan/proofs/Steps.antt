@@ -61,9 +61,3 @@ edges_next ws n d lt =
     ap (λ (xs : List Wire). edges_of xs) (take_next ws n d lt) ∙ (edges_end [] front w ∙
     (ap (λ (k : ℕ). edges_of front ++ record { from = w.from; out_port = port_or k w.port; to = w.to; in_port = tally (enters_node w.to) (all_behind [] front); lane = w.lane } ∷ []) outs
     ∙ ap (λ (k : ℕ). edges_of front ++ record { from = w.from; out_port = port_or (tally (λ (e : Edge). e.from == w.from) (edges_of front)) w.port; to = w.to; in_port = k; lane = w.lane } ∷ []) ins))
-
-pub same_test : (a k : ℕ) → a ≡ k → (a == k) ≡ true
-same_test a k e = grind (arith, nat_tests)
-
-pub other_test : (a k : ℕ) → (a ≡ k → ⊥) → (a == k) ≡ false
-other_test a k e = grind (arith, nat_tests)

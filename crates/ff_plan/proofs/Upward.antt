@@ -7,7 +7,7 @@ use Rattle.ff_plan.specs.Wires.{Wire, edges_behind, edges_of}
 use Rattle.ff_stream.specs.edges.Ports.{leads_to, edge_to, shape_of, IsFed}
 use Rattle.ff_plan.specs.Laws.{GoUpward, IsUp}
 use Rattle.ff_stream.specs.edges.Ports.{HasIns, HasOuts}
-use Rattle.ff_plan.proofs.Numbered.{hit, miss}
+use Rattle.ff_plan_layout.proofs.Tests.{hit, miss}
 
 -- the element at the first place that passes does pass
 first_of : {A : Type 0} (p : A → Bool) (x : A) (xs : List A) (d : A) (b : Bool) → p x ≡ b → (position_or_len p xs < length xs → p (slice_index_or xs (position_or_len p xs) d) ≡ true) → position_or_len p (x ∷ xs) < length (x ∷ xs) → p (slice_index_or (x ∷ xs) (position_or_len p (x ∷ xs)) d) ≡ true

@@ -8,7 +8,7 @@ use Rattle.ff_words.specs.declared.job.OutputJob.{OutputJob}
 use Rattle.ff_plan.specs.declared.planned.Plan.{Plan}
 use Rattle.ff_plan.specs.declared.planned.PlanNode.{PlanNode}
 use Rattle.ff_plan.specs.declared.planned.PlanNode.TheVariants as node
-use Rattle.ff_plan.specs.Streams.{packed_as}
+use Rattle.ff_plan_layout.specs.Streams.{packed_as}
 
 -- the frames of all streams of an output, with these heads, enter node k and leave it
 pub record FitsShortest (heads : List StreamHead) (edges : List Edge) (k : ℕ) : Type 0 where

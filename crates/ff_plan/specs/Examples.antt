@@ -21,11 +21,10 @@ use Rattle.ff_map.specs.declared.map.Pick.TheVariants as pick
 use Rattle.ff_stream.specs.declared.edges.edge.Edge.{Edge}
 use Rattle.ff_plan.specs.declared.planned.Plan.{Plan}
 use Rattle.ff_plan.specs.declared.planned.PlanNode.TheVariants as node
-use Rattle.ff_plan.specs.Texts.{Complex, Null}
+use Rattle.ff_plan_layout.specs.declared.layout.GraphText.TheVariants.{Complex, Null}
 use Rattle.ff_sched.specs.declared.routes.Way.TheVariants as way
 use Rattle.ff_graph_links.specs.labels.Labels.{taken_in, given_in}
-use Rattle.ff_plan.specs.Rules.{Rules}
-use Rattle.ff_plan.specs.Streams.{most_streams}
+use Rattle.ff_plan_layout.specs.Rules.{Rules}
 
 -- the texts that the examples use as labels of streams
 abbrev pub example_map : List ℕ → Option MapSpec
@@ -38,16 +37,13 @@ first_or other (Some h ∷ hs) = h
 first_or other hs = other
 
 -- every graph has one open input and one open output, with these labels
-abbrev pub example_rules : Bool → Bool → Option (List ℕ) → Option (List ℕ) → Kind → StreamHead → Rules
-example_rules nulls joint taken given k other = record {
+abbrev pub example_rules : Option (List ℕ) → Option (List ℕ) → Kind → StreamHead → Rules
+example_rules taken given k other = record {
   map_of = example_map;
   known = λ name. true;
   loops = λ g. false;
   open_ins = λ g. record { label = taken; kind = k } ∷ [];
   configured = λ g hs. Ok (record { label = given; head = first_or other hs } ∷ []);
-  nulls = nulls;
-  joint = joint;
-  most = most_streams;
 }
 
 abbrev pub example_output : TimeCut → FileFormat → List MapSpec → OutputJob
@@ -87,28 +83,18 @@ map_nth n optional = record { from = from.Input 0 (pick.Nth kind.Video n); optio
 abbrev pub map_label : List ℕ → MapSpec
 map_label l = record { from = from.Label l; optional = false }
 
--- `-map 0:v -f yuv4mpegpipe`: Demux, Dec, Enc, Mux
+-- `-map 0:v -f yuv4mpegpipe`: Demux, Dec, the null graph, Shortest, Enc, Mux
 abbrev pub pictures_plan : StreamHead → Plan
 pictures_plan h = record {
-  nodes = node.Demux 0 ∷ node.Dec (record { input = 0; stream = 0 }) ∷ node.Enc 0 0 ∷ node.Mux 0 ∷ [];
-  edges = edge 0 0 1 0 h true ∷ edge 1 0 2 0 h false ∷ edge 2 0 3 0 h true ∷ [];
-  routes = record { sources = 1; streams = way.Source 0 ∷ []; graphs = [] };
-  texts = [];
+  nodes = node.Demux 0 ∷ node.Dec (record { input = 0; stream = 0 }) ∷ node.Graph 0 ∷ node.Shortest 0 ∷ node.Enc 0 0 ∷ node.Mux 0 ∷ [];
+  edges = edge 0 0 1 0 h true ∷ edge 1 0 2 0 h false ∷ edge 2 0 3 0 h false ∷ edge 3 0 4 0 h false ∷ edge 4 0 5 0 h true ∷ [];
+  routes = record { sources = 1; streams = way.Graph 0 ∷ []; graphs = (way.Source 0 ∷ []) ∷ [] };
+  texts = Null kind.Video ∷ [];
 }
 
 -- `-map 0:a -map 1:v`, with a sound and a picture
 abbrev pub two_plan : StreamHead → StreamHead → Plan
 two_plan a v = record {
-  nodes = node.Demux 0 ∷ node.Demux 1 ∷ node.Dec (record { input = 0; stream = 0 })
-      ∷ node.Dec (record { input = 1; stream = 0 }) ∷ node.Enc 0 0 ∷ node.Enc 0 1 ∷ node.Mux 0 ∷ [];
-  edges = edge 0 0 2 0 a true ∷ edge 1 0 3 0 v true ∷ edge 2 0 4 0 a false ∷ edge 3 0 5 0 v false ∷ edge 4 0 6 0 a true ∷ edge 5 0 6 1 v true ∷ [];
-  routes = record { sources = 2; streams = way.Source 0 ∷ way.Source 1 ∷ []; graphs = [] };
-  texts = [];
-}
-
--- the same with null graphs and a Shortest node
-abbrev pub two_joint_plan : StreamHead → StreamHead → Plan
-two_joint_plan a v = record {
   nodes = node.Demux 0 ∷ node.Demux 1 ∷ node.Dec (record { input = 0; stream = 0 })
       ∷ node.Dec (record { input = 1; stream = 0 }) ∷ node.Graph 0 ∷ node.Graph 1 ∷ node.Shortest 0 ∷ node.Enc 0 0 ∷ node.Enc 0 1 ∷ node.Mux 0 ∷ [];
   edges = edge 0 0 2 0 a true ∷ edge 1 0 3 0 v true ∷ edge 2 0 4 0 a false ∷ edge 3 0 5 0 v false ∷ edge 4 0 6 0 a false ∷ edge 5 0 6 1 v false
@@ -182,9 +168,6 @@ labelled_rules other = record {
   loops = λ g. false;
   open_ins = λ g. record { label = first_label (taken_in g); kind = kind.Audio } ∷ [];
   configured = λ g hs. Ok (record { label = first_label (given_in g); head = first_or other hs } ∷ []);
-  nulls = false;
-  joint = false;
-  most = most_streams;
 }
 
 -- `[b]anull[o]` and `[0:a]anull[b]`: graph 1 feeds graph 0
@@ -193,8 +176,8 @@ turned_graphs = null_between (codes "b" ∷ []) (codes "o" ∷ []) ∷ null_betw
 
 abbrev pub turned_graphs_plan : StreamHead → Plan
 turned_graphs_plan a = record {
-  nodes = node.Demux 0 ∷ node.Dec (record { input = 0; stream = 0 }) ∷ node.Graph 1 ∷ node.Graph 0 ∷ node.Enc 0 0 ∷ node.Mux 0 ∷ [];
-  edges = edge 0 0 1 0 a true ∷ edge 1 0 2 0 a false ∷ edge 2 0 3 0 a false ∷ edge 3 0 4 0 a false ∷ edge 4 0 5 0 a true ∷ [];
+  nodes = node.Demux 0 ∷ node.Dec (record { input = 0; stream = 0 }) ∷ node.Graph 1 ∷ node.Graph 0 ∷ node.Shortest 0 ∷ node.Enc 0 0 ∷ node.Mux 0 ∷ [];
+  edges = edge 0 0 1 0 a true ∷ edge 1 0 2 0 a false ∷ edge 2 0 3 0 a false ∷ edge 3 0 4 0 a false ∷ edge 4 0 5 0 a false ∷ edge 5 0 6 0 a true ∷ [];
   routes = record { sources = 1; streams = way.Graph 0 ∷ []; graphs = (way.Graph 1 ∷ []) ∷ (way.Source 0 ∷ []) ∷ [] };
   texts = Complex 0 ∷ Complex 1 ∷ [];
 }
@@ -203,27 +186,29 @@ turned_graphs_plan a = record {
 abbrev pub unlabelled_plan : StreamHead → StreamHead → Plan
 unlabelled_plan a v = record {
   nodes = node.Demux 0 ∷ node.Demux 1 ∷ node.Dec (record { input = 0; stream = 0 })
-      ∷ node.Dec (record { input = 1; stream = 0 }) ∷ node.Graph 0 ∷ node.Enc 0 0 ∷ node.Enc 0 1 ∷ node.Mux 0 ∷ [];
-  edges = edge 0 0 2 0 a true ∷ edge 1 0 3 0 v true ∷ edge 2 0 4 0 a false ∷ edge 4 0 5 0 a false ∷ edge 3 0 6 0 v false ∷ edge 5 0 7 0 a true
-      ∷ edge 6 0 7 1 v true ∷ [];
-  routes = record { sources = 2; streams = way.Graph 0 ∷ way.Source 1 ∷ []; graphs = (way.Source 0 ∷ []) ∷ [] };
-  texts = Complex 0 ∷ [];
+      ∷ node.Dec (record { input = 1; stream = 0 }) ∷ node.Graph 0 ∷ node.Graph 1 ∷ node.Shortest 0 ∷ node.Enc 0 0 ∷ node.Enc 0 1 ∷ node.Mux 0 ∷ [];
+  edges = edge 0 0 2 0 a true ∷ edge 1 0 3 0 v true ∷ edge 2 0 4 0 a false ∷ edge 3 0 5 0 v false ∷ edge 4 0 6 0 a false ∷ edge 5 0 6 1 v false
+      ∷ edge 6 0 7 0 a false ∷ edge 6 1 8 0 v false ∷ edge 7 0 9 0 a true ∷ edge 8 0 9 1 v true ∷ [];
+  routes = record { sources = 2; streams = way.Graph 0 ∷ way.Graph 1 ∷ []; graphs = (way.Source 0 ∷ []) ∷ (way.Source 1 ∷ []) ∷ [] };
+  texts = Complex 0 ∷ Null kind.Video ∷ [];
 }
 
 -- no map and two sounds: the one with more channels, of input 1; input 0 has no node
 abbrev pub automatic_plan : StreamHead → Plan
 automatic_plan a = record {
-  nodes = node.Demux 1 ∷ node.Dec (record { input = 1; stream = 0 }) ∷ node.Enc 0 0 ∷ node.Mux 0 ∷ [];
-  edges = edge 0 0 1 0 a true ∷ edge 1 0 2 0 a false ∷ edge 2 0 3 0 a true ∷ [];
-  routes = record { sources = 2; streams = way.Source 1 ∷ []; graphs = [] };
-  texts = [];
+  nodes = node.Demux 1 ∷ node.Dec (record { input = 1; stream = 0 }) ∷ node.Graph 0 ∷ node.Shortest 0 ∷ node.Enc 0 0 ∷ node.Mux 0 ∷ [];
+  edges = edge 0 0 1 0 a true ∷ edge 1 0 2 0 a false ∷ edge 2 0 3 0 a false ∷ edge 3 0 4 0 a false ∷ edge 4 0 5 0 a true ∷ [];
+  routes = record { sources = 2; streams = way.Graph 0 ∷ []; graphs = (way.Source 1 ∷ []) ∷ [] };
+  texts = Null kind.Audio ∷ [];
 }
 
 -- the same stream twice: the Dec has two outputs
 abbrev pub twice_plan : StreamHead → Plan
 twice_plan a = record {
-  nodes = node.Demux 0 ∷ node.Dec (record { input = 0; stream = 0 }) ∷ node.Enc 0 0 ∷ node.Enc 0 1 ∷ node.Mux 0 ∷ [];
-  edges = edge 0 0 1 0 a true ∷ edge 1 0 2 0 a false ∷ edge 1 1 3 0 a false ∷ edge 2 0 4 0 a true ∷ edge 3 0 4 1 a true ∷ [];
-  routes = record { sources = 1; streams = way.Source 0 ∷ way.Source 0 ∷ []; graphs = [] };
-  texts = [];
+  nodes = node.Demux 0 ∷ node.Dec (record { input = 0; stream = 0 }) ∷ node.Graph 0 ∷ node.Graph 1 ∷ node.Shortest 0
+      ∷ node.Enc 0 0 ∷ node.Enc 0 1 ∷ node.Mux 0 ∷ [];
+  edges = edge 0 0 1 0 a true ∷ edge 1 0 2 0 a false ∷ edge 1 1 3 0 a false ∷ edge 2 0 4 0 a false ∷ edge 3 0 4 1 a false
+      ∷ edge 4 0 5 0 a false ∷ edge 4 1 6 0 a false ∷ edge 5 0 7 0 a true ∷ edge 6 0 7 1 a true ∷ [];
+  routes = record { sources = 1; streams = way.Graph 0 ∷ way.Graph 1 ∷ []; graphs = (way.Source 0 ∷ []) ∷ (way.Source 0 ∷ []) ∷ [] };
+  texts = Null kind.Audio ∷ Null kind.Audio ∷ [];
 }

@@ -9,8 +9,10 @@ use Rattle.ff_words.specs.declared.job.Job.{Job}
 use Rattle.ff_plan.specs.declared.planned.Plan.{Plan}
 use Rattle.ff_plan.specs.declared.planned.PlanNode.TheVariants as node
 use Rattle.ff_graph_links.specs.labels.Clear.{IsClear}
-use Rattle.ff_plan.specs.Rules.{Rules, OpenOut}
-use Rattle.ff_plan.specs.Texts.{GraphText, graph_text}
+use Rattle.ff_plan_layout.specs.declared.open_pads.OpenOut.{OpenOut}
+use Rattle.ff_plan_layout.specs.Rules.{Rules}
+use Rattle.ff_plan_layout.specs.declared.layout.GraphText.{GraphText}
+use Rattle.ff_plan_layout.specs.Texts.{graph_text}
 
 -- Frames of these heads enter node k, one for each open input pad of the text of graph g; the rules make the graph with them, one without a
 -- loop whose labels are clear, and frames of what they make leave it.

@@ -4,11 +4,12 @@ use Rattle.std.specs.List.{position_or_len, cons_option, IsDistinct}
 use Rattle.ff_stream.specs.declared.edges.edge.Edge.{Edge}
 use Rattle.ff_map.specs.declared.streams.Stream.{Stream}
 use Rattle.ff_map.specs.Choice.{all_streams}
-use Rattle.ff_plan.specs.declared.layout.Origin.{Origin}
-use Rattle.ff_plan.specs.declared.layout.Origin.TheVariants as origin
-use Rattle.ff_plan.specs.declared.layout.InPad.{InPad}
-use Rattle.ff_plan.specs.declared.layout.Placed.{Placed}
-use Rattle.ff_plan.specs.Layout.{IsAmong, Laid, Layout, placed}
+use Rattle.ff_plan_layout.specs.declared.layout.Origin.{Origin}
+use Rattle.ff_plan_layout.specs.declared.layout.Origin.TheVariants as origin
+use Rattle.ff_plan_layout.specs.declared.layout.InPad.{InPad}
+use Rattle.ff_plan_layout.specs.declared.layout.Placed.{Placed}
+use Rattle.ff_plan_layout.specs.declared.layout.Laid.{Laid}
+use Rattle.ff_plan_layout.specs.Layout.{IsAmong, Layout, placed}
 use Rattle.ff_plan.specs.Nodes.{before_graphs, before_shortests, wires_of}
 use Rattle.ff_plan.specs.Wires.{Wire, edges_of}
 use Rattle.ff_stream.specs.edges.Ports.{HasOuts}
@@ -26,16 +27,6 @@ IsNextOf k w = w.from ≡ k → w.port ≡ None
 abbrev pub IsUp : ℕ → Wire → Type 0
 IsUp count w = (w.from < w.to) × (w.to < count)
 
--- the origin is there: a stream by its input's heads, a graph before this one in the order of nodes
-abbrev pub IsThere : Layout → ℕ → Origin → Type 0
-IsThere l before (origin.Stream s) = (k : Stream) × IsAmong k (all_streams l.heads) × (k.at ≡ s)
-IsThere l before (origin.Pad g p) = position_or_len (λ x. x.graph == g) l.graphs < before
-
--- a layout whose origins are all there, each graph after those that feed it
-pub record IsLaid (l : Layout) : Type 0 where
-  pub graphs : (g : Laid) (i : InPad) → IsAmong g l.graphs → IsAmong i g.ins → IsThere l (position_or_len (λ x. x.graph == g.graph) l.graphs) i.source
-  pub streams : (p : Placed) → IsAmong p (placed l) → IsThere l (length l.graphs) p.what.source
-
 -- the number is that of no graph
 abbrev pub IsNoGraph : Layout → ℕ → Type 0
 IsNoGraph l k = (k < before_graphs l) ⊎ (before_shortests l ≤ k)
@@ -52,9 +43,3 @@ IsNamedOf k w = w.from ≡ k → (q : ℕ) × (w.port ≡ Some q)
 abbrev pub named_at : ℕ → List Wire → List ℕ
 named_at k [] = []
 named_at k (w ∷ ws) = cond (w.from == k) (cons_option w.port (named_at k ws)) (named_at k ws)
-
--- each number below the length, once
-pub record EachOnce (ps : List ℕ) : Type 0 where
-  pub all : (q : ℕ) → q < length ps → IsAmong q ps
-  pub below : (q : ℕ) → IsAmong q ps → q < length ps
-  pub distinct : IsDistinct (λ p q. p == q) ps

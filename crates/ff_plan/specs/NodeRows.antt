@@ -2,10 +2,10 @@
 use Rattle.std.specs.Prelude.{◌≡◌, ◌⊎◌, ℕ, ◌^◌, ◌<◌, List, [], ◌++◌, length, map, slice_index_or}
 use Rattle.std.specs.List.{range_with_len}
 use Rattle.ff_map.specs.declared.streams.StreamRef.{StreamRef}
-use Rattle.ff_plan.specs.declared.layout.Placed.{Placed}
+use Rattle.ff_plan_layout.specs.declared.layout.Placed.{Placed}
 use Rattle.ff_plan.specs.declared.planned.PlanNode.{PlanNode}
 use Rattle.ff_plan.specs.declared.planned.PlanNode.TheVariants as node
-use Rattle.ff_plan.specs.Laws.{EachOnce}
+use Rattle.ff_plan_layout.specs.Layout.{EachOnce}
 
 -- Of so many inputs and outputs: first stand the Demux nodes of the inputs that are used, in the order of the inputs, then the Dec nodes, then
 -- the graphs, each number once, then a Shortest node for each output in turn or for none, then the Enc nodes of the streams of outputs, then a

@@ -11,23 +11,21 @@ use Rattle.ff_sched.specs.declared.routes.Way.{Way}
 use Rattle.ff_sched.specs.declared.routes.Way.TheVariants as way
 use Rattle.ff_plan.specs.Wires.{Wire, edges_of}
 use Rattle.ff_map.specs.declared.streams.Stream.{Stream}
-use Rattle.ff_plan.specs.declared.layout.Origin.{Origin}
-use Rattle.ff_plan.specs.declared.layout.Origin.TheVariants as origin
-use Rattle.ff_plan.specs.declared.layout.InPad.{InPad}
-use Rattle.ff_plan.specs.declared.layout.Placed.{Placed}
-use Rattle.ff_plan.specs.Layout.{Laid, Layout, same_ref, placed, used, is_used, used_inputs}
+use Rattle.ff_plan_layout.specs.declared.layout.Origin.{Origin}
+use Rattle.ff_plan_layout.specs.declared.layout.Origin.TheVariants as origin
+use Rattle.ff_plan_layout.specs.declared.layout.InPad.{InPad}
+use Rattle.ff_plan_layout.specs.declared.layout.Placed.{Placed}
+use Rattle.ff_plan_layout.specs.declared.layout.Laid.{Laid}
+use Rattle.ff_plan_layout.specs.Layout.{Layout, same_ref, placed, used, is_used, used_inputs}
 
 -- the numbers of all outputs
 abbrev pub output_numbers : Layout → List ℕ
 output_numbers l = range_with_len 0 (length l.outputs)
 
-abbrev pub shortests : Layout → List ℕ
-shortests l = cond l.joint (output_numbers l) []
-
 -- the nodes in the order of their numbers
 abbrev pub nodes_of : Layout → List PlanNode
 nodes_of l = map (λ i. node.Demux i) (used_inputs l) ++ (map (λ k. node.Dec k.at) (used l) ++ (map (λ g. node.Graph g.graph) l.graphs
-    ++ (map (λ o. node.Shortest o) (shortests l) ++ (map (λ p. node.Enc p.output p.stream) (placed l) ++ map (λ o. node.Mux o) (output_numbers l)))))
+    ++ (map (λ o. node.Shortest o) (output_numbers l) ++ (map (λ p. node.Enc p.output p.stream) (placed l) ++ map (λ o. node.Mux o) (output_numbers l)))))
 
 -- how many nodes stand before those of a kind
 abbrev pub before_decs : Layout → ℕ
@@ -40,7 +38,7 @@ abbrev pub before_shortests : Layout → ℕ
 before_shortests l = before_graphs l + length l.graphs
 
 abbrev pub before_encs : Layout → ℕ
-before_encs l = before_shortests l + length (shortests l)
+before_encs l = before_shortests l + length l.outputs
 
 abbrev pub before_muxes : Layout → ℕ
 before_muxes l = before_encs l + length (placed l)
@@ -91,21 +89,16 @@ pad_wires l g = map (pad_wire l g.graph) g.ins
 abbrev pub shortest_wire : Layout → Placed → Wire
 shortest_wire l p = record { from = origin_at l p.what.source; port = origin_port p.what.source; to = shortest_at l p.output; lane = Frames p.what.head }
 
--- to an Enc, from the output's Shortest node where it has one
-abbrev pub enc_wire : Layout → Bool → Placed → Wire
-enc_wire l true p = record { from = shortest_at l p.output; port = None; to = enc_at l p.number; lane = Frames p.what.head }
-enc_wire l false p = record { from = origin_at l p.what.source; port = origin_port p.what.source; to = enc_at l p.number; lane = Frames p.what.head }
+-- from there to an Enc
+abbrev pub enc_wire : Layout → Placed → Wire
+enc_wire l p = record { from = shortest_at l p.output; port = None; to = enc_at l p.number; lane = Frames p.what.head }
 
 -- from an Enc to a Mux
 abbrev pub mux_wire : Layout → Placed → Wire
 mux_wire l p = record { from = enc_at l p.number; port = None; to = mux_at l p.output; lane = Packets p.what.packed }
 
-abbrev pub shortest_wires : Layout → Bool → List Wire
-shortest_wires l true = map (shortest_wire l) (placed l)
-shortest_wires l false = []
-
 abbrev pub wires_of : Layout → List Wire
-wires_of l = map (demux_wire l) (used l) ++ (flat_map (pad_wires l) l.graphs ++ (shortest_wires l l.joint ++ (map (enc_wire l l.joint) (placed l)
+wires_of l = map (demux_wire l) (used l) ++ (flat_map (pad_wires l) l.graphs ++ (map (shortest_wire l) (placed l) ++ (map (enc_wire l) (placed l)
     ++ map (mux_wire l) (placed l))))
 
 -- the scheduler's way to a source
@@ -124,10 +117,6 @@ routes_of l = record {
   streams = map (λ p. way_to p.what.source) (placed l);
   graphs = map (λ g. ways_in (find (λ x. x.graph == g) l.graphs)) (range_with_len 0 (length l.graphs));
 }
-
--- the inputs whose sources have exited from the start
-abbrev pub unused_inputs : Layout → List ℕ
-unused_inputs l = filter (λ i. not (is_used l i)) (range_with_len 0 (length l.heads))
 
 abbrev pub plan_of : Layout → Plan
 plan_of l = record { nodes = nodes_of l; edges = edges_of (wires_of l); routes = routes_of l; texts = l.texts }

@@ -5,23 +5,23 @@ use Rattle.ff_stream.specs.declared.item.Lane.{Lane}
 use Rattle.ff_stream.specs.declared.item.Lane.TheVariants.{Frames, Packets}
 use Rattle.ff_map.specs.declared.streams.Stream.{Stream}
 use Rattle.ff_map.specs.declared.streams.StreamRef.{StreamRef}
-use Rattle.ff_plan.specs.declared.layout.InPad.{InPad}
-use Rattle.ff_plan.specs.declared.layout.Laid.{Laid}
-use Rattle.ff_plan.specs.declared.layout.Origin.{Origin}
-use Rattle.ff_plan.specs.declared.layout.Origin.TheVariants as origin
-use Rattle.ff_plan.specs.declared.layout.Placed.{Placed}
-use Rattle.ff_plan.specs.declared.layout.Want.{Want}
+use Rattle.ff_plan_layout.specs.declared.layout.InPad.{InPad}
+use Rattle.ff_plan_layout.specs.declared.layout.Laid.{Laid}
+use Rattle.ff_plan_layout.specs.declared.layout.Origin.{Origin}
+use Rattle.ff_plan_layout.specs.declared.layout.Origin.TheVariants as origin
+use Rattle.ff_plan_layout.specs.declared.layout.Placed.{Placed}
+use Rattle.ff_plan_layout.specs.declared.layout.Want.{Want}
 use Rattle.ff_plan.specs.declared.number.Wire.{Wire}
 use Rattle.ff_plan.specs.declared.planned.PlanNode.{PlanNode}
 use Rattle.ff_plan.specs.declared.planned.PlanNode.TheVariants as node
 pub use Rattle.ff_plan.specs.declared.firsts.Firsts.{Firsts}
 use Rattle.ff_plan.specs.declared.numbering.Drawing.{Drawing}
-use Rattle.ff_plan.specs.declared.planned.GraphText.{GraphText}
+use Rattle.ff_plan_layout.specs.declared.layout.GraphText.{GraphText}
 use Rattle.ff_plan.specs.declared.planned.Plan.{Plan}
 use Rattle.ff_sched.specs.declared.routes.Routes.{Routes}
 use Rattle.ff_frame.specs.declared.head.StreamHead.{StreamHead}
 use Rattle.ff_map.specs.Choice.{all_streams}
-use Rattle.ff_plan.specs.Layout.{same_ref, shows}
+use Rattle.ff_plan_layout.specs.Layout.{same_ref, shows}
 use Rattle.ff_plan.specs.Nodes.{origin_port, way_to, ways_in}
 use Rattle.ff_plan.specs.Wires.{edges_of}
 
@@ -39,20 +39,10 @@ sources_of g = map (λ i. i.source) g.ins
 abbrev pub all_sources : List Laid → List Placed → List Origin
 all_sources graphs placed = flat_map sources_of graphs ++ map (λ p. p.what.source) placed
 
--- a graph with few inputs, and what few such get
-abbrev pub HasFewIns : Laid → Type 0
-HasFewIns g = length g.ins ≤ 2 ^ 20
-
-abbrev pub IsFewWants : List Want → Type 0
-IsFewWants row = length row ≤ 2 ^ 20
-
-abbrev pub joined_outputs : ℕ → Bool → ℕ
-joined_outputs outputs joint = cond joint outputs 0
-
-abbrev pub nodes_in : List ℕ → List Stream → List Laid → ℕ → List Placed → ℕ → List PlanNode
-nodes_in inputs streams graphs shortests placed outputs =
+abbrev pub nodes_in : List ℕ → List Stream → List Laid → List Placed → ℕ → List PlanNode
+nodes_in inputs streams graphs placed outputs =
     map (λ i. node.Demux i) inputs ++ (map (λ k. node.Dec k.at) streams ++ (map (λ g. node.Graph g.graph) graphs
-    ++ (map (λ o. node.Shortest o) (range_with_len 0 shortests) ++ (map (λ p. node.Enc p.output p.stream) placed
+    ++ (map (λ o. node.Shortest o) (range_with_len 0 outputs) ++ (map (λ p. node.Enc p.output p.stream) placed
     ++ map (λ o. node.Mux o) (range_with_len 0 outputs)))))
 
 -- behind so many nodes of each kind
@@ -105,30 +95,20 @@ shortest_wire_in f streams graphs p = record {
   lane = Frames p.what.head;
 }
 
-abbrev pub enc_wire_in : Firsts → List Stream → List Laid → Placed → Wire
-enc_wire_in f streams graphs p = record {
-  from = origin_in f streams graphs p.what.source;
-  port = origin_port p.what.source;
-  to = f.encs + p.number;
-  lane = Frames p.what.head;
-}
-
--- from an output's Shortest node to an Enc
-abbrev pub joint_wire_in : Firsts → Placed → Wire
-joint_wire_in f p = record { from = f.shortests + p.output; port = None; to = f.encs + p.number; lane = Frames p.what.head }
+abbrev pub enc_wire_in : Firsts → Placed → Wire
+enc_wire_in f p = record { from = f.shortests + p.output; port = None; to = f.encs + p.number; lane = Frames p.what.head }
 
 abbrev pub mux_wire_in : Firsts → Placed → Wire
 mux_wire_in f p = record { from = f.encs + p.number; port = None; to = f.muxes + p.output; lane = Packets p.what.packed }
 
--- to each Enc, by the Shortest nodes where each output has one
-abbrev pub frame_wires_in : Firsts → List Stream → List Laid → Bool → List Placed → List Wire
-frame_wires_in f streams graphs true placed = map (shortest_wire_in f streams graphs) placed ++ map (joint_wire_in f) placed
-frame_wires_in f streams graphs false placed = map (enc_wire_in f streams graphs) placed
+-- to each Enc, by the Shortest nodes
+abbrev pub frame_wires_in : Firsts → List Stream → List Laid → List Placed → List Wire
+frame_wires_in f streams graphs placed = map (shortest_wire_in f streams graphs) placed ++ map (enc_wire_in f) placed
 
-abbrev pub wires_in : Firsts → List ℕ → List Stream → List Laid → Bool → List Placed → List Wire
-wires_in f inputs streams graphs joint placed =
+abbrev pub wires_in : Firsts → List ℕ → List Stream → List Laid → List Placed → List Wire
+wires_in f inputs streams graphs placed =
     map (demux_wire_in f inputs streams) streams ++ (flat_map (pad_wires_in f streams graphs) graphs
-    ++ (frame_wires_in f streams graphs joint placed ++ map (mux_wire_in f) placed))
+    ++ (frame_wires_in f streams graphs placed ++ map (mux_wire_in f) placed))
 
 -- the streams of inputs that are used, and their inputs
 abbrev pub streams_in : List (List StreamHead) → List Laid → List Placed → List Stream
@@ -138,9 +118,9 @@ abbrev pub inputs_in : List (List StreamHead) → List Laid → List Placed → 
 inputs_in heads graphs placed = filter (has_stream (streams_in heads graphs placed)) (range_with_len 0 (length heads))
 
 -- the wires of so many outputs
-abbrev pub outputs_wires : List ℕ → List Stream → List Laid → Bool → List Placed → ℕ → List Wire
-outputs_wires inputs streams graphs joint placed outputs =
-    wires_in (firsts_at (length inputs) (length streams) (length graphs) (joined_outputs outputs joint) (length placed)) inputs streams graphs joint placed
+abbrev pub outputs_wires : List ℕ → List Stream → List Laid → List Placed → ℕ → List Wire
+outputs_wires inputs streams graphs placed outputs =
+    wires_in (firsts_at (length inputs) (length streams) (length graphs) outputs (length placed)) inputs streams graphs placed
 
 abbrev pub routes_in : ℕ → List Laid → List Placed → Routes
 routes_in sources graphs placed = record {
@@ -150,16 +130,16 @@ routes_in sources graphs placed = record {
 }
 
 -- the nodes of these rows and the edges between them
-abbrev pub drawing_of : List ℕ → List Stream → List Laid → Bool → List Placed → ℕ → Drawing
-drawing_of inputs streams graphs joint placed outputs = record {
-  nodes = nodes_in inputs streams graphs (joined_outputs outputs joint) placed outputs;
-  edges = edges_of (outputs_wires inputs streams graphs joint placed outputs);
+abbrev pub drawing_of : List ℕ → List Stream → List Laid → List Placed → ℕ → Drawing
+drawing_of inputs streams graphs placed outputs = record {
+  nodes = nodes_in inputs streams graphs placed outputs;
+  edges = edges_of (outputs_wires inputs streams graphs placed outputs);
 }
 
 abbrev pub with_drawing : Drawing → Routes → List GraphText → Plan
 with_drawing drawing routes texts = record { nodes = drawing.nodes; edges = drawing.edges; routes = routes; texts = texts }
 
 -- the plan of so many outputs
-abbrev pub plan_in : List (List StreamHead) → Bool → List Laid → List Placed → ℕ → List GraphText → Plan
-plan_in heads joint graphs placed outputs texts =
-    with_drawing (drawing_of (inputs_in heads graphs placed) (streams_in heads graphs placed) graphs joint placed outputs) (routes_in (length heads) graphs placed) texts
+abbrev pub plan_in : List (List StreamHead) → List Laid → List Placed → ℕ → List GraphText → Plan
+plan_in heads graphs placed outputs texts =
+    with_drawing (drawing_of (inputs_in heads graphs placed) (streams_in heads graphs placed) graphs placed outputs) (routes_in (length heads) graphs placed) texts

@@ -11,7 +11,7 @@ use Rattle.ff_map.specs.Choice.{all_streams}
 use Rattle.ff_plan.specs.declared.planned.Plan.{Plan}
 use Rattle.ff_plan.specs.declared.planned.PlanNode.{PlanNode}
 use Rattle.ff_plan.specs.declared.planned.PlanNode.TheVariants as node
-use Rattle.ff_plan.specs.Choice.{head_at}
+use Rattle.ff_plan_layout.specs.Choice.{head_at}
 
 -- the packets of some streams of input i leave node k, in the order of the streams: of one at least
 pub record FitsCutter (heads : List (List StreamHead)) (edges : List Edge) (k i : ℕ) : Type 0 where

@@ -9,19 +9,20 @@ use Rattle.ff_lang.specs.declared.graph.Graph.{Graph}
 use Rattle.ff_words.specs.declared.job.OutputJob.{OutputJob}
 use Rattle.ff_plan.specs.declared.planned.Plan.{Plan}
 use Rattle.ff_plan.specs.EndFits.{EndsFit}
-use Rattle.ff_plan.specs.Rules.{Rules, OpenOut}
-use Rattle.ff_plan.specs.Streams.{takes_head}
+use Rattle.ff_plan_layout.specs.declared.open_pads.OpenOut.{OpenOut}
+use Rattle.ff_plan_layout.specs.Rules.{Rules}
+use Rattle.ff_plan_layout.specs.Streams.{most_streams, takes_head}
 
 -- Each output, whose streams have these heads, has some, no more than its format holds, and its format takes each.
-pub record AreTaken (rules : Rules) (outputs : List OutputJob) (heads : List (List StreamHead)) : Type 0 where
+pub record AreTaken (outputs : List OutputJob) (heads : List (List StreamHead)) : Type 0 where
   pub some : (o : ℕ) → o < length outputs → 1 ≤ length (slice_index_or heads o [])
-  pub few : (o : ℕ) (out : OutputJob) → slice_get outputs o ≡ Some out → length (slice_index_or heads o []) ≤ rules.most out.format
+  pub few : (o : ℕ) (out : OutputJob) → slice_get outputs o ≡ Some out → length (slice_index_or heads o []) ≤ most_streams out.format
   pub each : (o : ℕ) (out : OutputJob) → slice_get outputs o ≡ Some out → AllByRecursion (λ h. takes_head out h ≡ true) (slice_index_or heads o [])
 
 -- the nodes of outputs, and what their outputs take
-pub record OutputsFit (rules : Rules) (outputs : List OutputJob) (p : Plan) : Type 0 where
+pub record OutputsFit (outputs : List OutputJob) (p : Plan) : Type 0 where
   pub ends : EndsFit outputs p
-  pub taken : AreTaken rules outputs ends.heads
+  pub taken : AreTaken outputs ends.heads
 
 -- what is so of the heads of streams is so of what graphs make of them
 abbrev pub AreKeptBy : Rules → (StreamHead → Type 0) → Type 0

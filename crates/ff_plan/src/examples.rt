@@ -3,8 +3,8 @@ ghost use Rattle.std.specs.Prelude.{◌≡◌, true, false, [], ◌∷◌, codes
 ghost use Rattle.ff_time.specs.Fraction.{Fraction};
 ghost use Rattle.ff_words.specs.declared.job.FileFormat.TheVariants as format;
 ghost use Rattle.ff_map.specs.declared.map.Kind.TheVariants as kind;
-ghost use Rattle.ff_plan.specs.declared.planned.PlanError.TheVariants as fault;
-ghost use Rattle.ff_plan.specs.Examples.{example_rules, example_job, sound, pictures, map_in, map_nth, map_label, pictures_plan, two_plan, two_joint_plan};
+ghost use Rattle.ff_plan_layout.specs.declared.error.PlanError.TheVariants as fault;
+ghost use Rattle.ff_plan.specs.Examples.{example_rules, example_job, sound, pictures, map_in, map_nth, map_label, pictures_plan, two_plan};
 ghost use Rattle.ff_plan.specs.Examples.{trim_graph, trimmed_plan, turned_graph, turned_plan, null_between, labelled_rules, turned_graphs, turned_graphs_plan};
 ghost use Rattle.ff_plan.specs.Examples.{unlabelled_plan, automatic_plan, twice_plan};
 ghost use Rattle.ff_plan.specs.Planned.{planned};
@@ -13,46 +13,43 @@ ghost use Rattle.ff_time.specs.declared.cut.TimeCut.{TimeCut};
 /// A stream that isn't there is refused, and isn't missed where the map ends in `?`.
 pub fn missing_stream()
     ensures refused { (c : TimeCut) (t : Fraction)
-        → planned (example_rules false false None None kind.Video (pictures t)) (example_job c [] format.Y4m (map_nth 1 false ∷ [])) ((pictures t ∷ []) ∷ [])
+        → planned (example_rules None None kind.Video (pictures t)) (example_job c [] format.Y4m (map_nth 1 false ∷ [])) ((pictures t ∷ []) ∷ [])
         ≡ Err (fault.NoStream 0 0) }
     ensures optional { (c : TimeCut) (t : Fraction)
-        → planned (example_rules false false None None kind.Video (pictures t)) (example_job c [] format.Y4m (map_nth 1 true ∷ map_in 0 kind.Video ∷ []))
+        → planned (example_rules None None kind.Video (pictures t)) (example_job c [] format.Y4m (map_nth 1 true ∷ map_in 0 kind.Video ∷ []))
         ((pictures t ∷ []) ∷ []) ≡ Ok (pictures_plan (pictures t)) }
     ensures second_is_taken { (c : TimeCut) (t : Fraction)
-        → planned (example_rules false false None None kind.Video (pictures t)) (example_job c [] format.Y4m (map_in 0 kind.Video ∷ map_in 0 kind.Video ∷ []))
+        → planned (example_rules None None kind.Video (pictures t)) (example_job c [] format.Y4m (map_in 0 kind.Video ∷ map_in 0 kind.Video ∷ []))
         ((pictures t ∷ []) ∷ []) ≡ Err (fault.Takes 0 1) }
 {}
 
 /// A sound and pictures of two inputs into one output.
 pub fn two_streams()
-    ensures plain { (c : TimeCut) (t u : Fraction)
-        → planned (example_rules false false None None kind.Video (pictures u)) (example_job c [] format.FrameHash
-        (map_in 0 kind.Audio ∷ map_in 1 kind.Video ∷ [])) ((sound t 1 ∷ []) ∷ (pictures u ∷ []) ∷ []) ≡ Ok (two_plan (sound t 1) (pictures u)) }
-    ensures joint { (c : TimeCut) (t u : Fraction)
-        → planned (example_rules true true None None kind.Video (pictures u)) (example_job c [] format.FrameHash (map_in 0 kind.Audio ∷ map_in 1 kind.Video ∷ []))
-        ((sound t 1 ∷ []) ∷ (pictures u ∷ []) ∷ []) ≡ Ok (two_joint_plan (sound t 1) (pictures u)) }
+    ensures { (c : TimeCut) (t u : Fraction)
+        → planned (example_rules None None kind.Video (pictures u)) (example_job c [] format.FrameHash (map_in 0 kind.Audio ∷ map_in 1 kind.Video ∷ []))
+        ((sound t 1 ∷ []) ∷ (pictures u ∷ []) ∷ []) ≡ Ok (two_plan (sound t 1) (pictures u)) }
 {}
 
 /// A complex graph for the pictures, none for the sound.
 pub fn trimmed_pictures()
     ensures made { (c : TimeCut) (t u : Fraction)
-        → planned (example_rules true true (Some (codes "1:v")) (Some (codes "v")) kind.Video (pictures u)) (example_job c (trim_graph ∷ []) format.FrameHash
+        → planned (example_rules (Some (codes "1:v")) (Some (codes "v")) kind.Video (pictures u)) (example_job c (trim_graph ∷ []) format.FrameHash
         (map_in 0 kind.Audio ∷ map_label (codes "v") ∷ [])) ((sound t 1 ∷ []) ∷ (pictures u ∷ []) ∷ []) ≡ Ok (trimmed_plan (sound t 1) (pictures u)) }
     ensures unused { (c : TimeCut) (t u : Fraction)
-        → planned (example_rules true true (Some (codes "1:v")) (Some (codes "v")) kind.Video (pictures u)) (example_job c (trim_graph ∷ []) format.FrameHash
+        → planned (example_rules (Some (codes "1:v")) (Some (codes "v")) kind.Video (pictures u)) (example_job c (trim_graph ∷ []) format.FrameHash
         (map_in 0 kind.Audio ∷ [])) ((sound t 1 ∷ []) ∷ (pictures u ∷ []) ∷ []) ≡ Err (fault.UnusedLabel (codes "v")) }
     ensures unknown { (c : TimeCut) (t u : Fraction)
-        → planned (example_rules true true (Some (codes "1:v")) (Some (codes "v")) kind.Video (pictures u)) (example_job c (trim_graph ∷ []) format.FrameHash [])
+        → planned (example_rules (Some (codes "1:v")) (Some (codes "v")) kind.Video (pictures u)) (example_job c (trim_graph ∷ []) format.FrameHash [])
         ((sound t 1 ∷ []) ∷ []) ≡ Err (fault.UnknownLabel (codes "1:v")) }
 {}
 
 /// A graph whose filters join labels in another order.
 pub fn turned_channels()
     ensures made { (c : TimeCut) (t : Fraction)
-        → planned (example_rules true true (Some (codes "0:a")) (Some (codes "o")) kind.Audio (sound t 2)) (example_job c (turned_graph ∷ []) format.Wav
+        → planned (example_rules (Some (codes "0:a")) (Some (codes "o")) kind.Audio (sound t 2)) (example_job c (turned_graph ∷ []) format.Wav
         (map_label (codes "o") ∷ [])) ((sound t 2 ∷ []) ∷ []) ≡ Ok (turned_plan (sound t 2)) }
     ensures twice { (c : TimeCut) (t : Fraction)
-        → planned (example_rules true true (Some (codes "0:a")) (Some (codes "o")) kind.Audio (sound t 2)) (example_job c (turned_graph ∷ []) format.Wav
+        → planned (example_rules (Some (codes "0:a")) (Some (codes "o")) kind.Audio (sound t 2)) (example_job c (turned_graph ∷ []) format.Wav
         (map_label (codes "o") ∷ map_label (codes "o") ∷ [])) ((sound t 2 ∷ []) ∷ []) ≡ Err (fault.LabelTwice (codes "o")) }
 {}
 

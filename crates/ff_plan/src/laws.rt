@@ -3,17 +3,18 @@ ghost use Rattle.std.specs.Prelude.{◌≡◌, ℕ, ◌<◌, ◌≤◌, Bool, Li
 ghost use Rattle.std.specs.List.{AllByRecursion};
 ghost use Rattle.ff_map.specs.Choice.{AreBest};
 ghost use Rattle.ff_map.specs.declared.streams.StreamRef.{StreamRef};
-ghost use Rattle.ff_plan.specs.Choice.{best};
+ghost use Rattle.ff_plan_layout.specs.Choice.{best};
 ghost use Rattle.ff_plan.specs.Wires.{Wire, edges_of};
 ghost use Rattle.ff_stream.specs.edges.Ports.{shape_of, HasIns, HasOuts, IsFed};
 ghost use Rattle.ff_frame.specs.declared.head.StreamHead.{StreamHead};
 ghost use Rattle.ff_words.specs.declared.job.Job.{Job};
 ghost use Rattle.ff_plan.specs.declared.planned.PlanNode.TheVariants as node;
-ghost use Rattle.ff_plan.specs.Layout.{Layout, placed};
-ghost use Rattle.ff_plan.specs.Rules.{Rules};
-ghost use Rattle.ff_plan.specs.Planned.{laid_out};
+ghost use Rattle.ff_plan_layout.specs.Layout.{Layout, placed};
+ghost use Rattle.ff_plan_layout.specs.Rules.{Rules};
+ghost use Rattle.ff_plan_layout.specs.LaidOut.{laid_out};
 ghost use Rattle.ff_plan.specs.Nodes.{mux_at, node_count, nodes_of, wires_of};
-ghost use Rattle.ff_plan.specs.Laws.{IsLaid, GoUpward, IsNextOf, IsUp, IsNamedOf, named_at, EachOnce, IsNoGraph, GraphsHaveOuts};
+ghost use Rattle.ff_plan_layout.specs.Layout.{IsLaid, EachOnce};
+ghost use Rattle.ff_plan.specs.Laws.{GoUpward, IsNextOf, IsUp, IsNamedOf, named_at, IsNoGraph, GraphsHaveOuts};
 
 /// Every input of every node has one edge.
 pub fn wires_have_ins()

@@ -2,16 +2,16 @@
 ghost use Rattle.std.specs.Prelude.{◌≡◌, ◌+◌, ◌^◌, ◌<◌, ◌≤◌, ◌++◌, IfOk, OnOk, vec_len, length, map};
 ghost use Rattle.std.specs.List.{AllByRecursion, range_with_len};
 ghost use Rattle.ff_map.specs.declared.streams.Stream.{Stream};
-ghost use Rattle.ff_plan.specs.declared.layout.Laid.{Laid};
-ghost use Rattle.ff_plan.specs.declared.layout.Placed.{Placed};
+ghost use Rattle.ff_plan_layout.specs.declared.layout.Laid.{Laid};
+ghost use Rattle.ff_plan_layout.specs.declared.layout.Placed.{Placed};
 ghost use Rattle.ff_plan.specs.declared.planned.PlanNode.TheVariants as node;
-ghost use Rattle.ff_plan.specs.Layout.{place_row as row_placed, place_from};
-ghost use Rattle.ff_plan.specs.Numbering.{joined_outputs, nodes_in};
-ghost use Rattle.ff_plan.specs.Rows.{rows};
+ghost use Rattle.ff_plan_layout.specs.Layout.{place_row as row_placed, place_from};
+ghost use Rattle.ff_plan.specs.Numbering.{nodes_in};
+ghost use Rattle.ff_plan_layout.specs.Rows.{rows};
 
-use crate::layout::{Laid, OutStream, Placed};
 use crate::planned::PlanNode;
 use ff_map::Stream;
+use ff_plan_layout::{Laid, OutStream, Placed};
 use std::alloc::{AllocError, Global};
 
 // The streams of an output in their places, of which the first has this number.
@@ -107,30 +107,22 @@ fn add_muxes(nodes: &mut Vec<PlanNode>, outputs: u32) -> Result<(), AllocError>
     Ok(())
 }
 
-/// How many of so many outputs have a Shortest node.
-pub(crate) fn count_shortests(outputs: u32, joint: bool) -> u32
-    ensures { result ≡ joined_outputs outputs joint }
-{
-    if joint { outputs } else { 0 }
-}
-
 /// The nodes of these inputs, streams, graphs and outputs.
 pub(crate) fn all_nodes(
     alloc: Global,
     inputs: &[u32],
     streams: &[Stream],
     graphs: &[Laid],
-    shortests: u32,
     placed: &[Placed],
     outputs: u32,
 ) -> Result<Vec<PlanNode>, AllocError>
-    ensures { IfOk result (λ ns. ns.items ≡ nodes_in inputs.now streams.now graphs.now shortests placed.now outputs) }
+    ensures { IfOk result (λ ns. ns.items ≡ nodes_in inputs.now streams.now graphs.now placed.now outputs) }
 {
     let mut nodes = Vec::new(alloc);
     add_demuxes(&mut nodes, inputs)?;
     add_decs(&mut nodes, streams)?;
     add_graphs(&mut nodes, graphs)?;
-    add_shortests(&mut nodes, shortests)?;
+    add_shortests(&mut nodes, outputs)?;
     add_encs(&mut nodes, placed)?;
     add_muxes(&mut nodes, outputs)?;
     Ok(nodes)

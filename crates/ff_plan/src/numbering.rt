@@ -2,24 +2,25 @@
 ghost use Rattle.std.specs.Prelude.{◌≡◌, ◌≤◌, IfOk, length, vec_len};
 ghost use Rattle.std.specs.List.{AllByRecursion};
 ghost use Rattle.ff_map.specs.Choice.{lists};
-ghost use Rattle.ff_plan.specs.Layout.{placed as placed_in};
+ghost use Rattle.ff_plan_layout.specs.Layout.{placed as placed_in};
 ghost use Rattle.ff_plan.specs.Nodes.{plan_of};
-ghost use Rattle.ff_plan.specs.Numbering.{drawing_of, firsts_at, outputs_wires, plan_in, routes_in, HasFewIns};
-ghost use Rattle.ff_plan.specs.Limits.{IsSmall};
-ghost use Rattle.ff_plan.specs.Rows.{layout_in};
+ghost use Rattle.ff_plan.specs.Numbering.{drawing_of, firsts_at, outputs_wires, plan_in, routes_in};
+ghost use Rattle.ff_plan_layout.specs.Limits.{HasFewIns};
+ghost use Rattle.ff_plan_layout.specs.Limits.{IsSmall};
+ghost use Rattle.ff_plan_layout.specs.Rows.{layout_in};
 ghost use Rattle.ff_plan.specs.Wires.{edges_of};
 
 use crate::firsts::Firsts;
-use crate::layout::{Laid, Laying, Placed};
-use crate::nodes::{all_nodes, count_shortests, place};
+use crate::nodes::{all_nodes, place};
 use crate::number::number_ports;
 use crate::origins::{all_origins, used_inputs, used_streams};
-use crate::planned::{GraphText, Plan, PlanNode};
+use crate::planned::{Plan, PlanNode};
 use crate::routes::{graph_ways, ways};
 use crate::wires::wire_up;
 use ff_frame::StreamHead;
 use ff_lang::Sequence;
 use ff_map::Stream;
+use ff_plan_layout::{GraphText, Laid, Laying, Placed};
 use ff_sched::{Graphs, Routes, Ways};
 use ff_stream::Edge;
 use std::alloc::{AllocError, Global};
@@ -65,7 +66,6 @@ fn all_edges(
     inputs: &[u32],
     streams: &[Stream],
     graphs: &[Laid],
-    joint: bool,
     placed: &[Placed],
     outputs: u32,
 ) -> Result<Vec<Edge>, AllocError>
@@ -76,17 +76,16 @@ fn all_edges(
     requires placed { length placed.now ≤ 16 }
     requires small { AllByRecursion IsSmall placed.now }
     requires outputs { outputs ≤ 16 }
-    ensures { IfOk result (λ es. es.items ≡ edges_of (outputs_wires inputs.now streams.now graphs.now joint placed.now outputs)) }
+    ensures { IfOk result (λ es. es.items ≡ edges_of (outputs_wires inputs.now streams.now graphs.now placed.now outputs)) }
 {
-    let shortests = count_shortests(outputs, joint);
     let firsts = first_numbers(
         inputs.len(),
         streams.len(),
         graphs.len(),
-        shortests,
+        outputs,
         placed.len(),
     );
-    let wires = wire_up(alloc, firsts, inputs, streams, graphs, joint, placed)?;
+    let wires = wire_up(alloc, firsts, inputs, streams, graphs, placed)?;
     number_ports(alloc, wires.as_slice())
 }
 
@@ -114,7 +113,6 @@ fn draw(
     inputs: &[u32],
     streams: &[Stream],
     graphs: &[Laid],
-    joint: bool,
     placed: &[Placed],
     outputs: u32,
 ) -> Result<Drawing, AllocError>
@@ -125,11 +123,10 @@ fn draw(
     requires placed { length placed.now ≤ 16 }
     requires small { AllByRecursion IsSmall placed.now }
     requires outputs { outputs ≤ 16 }
-    ensures { IfOk result (λ d. d ≡ drawing_of inputs.now streams.now graphs.now joint placed.now outputs) }
+    ensures { IfOk result (λ d. d ≡ drawing_of inputs.now streams.now graphs.now placed.now outputs) }
 {
-    let shortests = count_shortests(outputs, joint);
-    let nodes = all_nodes(alloc, inputs, streams, graphs, shortests, placed, outputs)?;
-    let edges = all_edges(alloc, inputs, streams, graphs, joint, placed, outputs)?;
+    let nodes = all_nodes(alloc, inputs, streams, graphs, placed, outputs)?;
+    let edges = all_edges(alloc, inputs, streams, graphs, placed, outputs)?;
     Ok(Drawing {
         nodes: Sequence::of(nodes),
         edges: Sequence::of(edges),
@@ -140,7 +137,6 @@ fn draw(
 fn plan_placed(
     alloc: Global,
     heads: &[Vec<StreamHead>],
-    joint: bool,
     graphs: &[Laid],
     placed: &[Placed],
     outputs: u32,
@@ -153,7 +149,7 @@ fn plan_placed(
     requires placed { length placed.now ≤ 16 }
     requires small { AllByRecursion IsSmall placed.now }
     requires outputs { outputs ≤ 16 }
-    ensures { IfOk result (λ p. p ≡ plan_in (lists heads.now) joint graphs.now placed.now outputs texts.items) }
+    ensures { IfOk result (λ p. p ≡ plan_in (lists heads.now) graphs.now placed.now outputs texts.items) }
 {
     let origins = all_origins(alloc, graphs, placed)?;
     let streams = used_streams(alloc, heads, origins.as_slice())?;
@@ -163,7 +159,6 @@ fn plan_placed(
         inputs.as_slice(),
         streams.as_slice(),
         graphs,
-        joint,
         placed,
         outputs,
     )?;
@@ -176,20 +171,19 @@ fn plan_placed(
     })
 }
 
-/// The plan of a layout, for inputs with these heads, where each output has a Shortest node or none has.
+/// The plan of a layout, for inputs with these heads.
 pub(crate) fn numbered_plan(
     alloc: Global,
     heads: &[Vec<StreamHead>],
-    joint: bool,
     laying: Laying,
 ) -> Result<Plan, AllocError>
     requires inputs { length heads.now ≤ 16 }
     requires streams { AllByRecursion (λ v. vec_len v ≤ 16) heads.now }
-    requires few { length (placed_in (layout_in (lists heads.now) joint laying)) ≤ 16 }
+    requires few { length (placed_in (layout_in (lists heads.now) laying)) ≤ 16 }
     requires graphs { length laying.graphs.items ≤ 16 }
     requires ins { AllByRecursion HasFewIns laying.graphs.items }
     requires outputs { length laying.outputs.items ≤ 16 }
-    ensures { IfOk result (λ p. p ≡ plan_of (layout_in (lists heads.now) joint laying)) }
+    ensures { IfOk result (λ p. p ≡ plan_of (layout_in (lists heads.now) laying)) }
 {
     let Laying {
         graphs,
@@ -200,7 +194,6 @@ pub(crate) fn numbered_plan(
     plan_placed(
         alloc,
         heads,
-        joint,
         graphs.as_slice(),
         placed.as_slice(),
         outputs.len() as u32,

@@ -1,23 +1,17 @@
 // Where inputs of graphs and streams of outputs come from, and the streams and inputs that are used.
 ghost use Rattle.std.specs.Prelude.{◌≡◌, ◌^◌, ◌<◌, ◌++◌, ◌∷◌, [], IfOk, OnOk, vec_len, length, map};
 ghost use Rattle.std.specs.List.{AllByRecursion, filter, flat_map, list_any, range_with_len};
-ghost use Rattle.ff_map.specs.Choice.{lists, all_streams, streams_of, stream_at as the_stream_at};
+ghost use Rattle.ff_map.specs.Choice.{lists, all_streams, streams_of};
 ghost use Rattle.ff_map.specs.declared.streams.Stream.{Stream};
-ghost use Rattle.ff_plan.specs.declared.layout.InPad.{InPad};
-ghost use Rattle.ff_plan.specs.declared.layout.Placed.{Placed};
-ghost use Rattle.ff_plan.specs.Layout.{same_ref as are_same, shows as is_shown_by};
+ghost use Rattle.ff_plan_layout.specs.declared.layout.InPad.{InPad};
+ghost use Rattle.ff_plan_layout.specs.declared.layout.Placed.{Placed};
+ghost use Rattle.ff_plan_layout.specs.Layout.{shows as is_shown_by};
 ghost use Rattle.ff_plan.specs.Numbering.{sources_of, all_sources, has_stream as input_has};
 
-use crate::layout::{InPad, Laid, Origin, Placed};
 use ff_frame::StreamHead;
 use ff_map::{Stream, StreamRef};
+use ff_plan_layout::{InPad, Laid, Origin, Placed, same_ref, stream_at};
 use std::alloc::{AllocError, Global};
-
-pub(crate) fn same_ref(a: StreamRef, b: StreamRef) -> bool
-    ensures { result ≡ are_same a b }
-{
-    a.input == b.input && a.stream == b.stream
-}
 
 // Where the inputs of a graph come from.
 fn add_sources(origins: &mut Vec<Origin>, ins: &[InPad]) -> Result<(), AllocError>
@@ -79,16 +73,6 @@ fn is_shown(origins: &[Origin], at: StreamRef) -> bool
         }
     }
     false
-}
-
-/// A stream with this head at its place.
-pub(crate) fn stream_at(input: u32, stream: u32, head: StreamHead) -> Stream
-    ensures { result ≡ the_stream_at input stream head }
-{
-    Stream {
-        at: StreamRef { input, stream },
-        head,
-    }
 }
 
 // One more stream, where something comes from it.

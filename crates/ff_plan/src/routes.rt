@@ -1,12 +1,12 @@
 // The ways of streams and of graphs.
 ghost use Rattle.std.specs.Prelude.{◌≡◌, ◌==◌, ◌^◌, ◌<◌, IfOk, length, map};
 ghost use Rattle.std.specs.List.{find, range_with_len};
-ghost use Rattle.ff_plan.specs.declared.layout.InPad.{InPad};
-ghost use Rattle.ff_plan.specs.declared.layout.Laid.{Laid};
-ghost use Rattle.ff_plan.specs.declared.layout.Placed.{Placed};
+ghost use Rattle.ff_plan_layout.specs.declared.layout.InPad.{InPad};
+ghost use Rattle.ff_plan_layout.specs.declared.layout.Laid.{Laid};
+ghost use Rattle.ff_plan_layout.specs.declared.layout.Placed.{Placed};
 ghost use Rattle.ff_plan.specs.Nodes.{way_to as way_of, ways_in};
 
-use crate::layout::{InPad, Laid, Origin, Placed};
+use ff_plan_layout::{InPad, Laid, Origin, Placed};
 use ff_sched::{Way, Ways};
 use std::alloc::{AllocError, Global};
 

@@ -1,14 +1,14 @@
 // The wires between the nodes.
 ghost use Rattle.std.specs.Prelude.{◌≡◌, ◌^◌, ◌<◌, ◌≤◌, ◌++◌, ◌∷◌, [], IfOk, OnOk, length, map};
 ghost use Rattle.std.specs.List.{AllByRecursion, flat_map};
-ghost use Rattle.ff_plan.specs.Numbering.{wire_of, demux_wire_in, pad_wire_in, pad_wires_in, shortest_wire_in, enc_wire_in};
-ghost use Rattle.ff_plan.specs.Numbering.{joint_wire_in, frame_wires_in, mux_wire_in, wires_in, IsLow};
-ghost use Rattle.ff_plan.specs.Limits.{IsSmall};
+ghost use Rattle.ff_plan.specs.Numbering.{wire_of, demux_wire_in, pad_wire_in, pad_wires_in, shortest_wire_in};
+ghost use Rattle.ff_plan.specs.Numbering.{enc_wire_in, frame_wires_in, mux_wire_in, wires_in, IsLow};
+ghost use Rattle.ff_plan_layout.specs.Limits.{IsSmall};
 
 use crate::firsts::{Firsts, dec_number, demux_number, graph_number, origin_number, port_of};
-use crate::layout::{InPad, Laid, Placed};
 use crate::number::Wire;
 use ff_map::Stream;
+use ff_plan_layout::{InPad, Laid, Placed};
 use ff_stream::Lane;
 use std::alloc::{AllocError, Global};
 
@@ -112,41 +112,12 @@ fn add_shortest_wires(
     Ok(())
 }
 
-// To each Enc from what it shows.
-fn add_enc_wires(
-    wires: &mut Vec<Wire>,
-    firsts: Firsts,
-    streams: &[Stream],
-    graphs: &[Laid],
-    placed: &[Placed],
-) -> Result<(), AllocError>
-    requires low { IsLow firsts streams.now graphs.now }
-    requires small { AllByRecursion IsSmall placed.now }
-    ensures { OnOk result (wires.new.items ≡ wires.old.items ++ map (enc_wire_in firsts streams.now graphs.now) placed.now) }
-{
-    for one in placed {
-        let from = origin_number(firsts, streams, graphs, one.what.source);
-        add_wire(
-            wires,
-            from,
-            port_of(one.what.source),
-            firsts.encs + one.number,
-            Lane::Frames(one.what.head),
-        )?;
-    }
-    Ok(())
-}
-
 // To each Enc from its output's Shortest node.
-fn add_joint_wires(
-    wires: &mut Vec<Wire>,
-    firsts: Firsts,
-    placed: &[Placed],
-) -> Result<(), AllocError>
+fn add_enc_wires(wires: &mut Vec<Wire>, firsts: Firsts, placed: &[Placed]) -> Result<(), AllocError>
     requires shortests { firsts.shortests ≤ 65536 }
     requires encs { firsts.encs ≤ 65536 }
     requires small { AllByRecursion IsSmall placed.now }
-    ensures { OnOk result (wires.new.items ≡ wires.old.items ++ map (joint_wire_in firsts) placed.now) }
+    ensures { OnOk result (wires.new.items ≡ wires.old.items ++ map (enc_wire_in firsts) placed.now) }
 {
     for one in placed {
         add_wire(
@@ -166,19 +137,14 @@ fn add_frame_wires(
     firsts: Firsts,
     streams: &[Stream],
     graphs: &[Laid],
-    joint: bool,
     placed: &[Placed],
 ) -> Result<(), AllocError>
     requires low { IsLow firsts streams.now graphs.now }
     requires small { AllByRecursion IsSmall placed.now }
-    ensures { OnOk result (wires.new.items ≡ wires.old.items ++ frame_wires_in firsts streams.now graphs.now joint placed.now) }
+    ensures { OnOk result (wires.new.items ≡ wires.old.items ++ frame_wires_in firsts streams.now graphs.now placed.now) }
 {
-    if joint {
-        add_shortest_wires(wires, firsts, streams, graphs, placed)?;
-        add_joint_wires(wires, firsts, placed)
-    } else {
-        add_enc_wires(wires, firsts, streams, graphs, placed)
-    }
+    add_shortest_wires(wires, firsts, streams, graphs, placed)?;
+    add_enc_wires(wires, firsts, placed)
 }
 
 // From each Enc to its Mux.
@@ -200,26 +166,24 @@ fn add_mux_wires(wires: &mut Vec<Wire>, firsts: Firsts, placed: &[Placed]) -> Re
     Ok(())
 }
 
-/// The wires between the nodes of these inputs, streams, graphs and outputs' streams, where each output has a Shortest node
-/// or none has.
+/// The wires between the nodes of these inputs, streams, graphs and outputs' streams.
 pub(crate) fn wire_up(
     alloc: Global,
     firsts: Firsts,
     inputs: &[u32],
     streams: &[Stream],
     graphs: &[Laid],
-    joint: bool,
     placed: &[Placed],
 ) -> Result<Vec<Wire>, AllocError>
     requires inputs { length inputs.now < 2 ^ 32 }
     requires low { IsLow firsts streams.now graphs.now }
     requires small { AllByRecursion IsSmall placed.now }
-    ensures { IfOk result (λ ws. ws.items ≡ wires_in firsts inputs.now streams.now graphs.now joint placed.now) }
+    ensures { IfOk result (λ ws. ws.items ≡ wires_in firsts inputs.now streams.now graphs.now placed.now) }
 {
     let mut wires = Vec::new(alloc);
     add_demux_wires(&mut wires, firsts, inputs, streams)?;
     add_graph_wires(&mut wires, firsts, streams, graphs)?;
-    add_frame_wires(&mut wires, firsts, streams, graphs, joint, placed)?;
+    add_frame_wires(&mut wires, firsts, streams, graphs, placed)?;
     add_mux_wires(&mut wires, firsts, placed)?;
     Ok(wires)
 }

@@ -41,8 +41,8 @@ use Rattle.ff_graph.specs.Opens.{filter_order, sources_in, open_pads}
 use Rattle.ff_graph.specs.Configured as of_graph_made
 use Rattle.ff_graph.specs.Configured.{Made, made_of, none_made, make_all, feeds_one, unless_fed, outs_at, outs_from, open_outs}
 use Rattle.ff_graph.proofs.Refusals.{refused_there}
-use Rattle.ff_plan.specs.declared.open_pads.OpenOut.{OpenOut}
-use Rattle.ff_plan.specs.declared.open_pads.Refused.{Refused}
+use Rattle.ff_plan_layout.specs.declared.open_pads.OpenOut.{OpenOut}
+use Rattle.ff_plan_layout.specs.declared.open_pads.Refused.{Refused}
 use Rattle.ff_plan_rules.specs.Kept.{IsFitHead, AreFitHeads}
 use Rattle.ff_plan_rules.specs.Rules.{output_as, outputs_as, configured}
 use Rattle.ff_plan_rules.proofs.Lists.{all_more}

@@ -15,9 +15,9 @@ use Rattle.ff_graph.specs.Opens.{feeders_in, filter_order, sources_in, open_pads
 use Rattle.ff_graph.specs.Configured as of_graph_made
 use Rattle.ff_graph.specs.Configured.{Made, heads_into, leaves_over, stands_at, is_misfit, is_surplus, made_on, made_as, made_of, with_made, behind, make_from, none_made, make_all}
 use Rattle.ff_graph.specs.Configured.{feeds_one, unless_fed, outs_at, outs_from, open_outs, outs_of as outs_by, place_of}
-use Rattle.ff_plan.specs.Streams.{takes_head}
-use Rattle.ff_plan.specs.declared.open_pads.OpenOut.{OpenOut}
-use Rattle.ff_plan.specs.declared.open_pads.Refused.{Refused}
+use Rattle.ff_plan_layout.specs.Streams.{takes_head}
+use Rattle.ff_plan_layout.specs.declared.open_pads.OpenOut.{OpenOut}
+use Rattle.ff_plan_layout.specs.declared.open_pads.Refused.{Refused}
 use Rattle.ff_plan_rules.specs.Kept.{IsFitHead, KeepHeads}
 use Rattle.ff_plan_rules.specs.Rules.{output_as, outputs_as, configured, graph_rules}
 use Rattle.ff_plan_rules.proofs.Lists.{some_same, no_some, all_at, all_joined}

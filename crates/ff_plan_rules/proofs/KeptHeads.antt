@@ -12,7 +12,7 @@ use Rattle.ff_fsync.specs.declared.stacks.shape.Direction.TheVariants.{Beside, B
 use Rattle.ff_fsync.specs.stacks.Heads.{with_length}
 use Rattle.ff_joins.specs.JoinOptions.{channels_in, with_channels}
 use Rattle.ff_words.specs.declared.job.OutputJob.{OutputJob}
-use Rattle.ff_plan.specs.Streams.{takes_head}
+use Rattle.ff_plan_layout.specs.Streams.{takes_head}
 use Rattle.ff_plan_rules.specs.Kept.{IsFitHead}
 
 -- What every filter keeps: what is so of its inputs' heads is so of those of its outputs.

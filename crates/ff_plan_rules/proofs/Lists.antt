@@ -15,10 +15,6 @@ some_same x y e = cc
 pub no_some : {A : Type 0} (x : A) → None ≡ Some x → ⊥
 no_some x e = cc
 
-pub or_true : (a b : Bool) → (a || b) ≡ true → (a ≡ false → b ≡ true) → (a ≡ true → ⊥) → b ≡ true
-or_true true b e f g = absurd (g refl)
-or_true false b e f g = e
-
 -- ---- each of a list
 
 module _ {A : Type 0} (P : A → Type 0) where
@@ -38,10 +34,6 @@ module _ {A : Type 0} (P : A → Type 0) where
 pub all_more : {A : Type 0} (P Q : A → Type 0) (xs : List A) → ((x : A) → P x → Q x) → AllByRecursion P xs → AllByRecursion Q xs
 all_more P Q [] each all = tt
 all_more P Q (x ∷ xs) each all = (each x all.0, all_more P Q xs each all.1)
-
-pub all_map : {A B : Type 0} (P : B → Type 0) (f : A → B) (xs : List A) → AllByRecursion (λ x. P (f x)) xs → AllByRecursion P (map f xs)
-all_map P f [] all = tt
-all_map P f (x ∷ xs) all = (all.0, all_map P f xs all.1)
 
 -- ---- how often
 

@@ -8,11 +8,11 @@ use Rattle.ff_frame.specs.declared.head.StreamHead.TheVariants.{Audio, Video}
 use Rattle.ff_frame.specs.Heads.{base_of_head}
 use Rattle.ff_lang.specs.declared.graph.Graph.{Graph}
 use Rattle.ff_words.specs.declared.job.OutputJob.{OutputJob}
-use Rattle.ff_plan.specs.Graphs.{IsHad}
-use Rattle.ff_plan.specs.Streams.{takes_head}
-use Rattle.ff_plan.specs.Rules.{Rules}
-use Rattle.ff_plan.specs.declared.open_pads.OpenOut.{OpenOut}
-use Rattle.ff_plan.specs.declared.open_pads.Refused.{Refused}
+use Rattle.ff_plan_layout.specs.Graphs.{IsHad}
+use Rattle.ff_plan_layout.specs.Streams.{takes_head}
+use Rattle.ff_plan_layout.specs.Rules.{Rules}
+use Rattle.ff_plan_layout.specs.declared.open_pads.OpenOut.{OpenOut}
+use Rattle.ff_plan_layout.specs.declared.open_pads.Refused.{Refused}
 
 -- sound of 1 to 8 channels, or pictures
 abbrev pub HasFewChannels : StreamHead → Type 0

@@ -7,11 +7,10 @@ use Rattle.ff_map.specs.declared.map.Kind.{Kind}
 use Rattle.ff_map.specs.declared.map.Kind.TheVariants.{Audio, Video}
 use Rattle.ff_graph.specs.Opens as of_graph
 use Rattle.ff_graph.specs.Configured as of_graph_made
-use Rattle.ff_plan.specs.Rules.{Rules}
-use Rattle.ff_plan.specs.declared.open_pads.OpenIn.{OpenIn}
-use Rattle.ff_plan.specs.declared.open_pads.OpenOut.{OpenOut}
-use Rattle.ff_plan.specs.declared.open_pads.Refused.{Refused}
-use Rattle.ff_plan.specs.Streams.{most_streams}
+use Rattle.ff_plan_layout.specs.Rules.{Rules}
+use Rattle.ff_plan_layout.specs.declared.open_pads.OpenIn.{OpenIn}
+use Rattle.ff_plan_layout.specs.declared.open_pads.OpenOut.{OpenOut}
+use Rattle.ff_plan_layout.specs.declared.open_pads.Refused.{Refused}
 use Rattle.ff_plan_rules.specs.Maps.{map_of}
 
 -- sound, else pictures
@@ -40,7 +39,6 @@ open_ins g = map input_as (of_graph.open_ins g)
 abbrev pub configured : Graph → List (Option StreamHead) → Result (List OpenOut) Refused
 configured g heads = if of_graph.loops g then Err (record { filter = 0; kind = Pads }) else outputs_as (of_graph_made.configured g heads)
 
--- each stream of an input without a simple graph passes through `null` or `anull`, and each output has a Shortest node
 abbrev pub graph_rules : Rules
 graph_rules = record {
   map_of = map_of;
@@ -48,7 +46,4 @@ graph_rules = record {
   loops = of_graph.loops;
   open_ins = open_ins;
   configured = configured;
-  nulls = true;
-  joint = true;
-  most = most_streams;
 }

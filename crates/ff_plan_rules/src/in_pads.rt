@@ -7,7 +7,7 @@ ghost use Rattle.ff_plan_rules.specs.Rules.{kind_by as kind_of, input_as, open_i
 use ff_graph::{OpenInput, open_inputs};
 use ff_lang::{Graph, Sequence, Text};
 use ff_map::Kind;
-use ff_plan::OpenIn;
+use ff_plan_layout::OpenIn;
 use std::alloc::{AllocError, Global};
 
 /// How many open pads a graph that a word of a command can write has at most: 65,536 filters of 16 pads.

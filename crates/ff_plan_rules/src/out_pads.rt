@@ -7,7 +7,7 @@ use crate::in_pads::{MOST_PADS, text_of};
 use ff_frame::{ConfigError, StreamHead};
 use ff_graph::{OpenOutput, Refusal, configure_graph, has_loop};
 use ff_lang::{Graph, Sequence};
-use ff_plan::{OpenOut, Refused};
+use ff_plan_layout::{OpenOut, Refused};
 use std::alloc::{AllocError, Global};
 
 fn output_pad(alloc: Global, output: &OpenOutput) -> Result<OpenOut, AllocError>

@@ -1,5 +1,4 @@
 ghost use Rattle.std.specs.Prelude.{◌≡◌};
-ghost use Rattle.ff_plan.specs.Streams.{most_streams as most_of};
 ghost use Rattle.ff_plan_rules.specs.Rules.{graph_rules};
 
 use crate::in_pads::input_pads;
@@ -9,12 +8,10 @@ use ff_frame::StreamHead;
 use ff_graph::{has_loop, is_known};
 use ff_lang::{Graph, Sequence};
 use ff_map::MapSpec;
-use ff_plan::{Filtering, OpenIn, OpenOut, Refused};
-use ff_words::FileFormat;
+use ff_plan_layout::{Filtering, OpenIn, OpenOut, Refused};
 use std::alloc::{AllocError, Global};
 
-/// The rules of the filters that there are, and of maps. Each stream without a simple graph passes through `null` or `anull`, and
-/// each output has a Shortest node.
+/// The rules of the filters that there are, and of maps.
 #[derive(Clone, Copy, Debug, Drop)]
 pub struct GraphRules;
 
@@ -44,20 +41,5 @@ impl Filtering for GraphRules {
 
     fn map_of(&self, alloc: Global, text: &str) -> Result<Option<MapSpec>, AllocError> {
         map_of(alloc, text)
-    }
-
-    fn most(&self, format: FileFormat) -> usize {
-        match format {
-            FileFormat::FrameHash => 16,
-            _ => 1,
-        }
-    }
-
-    fn has_nulls(&self) -> bool {
-        true
-    }
-
-    fn is_joint(&self) -> bool {
-        true
     }
 }

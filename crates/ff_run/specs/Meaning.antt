@@ -7,7 +7,7 @@
 use Rattle.std.specs.Prelude.{ℕ, List, Option}
 use Rattle.ff_frame.specs.declared.event.Event.{Event}
 use Rattle.ff_input.specs.declared.heads.head.InputHead.{InputHead}
-use Rattle.ff_plan.specs.declared.planned.PlanError.{PlanError}
+use Rattle.ff_plan_layout.specs.declared.error.PlanError.{PlanError}
 use Rattle.ff_words.specs.declared.job.Job.{Job}
 use Rattle.ff_files.specs.Works.{Meaning}
 use Rattle.ff_run_plan.specs.declared.fault.RunFault.{RunFault}

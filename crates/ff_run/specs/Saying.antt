@@ -6,7 +6,7 @@ use Rattle.ff_host.specs.declared.begun.Begun.{Begun}
 use Rattle.ff_host.specs.memory.QuietEnds.{QuietReading, QuietWriting}
 use Rattle.ff_words.specs.declared.job.Job.{Job}
 use Rattle.ff_plan.specs.declared.planned.Plan.{Plan}
-use Rattle.ff_plan.specs.declared.planned.PlanError.{PlanError}
+use Rattle.ff_plan_layout.specs.declared.error.PlanError.{PlanError}
 use Rattle.ff_files.specs.declared.work.PlanEnd.{PlanEnd}
 use Rattle.ff_files.specs.declared.work.PlanEnd.TheVariants as plan_end
 use Rattle.ff_files.specs.declared.work.WorkEnd.{WorkEnd}

@@ -12,7 +12,8 @@ use ff_command::Worker;
 use ff_files::{Done, PlanEnd, WorkEnd};
 use ff_host::{Sink, Source};
 use ff_input::InputHead;
-use ff_plan::{Plan, PlanError};
+use ff_plan::Plan;
+use ff_plan_layout::PlanError;
 use ff_run_plan::{RunFault, RunLog};
 use ff_words::Job;
 

@@ -14,8 +14,8 @@ use Rattle.ff_words.specs.declared.job.Job.{Job}
 use Rattle.ff_words.specs.declared.job.OutputJob.{OutputJob}
 use Rattle.ff_stream.specs.declared.edges.edge.Edge.{Edge}
 use Rattle.ff_stream.specs.edges.Ports.{lane_of, lanes_into, lanes_out_of, edges_to, shape_of}
-use Rattle.ff_plan.specs.declared.open_pads.OpenOut.{OpenOut}
-use Rattle.ff_plan.specs.declared.planned.GraphText.{GraphText}
+use Rattle.ff_plan_layout.specs.declared.open_pads.OpenOut.{OpenOut}
+use Rattle.ff_plan_layout.specs.declared.layout.GraphText.{GraphText}
 use Rattle.ff_plan.specs.declared.planned.Plan.{Plan}
 use Rattle.ff_plan.specs.declared.planned.PlanNode.{PlanNode}
 use Rattle.ff_plan.specs.declared.planned.PlanNode.TheVariants as node
@@ -23,7 +23,7 @@ use Rattle.ff_plan.specs.EndFits as ends
 use Rattle.ff_plan.specs.GraphFits as graphs
 use Rattle.ff_plan.specs.Numbers.{streams_between}
 use Rattle.ff_plan.specs.StartFits as starts
-use Rattle.ff_plan.specs.Streams.{packed_as, takes_head}
+use Rattle.ff_plan_layout.specs.Streams.{most_streams, packed_as, takes_head}
 use Rattle.ff_plan.specs.Taken.{AllFrames, HasFrames, OutputsFit}
 use Rattle.ff_run_plan.specs.Asked.{Asked, asked_of, text_there}
 use Rattle.ff_run_plan.specs.Kinds.{KindsOf, GraphsAreHad}
@@ -172,7 +172,7 @@ module _ {H : Type 0} (is : KindsOf H) (job : Job) (heads : List H) (plan : Plan
     outs_are = f.frames ∙ two_maps (λ (out : OpenOut). out.head) (λ (h : StreamHead). Frames h) f.outs;
   }
 
-  module _ (fit : OutputsFit is.rules job.outputs plan) (ordered : AreOrdered (length heads) (length job.outputs) plan.nodes) where
+  module _ (fit : OutputsFit job.outputs plan) (ordered : AreOrdered (length heads) (length job.outputs) plan.nodes) where
     abbrev pub heads_at : ℕ → List StreamHead
     heads_at o = slice_index_or fit.ends.heads o []
 
@@ -209,7 +209,7 @@ module _ {H : Type 0} (is : KindsOf H) (job : Job) (heads : List H) (plan : Plan
     }
 
     pub mux_fits : CodesEach
-        → ((hs : List StreamHead) (out : OutputJob) → AllByRecursion (λ h. is.IsFrames h × (takes_head out h ≡ true)) hs → 1 ≤ length hs → length hs ≤ is.rules.most out.format
+        → ((hs : List StreamHead) (out : OutputJob) → AllByRecursion (λ h. is.IsFrames h × (takes_head out h ≡ true)) hs → 1 ≤ length hs → length hs ≤ most_streams out.format
         → is.CanMux out (map (λ h. packed_as out h) hs))
         → (k o : ℕ) → slice_get plan.nodes k ≡ Some (node.Mux o) → ends.FitsWriter job.outputs (heads_at o) plan.edges k o → Fits k (node.Mux o)
     mux_fits codes writes k o at f =

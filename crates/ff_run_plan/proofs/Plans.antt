@@ -9,26 +9,26 @@ use Rattle.ff_words.specs.declared.job.OutputJob.{OutputJob}
 use Rattle.ff_stream.specs.edges.Ports.{shape_of, IsFed}
 use Rattle.ff_net_threads.proofs.NetworkLemmas.PortLanes.{own_lanes_fit}
 use Rattle.ff_plan.specs.declared.planned.Plan.{Plan}
-use Rattle.ff_plan.specs.declared.planned.PlanError.{PlanError}
-use Rattle.ff_plan.specs.declared.planned.PlanError.TheVariants.{NoMemory}
+use Rattle.ff_plan_layout.specs.declared.error.PlanError.{PlanError}
+use Rattle.ff_plan_layout.specs.declared.error.PlanError.TheVariants.{NoMemory}
 use Rattle.ff_plan.specs.declared.planned.PlanNode.{PlanNode}
 use Rattle.ff_plan.specs.declared.planned.PlanNode.TheVariants as node
 use Rattle.ff_plan.specs.EndFits.{FitsEnd}
 use Rattle.ff_plan.specs.GraphFits.{GraphsFit}
 use Rattle.ff_plan.specs.NodeRows.{HasRows}
-use Rattle.ff_plan.specs.Limits.{IsWithinLimits}
-use Rattle.ff_plan.specs.Refusals.{IsRefused}
+use Rattle.ff_plan_layout.specs.Limits.{IsWithinLimits}
+use Rattle.ff_plan_layout.specs.Refusals.{IsRefused}
 use Rattle.ff_plan.specs.Planned.{planned}
-use Rattle.ff_plan.specs.Rules.{Rules}
+use Rattle.ff_plan_layout.specs.Rules.{Rules}
 use Rattle.ff_plan.specs.StartFits.{FitsStart, StartsFit}
-use Rattle.ff_plan.specs.Streams.{packed_as, takes_head}
+use Rattle.ff_plan_layout.specs.Streams.{most_streams, packed_as, takes_head}
 use Rattle.ff_plan.specs.Taken.{AllFrames}
 use Rattle.ff_run_plan.specs.Kinds.{KindsOf, GraphsAreHad}
 use Rattle.ff_run_plan.specs.Meaning.{plan_for, refusal_of}
 use Rattle.ff_run_plan.specs.Accepting.{IsAccepted, IsPlanFor}
 use Rattle.ff_run_plan.specs.Asked.{asked_of}
 use Rattle.ff_run_plan.specs.Parts.{AreFitting}
-use Rattle.ff_plan_laws.specs.Sound.{IsSoundPlan}
+use Rattle.ff_plan.specs.Sound.{IsSoundPlan}
 use Rattle.ff_run_plan.proofs.Numbers.{there}
 use Rattle.ff_run_plan.proofs.Planning as fits
 use Rattle.ff_run_plan.proofs.Rows.{are_ordered, muxes_there, shortest_there}
@@ -51,7 +51,7 @@ pub record AreLawful {H : Type 0} (is : KindsOf H) : Type 0 where
   pub filters : GraphsAreHad is
   pub joins : (heads : List StreamHead) → AllByRecursion is.IsFrames heads → is.CanJoin heads
   pub encodes : (h : StreamHead) (out : OutputJob) → is.IsFrames h → takes_head out h ≡ true → is.CanEncode h (packed_as out h)
-  pub writes : (hs : List StreamHead) (out : OutputJob) → AllByRecursion (λ h. is.IsFrames h × (takes_head out h ≡ true)) hs → 1 ≤ length hs → length hs ≤ is.rules.most out.format
+  pub writes : (hs : List StreamHead) (out : OutputJob) → AllByRecursion (λ h. is.IsFrames h × (takes_head out h ≡ true)) hs → 1 ≤ length hs → length hs ≤ most_streams out.format
       → is.CanMux out (map (λ h. packed_as out h) hs)
 
 module _ {H : Type 0} (is : KindsOf H) (job : Job) (heads : List H) (accepted : IsAccepted is job heads) where

@@ -7,7 +7,7 @@ use Rattle.std.proofs.lemmas.Option.{get_or_from_slice_get}
 use Rattle.ff_map.specs.declared.streams.StreamRef.{StreamRef}
 use Rattle.ff_plan.specs.declared.planned.PlanNode.{PlanNode}
 use Rattle.ff_plan.specs.declared.planned.PlanNode.TheVariants as node
-use Rattle.ff_plan.specs.Layout.{placed}
+use Rattle.ff_plan_layout.specs.Layout.{placed}
 use Rattle.ff_plan.specs.NodeRows.{HasRows}
 use Rattle.ff_run_plan.specs.Parts.{AreOrdered}
 

@@ -4,8 +4,8 @@ use Rattle.ff_time.specs.declared.cut.TimeCut.{TimeCut}
 use Rattle.ff_lang.specs.declared.graph.Graph.{Graph}
 use Rattle.ff_words.specs.declared.job.Job.{Job}
 use Rattle.ff_words.specs.declared.job.OutputJob.{OutputJob}
-use Rattle.ff_plan.specs.declared.planned.GraphText.{GraphText}
-use Rattle.ff_plan.specs.Texts.{graph_text}
+use Rattle.ff_plan_layout.specs.declared.layout.GraphText.{GraphText}
+use Rattle.ff_plan_layout.specs.Texts.{graph_text}
 use Rattle.ff_run_plan.specs.Cuts.{input_cut}
 
 pub record Asked : Type 0 where

@@ -14,8 +14,8 @@ use Rattle.ff_net.specs.Views.{View}
 use Rattle.ff_net.specs.Ways.{Flow}
 use Rattle.ff_files.specs.Works.{HoldsPart}
 use Rattle.ff_graph_links.specs.labels.Clear.{IsClear}
-use Rattle.ff_plan.specs.Rules.{Rules}
-use Rattle.ff_plan.specs.declared.open_pads.OpenOut.{OpenOut}
+use Rattle.ff_plan_layout.specs.Rules.{Rules}
+use Rattle.ff_plan_layout.specs.declared.open_pads.OpenOut.{OpenOut}
 use Rattle.ff_run_plan.specs.declared.kinds.Ends.{Ends}
 use Rattle.ff_run_plan.specs.declared.kinds.Ends.TheVariants as ends
 

@@ -14,11 +14,11 @@ use Rattle.ff_net.specs.Pasts.{Task}
 use Rattle.ff_net.specs.Ways.{Flow}
 use Rattle.ff_net_threads.specs.network.Fits.{ports_by, ins_at, network}
 use Rattle.ff_plan.specs.declared.planned.Plan.{Plan}
-use Rattle.ff_plan.specs.declared.planned.PlanError.{PlanError}
+use Rattle.ff_plan_layout.specs.declared.error.PlanError.{PlanError}
 use Rattle.ff_plan.specs.declared.planned.PlanNode.{PlanNode}
 use Rattle.ff_plan.specs.declared.planned.PlanNode.TheVariants as node
 use Rattle.ff_plan.specs.Planned.{planned}
-use Rattle.ff_plan.specs.Rules.{Planned}
+use Rattle.ff_plan_layout.specs.Rules.{Planned}
 use Rattle.ff_files.specs.Works.{Meaning}
 use Rattle.ff_run_plan.specs.declared.fault.RunFault.{RunFault}
 use Rattle.ff_run_plan.specs.declared.fault.RunFault.TheVariants as run_fault

@@ -8,23 +8,24 @@ ghost use Rattle.ff_net.specs.Ways.{Flow};
 ghost use Rattle.ff_files.specs.Works.{HoldsPart};
 ghost use Rattle.std.specs.List.{AllByRecursion};
 ghost use Rattle.ff_map.specs.Choice.{lists};
-ghost use Rattle.ff_plan.specs.Graphs.{AreRules};
-ghost use Rattle.ff_plan.specs.Limits.{IsWithinLimits};
+ghost use Rattle.ff_plan_layout.specs.Graphs.{AreRules};
+ghost use Rattle.ff_plan_layout.specs.Limits.{IsWithinLimits};
 ghost use Rattle.ff_plan.specs.Planned.{planned};
-ghost use Rattle.ff_plan.specs.Refusals.{IsRefused};
-ghost use Rattle.ff_plan.specs.Streams.{packed_as, takes_head};
+ghost use Rattle.ff_plan_layout.specs.Refusals.{IsRefused};
+ghost use Rattle.ff_plan_layout.specs.Streams.{most_streams, packed_as, takes_head};
 ghost use Rattle.ff_plan.specs.Taken.{AreKeptBy};
 ghost use Rattle.ff_words.specs.declared.job.OutputJob.{OutputJob};
 ghost use Rattle.ff_frame.specs.declared.head.StreamHead.{StreamHead};
 ghost use Rattle.ff_run_plan.specs.Events.{TellOfThemselves};
 ghost use Rattle.ff_run_plan.specs.Kinds.{KindsOf, IsNew, GivesEnds, GraphsAreHad};
-ghost use Rattle.ff_plan_laws.specs.Sound.{HasFewIns, KeepsTaken};
+ghost use Rattle.ff_plan.specs.Sound.{HasFewIns, KeepsTaken};
 
 use ff_frame::StreamHead;
 use ff_host::{Sink, Source};
 use ff_lang::Graph;
 use ff_net::Machine;
-use ff_plan::{Plan, PlanError};
+use ff_plan::Plan;
+use ff_plan_layout::PlanError;
 use ff_time::TimeCut;
 use ff_words::{Job, OutputJob};
 use std::alloc::{AllocError, Global};
@@ -167,7 +168,7 @@ pub trait Kinds<Src: Source + Send + Drop, Snk: Sink + Send + Drop, Part: Machin
 
     /// and written to it: some streams, and no more than its format holds.
     ghost writes: { (hs : List StreamHead) (out : OutputJob) → AllByRecursion (λ h. is.IsFrames h × (takes_head out h ≡ true)) hs
-        → 1 ≤ length hs → length hs ≤ is.rules.most out.format → is.CanMux out (map (λ h. packed_as out h) hs) };
+        → 1 ≤ length hs → length hs ≤ most_streams out.format → is.CanMux out (map (λ h. packed_as out h) hs) };
 
     /// Each node tells of its own input or output alone.
     ghost own: { TellOfThemselves is };

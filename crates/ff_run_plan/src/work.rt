@@ -20,9 +20,9 @@ use ff_graph_links::{orders_are_whole, orders_go_upward};
 use ff_host::{Sink, Source};
 use ff_net::Machine;
 use ff_plan::{
-    Plan, PlanError, graph_plans_are_fed, graphs_fit, is_within_limits, nodes_have_rows, starts_fit,
+    Plan, graph_plans_are_fed, graphs_fit, nodes_have_rows, plans_are_sound, starts_fit,
 };
-use ff_plan_laws::plans_are_sound;
+use ff_plan_layout::{PlanError, is_within_limits};
 use ff_words::Job;
 use std::alloc::{AllocError, Global};
 use std::marker::Brand;

@@ -12,7 +12,18 @@ fn sources_before_sinks(rt: HostRuntime) -> Result<(), AllocError> {
     files.push((String::from_str(alloc, "a.wav")?, input(alloc, b"aa")?))?;
     let mut host = CountingHost::new(alloc, MemHost::new(alloc, files, Vec::new(alloc))?);
     let words = [
-        "-sched_trace", "t", "-i", "b.wav", "-i", "a.wav", "-map", "0:a", "o2.wav", "-map", "1:a", "o1.wav",
+        "-sched_trace",
+        "t",
+        "-i",
+        "b.wav",
+        "-i",
+        "a.wav",
+        "-map",
+        "0:a",
+        "o2.wav",
+        "-map",
+        "1:a",
+        "o1.wav",
     ];
     assert!(rt; comes_to(&rt, alloc, &words, &mut host, 0, "")?);
     assert!(rt; host.has_closed(&["b.wav", "a.wav", "o2.wav", "o1.wav", "t"]));

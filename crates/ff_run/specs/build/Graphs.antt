@@ -7,8 +7,8 @@ use Rattle.ff_frame.specs.declared.head.StreamHead.{StreamHead}
 use Rattle.ff_graph.specs.Configured as of_graph
 use Rattle.ff_graph.specs.Opens as pads
 use Rattle.ff_graph.specs.composed.Cuts.{all_given, graph_outs, outs_or_none}
-use Rattle.ff_plan.specs.declared.open_pads.OpenOut.{OpenOut}
-use Rattle.ff_plan.specs.declared.open_pads.Refused.{Refused}
+use Rattle.ff_plan_layout.specs.declared.open_pads.OpenOut.{OpenOut}
+use Rattle.ff_plan_layout.specs.declared.open_pads.Refused.{Refused}
 use Rattle.ff_filters.specs.limited.Cuts.{AreTimed}
 use Rattle.ff_plan_rules.specs.Kept.{AreFitHeads}
 use Rattle.ff_plan_rules.proofs.Keeping.{keep_heads}

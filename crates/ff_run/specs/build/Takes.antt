@@ -22,7 +22,7 @@ use Rattle.ff_map.specs.declared.map.Kind.TheVariants as kind
 use Rattle.ff_mux.specs.FlacHead.{HasRoom}
 use Rattle.ff_node_mux.specs.Outputs.{CanWrite}
 use Rattle.ff_pcm.specs.Frames.{IsPcmHead}
-use Rattle.ff_plan.specs.Streams.{audio_codec, is_pcm, most_streams, packed_as, packed_bits, takes_head, takes_kind, takes_sound}
+use Rattle.ff_plan_layout.specs.Streams.{audio_codec, is_pcm, most_streams, packed_as, packed_bits, takes_head, takes_kind, takes_sound}
 use Rattle.ff_wav.specs.Packets as wav
 use Rattle.ff_words.specs.declared.job.FileFormat.{FileFormat}
 use Rattle.ff_words.specs.declared.job.FileFormat.TheVariants as format

@@ -1,7 +1,7 @@
 use Rattle.std.proofs.Common.{◌≡◌, ◌+◌, drop}
 use Rattle.std.specs.List.{position_or_len}
 use Rattle.ff_map.specs.declared.streams.Stream.{Stream}
-use Rattle.ff_plan.specs.Layout.{same_ref}
+use Rattle.ff_plan_layout.specs.Layout.{same_ref}
 use Rattle.ff_plan.proofs.firsts.place_of.Given as goal
 
 abbrev pub invariant-loop-number : goal.invariant-loop-number

@@ -1,4 +1,4 @@
-use Rattle.ff_plan.proofs.Best.{best_is}
+use Rattle.ff_plan_layout.proofs.Best.{best_is}
 use Rattle.ff_plan.proofs.laws.best_choices_are_one.Goals as goal
 
 pub returns : goal.returns

@@ -1,5 +1,5 @@
 use Rattle.std.proofs.Common.{◌≡◌, ◌++◌, map, drop}
-use Rattle.ff_plan.specs.declared.layout.Placed.{Placed}
+use Rattle.ff_plan_layout.specs.declared.layout.Placed.{Placed}
 use Rattle.ff_plan.specs.declared.planned.PlanNode.TheVariants as node
 use Rattle.ff_plan.proofs.nodes.add_encs.Given as goal
 

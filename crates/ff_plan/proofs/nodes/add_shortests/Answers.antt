@@ -2,7 +2,7 @@ use Rattle.std.proofs.Common.{ℕ, ◌+◌, ◌-◌, List, [], ◌∷◌, ◌++�
 use Rattle.std.specs.List.{range_with_len}
 use Rattle.ff_plan.specs.declared.planned.PlanNode.{PlanNode}
 use Rattle.ff_plan.specs.declared.planned.PlanNode.TheVariants as node
-use Rattle.ff_plan.proofs.Filters.{range_next}
+use Rattle.ff_plan_layout.proofs.Filters.{range_next}
 use Rattle.ff_plan.proofs.nodes.add_shortests.Goals as goal
 
 pub loop-output-preserved : goal.loop-output-preserved

@@ -1,5 +1,5 @@
 use Rattle.std.proofs.Common.{◌≡◌, ◌+◌, ◌++◌, drop}
-use Rattle.ff_plan.specs.Layout.{place_row}
+use Rattle.ff_plan_layout.specs.Layout.{place_row}
 use Rattle.ff_plan.proofs.nodes.place_row.Given as goal
 
 abbrev pub invariant-loop-stream : goal.invariant-loop-stream

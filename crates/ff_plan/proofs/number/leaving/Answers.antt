@@ -1,7 +1,8 @@
 use Rattle.std.proofs.Common.{◌≡◌, ◌<◌, ◌==◌, true, false, length, get_or, sym, ap, ◌∙◌, arith}
 use Rattle.std.proofs.lemmas.List.{get_or_default}
 use Rattle.ff_stream.specs.declared.edges.edge.Edge.{Edge}
-use Rattle.ff_plan.proofs.Steps.{tally_next, same_test, other_test}
+use Rattle.ff_plan.proofs.Steps.{tally_next}
+use Rattle.ff_plan_layout.proofs.Tests.{same_test, other_test}
 use Rattle.ff_plan.proofs.number.leaving.Goals as goal
 use Rattle.ff_plan.proofs.number.leaving.Goals.{then-edge-node, else-edge-node}
 

@@ -3,15 +3,15 @@ use Rattle.std.specs.List.{AllByRecursion}
 use Rattle.std.specs.declared.alloc.Global.{Global}
 use Rattle.std.specs.declared.vec.Vec.{Vec}
 use Rattle.ff_map.specs.Choice.{lists}
-use Rattle.ff_plan.specs.declared.layout.OutStream.{OutStream}
-use Rattle.ff_plan.specs.declared.layout.Placed.{Placed}
+use Rattle.ff_plan_layout.specs.declared.layout.OutStream.{OutStream}
+use Rattle.ff_plan_layout.specs.declared.layout.Placed.{Placed}
 use Rattle.ff_plan.specs.declared.planned.Plan.{Plan}
-use Rattle.ff_plan.specs.Layout.{place_from}
-use Rattle.ff_plan.specs.Rows.{rows}
-use Rattle.ff_plan.specs.Limits.{IsSmall}
+use Rattle.ff_plan_layout.specs.Layout.{place_from}
+use Rattle.ff_plan_layout.specs.Rows.{rows}
+use Rattle.ff_plan_layout.specs.Limits.{IsSmall}
 use Rattle.ff_plan.proofs.ByRows.{rows_few, plan_by}
-use Rattle.ff_plan.proofs.Layouts.{map_length}
-use Rattle.ff_plan.proofs.Limits.{small_places}
+use Rattle.ff_plan_layout.proofs.Sizes.{map_length}
+use Rattle.ff_plan_layout.proofs.Bounds.{small_places}
 use Rattle.ff_plan.proofs.numbering.numbered_plan.Goals as goal
 
 pub place-requires-clause-few : goal.place-requires-clause-few
@@ -31,5 +31,5 @@ returns c =
     let places = c.as_slice-3.ensures.value ∙ (c.in_ok-placed.ensures ∙ ap (λ (l : List (Vec OutStream Global)). place_from 0 0 (rows l)) c.as_slice.ensures.value) in
     let long : c.len.result ≡ length (rows all) = (let a = c.len.ensures in let b = c.args.laying.outputs.ok.0 in let d = map_length (λ (v : Vec OutStream Global). v.items) all in omega (arith, a, b, d)) in
     subst (λ (q : Plan). IfOk c.plan_placed.result (λ p. p ≡ q))
-    (plan_by (lists c.args.heads.now) c.args.laying.graphs.items (rows all) c.args.laying.texts.items c.args.joint c.as_slice-2.result.now c.as_slice-3.result.now c.len.result c.as_slice-2.ensures.value places long)
+    (plan_by (lists c.args.heads.now) c.args.laying.graphs.items (rows all) c.args.laying.texts.items c.as_slice-2.result.now c.as_slice-3.result.now c.len.result c.as_slice-2.ensures.value places long)
     c.plan_placed.ensures

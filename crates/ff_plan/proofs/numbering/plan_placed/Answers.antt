@@ -2,11 +2,11 @@ use Rattle.std.proofs.Common.{◌≡◌, ℕ, ◌≤◌, List, length, sym, ap, 
 use Rattle.std.specs.List.{filter, list_any, range_with_len}
 use Rattle.ff_map.specs.declared.streams.Stream.{Stream}
 use Rattle.ff_map.specs.Choice.{all_streams, lists}
-use Rattle.ff_plan.specs.declared.layout.Origin.{Origin}
-use Rattle.ff_plan.specs.Layout.{shows}
+use Rattle.ff_plan_layout.specs.declared.layout.Origin.{Origin}
+use Rattle.ff_plan_layout.specs.Layout.{shows}
 use Rattle.ff_plan.specs.Numbering.{streams_in, inputs_in, has_stream}
 use Rattle.ff_plan.proofs.ByRows.{few_used, drawn_by}
-use Rattle.ff_plan.proofs.Limits.{few_inputs, lists_few, lists_length}
+use Rattle.ff_plan_layout.proofs.Bounds.{few_inputs, lists_few, lists_length}
 use Rattle.ff_plan.proofs.numbering.plan_placed.Goals as goal
 
 pub draw-requires-clause-inputs : goal.draw-requires-clause-inputs
@@ -36,5 +36,5 @@ returns c =
     ∙ (c.in_ok-inputs.ensures
     ∙ (ap (λ (l : List Stream). filter (has_stream l) (range_with_len 0 (length heads))) (c.as_slice-2.ensures.value ∙ are)
     ∙ ap (λ (k : ℕ). filter (has_stream (streams_in (lists heads) graphs placed)) (range_with_len 0 k)) (sym (lists_length heads)))) in
-    drawn_by (lists heads) graphs c.args.joint placed c.args.outputs (length heads) c.args.texts.items c.of.result c.as_slice-3.result.now c.as_slice-4.result.now c.in_ok-drawing.drawing c.in_ok-routes.routes
+    drawn_by (lists heads) graphs placed c.args.outputs (length heads) c.args.texts.items c.of.result c.as_slice-3.result.now c.as_slice-4.result.now c.in_ok-drawing.drawing c.in_ok-routes.routes
     c.in_ok-drawing.ensures inputs (c.as_slice-4.ensures.value ∙ are) c.in_ok-routes.ensures (sym (lists_length heads)) c.of.ensures

@@ -1,5 +1,5 @@
 use Rattle.std.proofs.Common.{◌≡◌, ◌++◌, map, drop}
-use Rattle.ff_plan.specs.declared.layout.Placed.{Placed}
+use Rattle.ff_plan_layout.specs.declared.layout.Placed.{Placed}
 use Rattle.ff_plan.proofs.origins.add_stream_sources.Given as goal
 
 abbrev pub invariant-loop-one : goal.invariant-loop-one

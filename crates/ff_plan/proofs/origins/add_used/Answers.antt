@@ -3,9 +3,9 @@ use Rattle.std.specs.List.{filter, list_any}
 use Rattle.ff_frame.specs.declared.head.StreamHead.{StreamHead}
 use Rattle.ff_map.specs.declared.streams.Stream.{Stream}
 use Rattle.ff_map.specs.Choice.{stream_at, numbered}
-use Rattle.ff_plan.specs.Layout.{shows}
-use Rattle.ff_plan.proofs.Filters.{filter_next}
-use Rattle.ff_plan.proofs.Fronts.{drop_next}
+use Rattle.ff_plan_layout.specs.Layout.{shows}
+use Rattle.ff_plan_layout.proofs.Filters.{filter_next}
+use Rattle.ff_plan_layout.proofs.Fronts.{drop_next}
 use Rattle.ff_plan.proofs.origins.add_used.Goals as goal
 
 pub loop-number-preserved : goal.loop-number-preserved

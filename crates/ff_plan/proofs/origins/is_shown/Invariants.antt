@@ -1,6 +1,6 @@
 use Rattle.std.proofs.Common.{◌≡◌, drop}
 use Rattle.std.specs.List.{list_any}
-use Rattle.ff_plan.specs.Layout.{shows}
+use Rattle.ff_plan_layout.specs.Layout.{shows}
 use Rattle.ff_plan.proofs.origins.is_shown.Given as goal
 
 abbrev pub invariant-loop-origin : goal.invariant-loop-origin

@@ -1,14 +1,15 @@
-use Rattle.std.proofs.Common.{◌≡◌, Bool, sym, ap, ◌∙◌}
+use Rattle.std.proofs.Common.{◌≡◌, sym, ap, ◌∙◌}
 use Rattle.ff_map.specs.Choice.{lists}
 use Rattle.ff_plan.specs.declared.planned.Plan.{Plan}
-use Rattle.ff_plan.specs.Layout.{Layout}
+use Rattle.ff_plan_layout.specs.Layout.{Layout}
 use Rattle.ff_plan.specs.Nodes.{plan_of}
-use Rattle.ff_plan.specs.Planned.{planned, laid_out}
-use Rattle.ff_plan.specs.Rules.{Planned, behind}
-use Rattle.ff_plan.specs.Rows.{layout_in}
-use Rattle.ff_plan.proofs.Fronts.{fine, refused_behind}
-use Rattle.ff_plan.proofs.LaidOut.{handed_on}
-use Rattle.ff_plan.proofs.Limits.{few_in_lists}
+use Rattle.ff_plan.specs.Planned.{planned}
+use Rattle.ff_plan_layout.specs.LaidOut.{laid_out}
+use Rattle.ff_plan_layout.specs.Rules.{Planned, behind}
+use Rattle.ff_plan_layout.specs.Rows.{layout_in}
+use Rattle.ff_plan_layout.proofs.Fronts.{fine, refused_behind}
+use Rattle.ff_plan_layout.proofs.LaidOut.{handed_on}
+use Rattle.ff_plan_layout.proofs.Bounds.{few_in_lists}
 use Rattle.ff_plan.proofs.planning.plan.Goals as goal
 
 pub numbered_plan-requires-clause-streams : goal.numbered_plan-requires-clause-streams
@@ -30,6 +31,5 @@ returns-clause-made g c =
     let rules = g.F.Filtering.rules c.args.filtering.now in
     let job = c.args.job.now in
     let heads = lists c.args.heads.now in
-    let l = c.in_ok-laying.laying in
     ap (λ (r : Planned Layout). behind r (λ x. fine (plan_of x))) c.in_ok-laying.ensures.made
-    ∙ (ap (λ (b : Bool). fine (plan_of (layout_in heads b l))) (sym c.is_joint.ensures) ∙ ap (λ (p : Plan). fine p) (sym c.in_ok-plan.ensures))
+    ∙ ap (λ (p : Plan). fine p) (sym c.in_ok-plan.ensures)

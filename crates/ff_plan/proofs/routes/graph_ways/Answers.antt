@@ -1,9 +1,9 @@
 use Rattle.std.proofs.Common.{◌≡◌, ℕ, ◌+◌, ◌-◌, ◌==◌, List, [], ◌∷◌, ◌++◌, map, length, sym, ap, ◌∙◌, append_assoc}
 use Rattle.std.specs.List.{find, range_with_len}
 use Rattle.ff_sched.specs.declared.routes.Way.{Way}
-use Rattle.ff_plan.specs.declared.layout.Laid.{Laid}
+use Rattle.ff_plan_layout.specs.declared.layout.Laid.{Laid}
 use Rattle.ff_plan.specs.Nodes.{ways_in}
-use Rattle.ff_plan.proofs.Filters.{range_next}
+use Rattle.ff_plan_layout.proofs.Filters.{range_next}
 use Rattle.ff_plan.proofs.routes.graph_ways.Goals as goal
 
 pub loop-number-preserved : goal.loop-number-preserved

@@ -1,6 +1,6 @@
 use Rattle.std.proofs.Common.{◌≡◌, ◌==◌, ◌-◌, ◌++◌, map, length}
 use Rattle.std.specs.List.{find, range_with_len}
-use Rattle.ff_plan.specs.declared.layout.Laid.{Laid}
+use Rattle.ff_plan_layout.specs.declared.layout.Laid.{Laid}
 use Rattle.ff_plan.specs.Nodes.{ways_in}
 use Rattle.ff_plan.proofs.routes.graph_ways.Given as goal
 

@@ -1,5 +1,5 @@
 use Rattle.std.proofs.Common.{◌≡◌, ◌++◌, map, drop}
-use Rattle.ff_plan.specs.declared.layout.InPad.{InPad}
+use Rattle.ff_plan_layout.specs.declared.layout.InPad.{InPad}
 use Rattle.ff_plan.specs.Nodes.{way_to}
 use Rattle.ff_plan.proofs.routes.pad_ways.Given as goal
 

@@ -1,6 +1,6 @@
 use Rattle.std.proofs.Common.{◌≡◌, ◌++◌, map, drop}
 use Rattle.ff_plan.specs.Nodes.{way_to}
-use Rattle.ff_plan.specs.declared.layout.Placed.{Placed}
+use Rattle.ff_plan_layout.specs.declared.layout.Placed.{Placed}
 use Rattle.ff_plan.proofs.routes.ways.Given as goal
 
 abbrev pub invariant-loop-one : goal.invariant-loop-one

@@ -1,6 +1,6 @@
 use Rattle.std.proofs.Common.{◌≡◌, ◌==◌, drop}
 use Rattle.std.specs.List.{find}
-use Rattle.ff_plan.specs.declared.layout.Laid.{Laid}
+use Rattle.ff_plan_layout.specs.declared.layout.Laid.{Laid}
 use Rattle.ff_plan.proofs.routes.ways_of.Given as goal
 
 abbrev pub invariant-loop-graph : goal.invariant-loop-graph

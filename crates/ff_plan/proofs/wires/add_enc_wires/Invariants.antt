@@ -3,4 +3,4 @@ use Rattle.ff_plan.specs.Numbering.{enc_wire_in}
 use Rattle.ff_plan.proofs.wires.add_enc_wires.Given as goal
 
 abbrev pub invariant-loop-one : goal.invariant-loop-one
-invariant-loop-one l = l.wires.items ++ map (enc_wire_in l.firsts l.streams l.graphs) (drop l.one-index l.placed) ≡ l.initial.wires.items ++ map (enc_wire_in l.firsts l.streams l.graphs) l.placed
+invariant-loop-one l = l.wires.items ++ map (enc_wire_in l.firsts) (drop l.one-index l.placed) ≡ l.initial.wires.items ++ map (enc_wire_in l.firsts) l.placed

@@ -1,8 +1,8 @@
 use Rattle.std.proofs.Common.{◌≡◌, length, Some, ap, subst, ◌∙◌, rules, arith}
 use Rattle.ff_graph_links.specs.labels.Order.{feeds}
 use Rattle.ff_map.specs.Choice.{lists}
-use Rattle.ff_plan.specs.declared.planned.PlanError.{PlanError}
-use Rattle.ff_plan_laws.proofs.Frames.{frames_kept}
+use Rattle.ff_plan_layout.specs.declared.error.PlanError.{PlanError}
+use Rattle.ff_plan.proofs.Frames.{frames_kept}
 use Rattle.ff_run_plan.specs.Meaning.{plan_for, refusal_of}
 use Rattle.ff_run_plan.proofs.Plans.{AreLawful, is_plan, none_refused, is_refused}
 use Rattle.ff_run_plan.proofs.work.make_plan.Goals as goal

@@ -1,8 +1,0 @@
-use Rattle.std.proofs.Common.{◌≡◌, drop}
-use Rattle.std.specs.List.{find}
-use Rattle.ff_plan.specs.Mapping.{is_unused}
-use Rattle.ff_plan.specs.Planned.{unused_of}
-use Rattle.ff_plan.proofs.mapping.first_unused.Given as goal
-
-abbrev pub invariant-loop-label : goal.invariant-loop-label
-invariant-loop-label l = unused_of (find (is_unused l.graphs l.outs) (drop l.label-index l.given)) ≡ unused_of (find (is_unused l.graphs l.outs) l.given)

@@ -1,8 +1,0 @@
-use Rattle.std.proofs.Common.{◌≡◌, drop}
-use Rattle.std.specs.List.{flat_map}
-use Rattle.ff_graph_links.specs.labels.Labels.{is_one_of}
-use Rattle.ff_plan.specs.Planned.{labels_of}
-use Rattle.ff_plan.proofs.mapping.outs_use.Given as goal
-
-abbrev pub invariant-loop-out : goal.invariant-loop-out
-invariant-loop-out l = is_one_of l.label (flat_map labels_of (drop l.out-index l.outs)) ≡ is_one_of l.label (flat_map labels_of l.outs)

@@ -1,9 +1,0 @@
-use Rattle.std.proofs.Common.{◌≡◌, ◌+◌, ◌≤◌, drop}
-use Rattle.ff_plan.specs.Planned.{graphs_of}
-use Rattle.ff_plan.proofs.passing.graphs_in.Given as goal
-
-abbrev pub invariant-loop-passed : goal.invariant-loop-passed
-invariant-loop-passed l = record {
-  rest : l.count + graphs_of (drop l.passed-index l.row) ≡ graphs_of l.row;
-  few : l.count ≤ l.passed-index;
-}

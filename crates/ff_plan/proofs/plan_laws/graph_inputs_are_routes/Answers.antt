@@ -1,0 +1,8 @@
+use Rattle.std.proofs.Common.{length}
+use Rattle.ff_graph_links.specs.labels.Order.{feeds}
+use Rattle.ff_plan.proofs.Routed.{routed}
+use Rattle.ff_plan.proofs.plan_laws.graph_inputs_are_routes.Goals as goal
+
+pub returns : goal.returns
+returns c = λ rules job heads p are some h. routed rules job heads p are (c.orders_go_upward.ensures (feeds job.graphs) (length job.graphs))
+    (λ no g lt. c.orders_are_whole.ensures (feeds job.graphs) (length job.graphs) g no lt) some h

@@ -1,6 +1,0 @@
-pub mod Frames
-mod Memory
-mod Routed
-mod Sound
-mod Taken
-mod Types

@@ -1,0 +1,16 @@
+pub mod Choice
+pub mod Graphs
+pub mod Labels
+pub mod LaidOut
+pub mod Layout
+pub mod Limits
+pub mod Mapping
+pub mod Order
+pub mod Pads
+pub mod Passing
+pub mod Picking
+pub mod Refusals
+pub mod Rows
+pub mod Rules
+pub mod Streams
+pub mod Texts
