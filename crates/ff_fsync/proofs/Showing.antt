@@ -13,7 +13,7 @@ use Rattle.ff_filter.specs.declared.after.After.{After}
 use Rattle.ff_filter.specs.Joins.{Flow, Ports, silence, one, before, before_at, before_if}
 use Rattle.ff_filter.specs.Made.{behind, is_over}
 use Rattle.ff_filter.specs.Shifts.{start_ticks}
-use Rattle.ff_filter.specs.Views.{View, Same, Fed, Gave, Waits, closes}
+use Rattle.ff_filter.specs.Views.{View, Same, Fed, Gave, Waits, Stopped, closes}
 use Rattle.ff_filter.proofs.Moves.{same_self}
 use Rattle.ff_fsync.specs.Events.{events, events_none, events_first}
 use Rattle.ff_fsync.specs.Synced.{Timing, is_shown, pictures, horizon, synced_mark, synced_from}
@@ -202,3 +202,44 @@ trims_same shows shortest lane from t ss ts ended stopped sound long lanes how d
           | inr g ↦ inr (trims_drop t (side_at lane ss p) (side_at lane ts p) (ext p) g)
         ])
         (shown_reached k (streams lane ss ext) t d.shown) (shown_as shows) from d.first
+
+-- where nobody wants it -----------------------------------------------------------------------------------------------
+
+unwanted_same : (ended stopped : Bool) (r s : Flow) → (ended || stopped) ≡ true → stopped ≡ false → cond ended nothing r ≡ cond ended nothing s
+unwanted_same true stopped r s e on = refl
+unwanted_same false stopped r s e on = let clash : true ≡ false = sym e ∙ on in cc
+
+-- an item was let go
+pub idle_fed : (shows : ℕ → List VFrame → VFrame) (shortest : Bool) (lane : Lane) (from : ℕ) (ss ts : List Side) (p : ℕ) (s : Side) (x : Item) (ended stopped : Bool)
+    → Replaced lane ss ts p s → is_over (side_at lane ss p).after ≡ false → is_over s.after ≡ closes x → (ended || stopped) ≡ true
+    → Fed (sync_view shows shortest lane from ss ended stopped) (sync_view shows shortest lane from ts ended stopped) p x
+idle_fed shows shortest lane from ss ts p s x ended stopped r going shut unwanted = record {
+  ports = record { ins = r.lanes; outs = refl };
+  rest = λ ext q on. unwanted_same ended stopped (left_to_show shows shortest lane from ts ext) (left_to_show shows shortest lane from ss (before_at p x ext)) unwanted on;
+  shut_here = ap (λ (s : Side). is_over s.after) r.here ∙ (shut ∙ sym (ap (λ b. b || closes x) going));
+  shut_others = λ i lt n. ap (λ (s : Side). is_over s.after) (r.others i n);
+  ended = λ q. refl;
+  stopped = λ q. refl;
+}
+
+module _ (shows : ℕ → List VFrame → VFrame) (shortest : Bool) (lane : Lane) (from : ℕ) (ss ts : List Side)
+    (lanes : map (λ (s : Side). s.lane) ts ≡ map (λ (s : Side). s.lane) ss) (shut : (q : ℕ) → (side_at lane ts q).after ≡ (side_at lane ss q).after) where
+  -- an output that has ended gives nothing, whatever waits
+  pub idle_same : (ended stopped : Bool) → ended ≡ true → Same (sync_view shows shortest lane from ss ended stopped) (sync_view shows shortest lane from ts ended stopped)
+  idle_same ended stopped e = record {
+    ports = record { ins = lanes; outs = refl };
+    rest = λ ext q on. rw e refl;
+    shut = λ p. ap is_over (shut p);
+    ended = λ q. refl;
+    stopped = λ q. refl;
+  }
+
+  pub idle_stopped : (ended stopped : Bool) (q : ℕ) → q < 1 → Stopped (sync_view shows shortest lane from ss ended stopped) (sync_view shows shortest lane from ts ended true) q
+  idle_stopped ended stopped q there = record {
+    ports = record { ins = lanes; outs = refl };
+    stopped_here = refl;
+    stopped_others = λ o lt n. absurd (let z : o ≡ q = omega (arith, lt, there) in n z);
+    rest_others = λ ext o lt n on. absurd (let z : o ≡ q = omega (arith, lt, there) in n z);
+    shut = λ p. ap is_over (shut p);
+    ended = λ o. refl;
+  }

@@ -1,5 +1,5 @@
 -- The pictures of each input before the last one by a time are let go.
-use Rattle.std.specs.Prelude.{◌≡◌, ◌≢◌, ℕ, zero, suc, ◌+◌, ◌<◌, ◌⊎◌, Bool, true, Result, Ok, Err, IfOk, List, [], ◌∷◌, map, length, refl}
+use Rattle.std.specs.Prelude.{◌≡◌, ◌≢◌, ℕ, zero, suc, ◌+◌, ◌<◌, ◌≤◌, ◌⊎◌, Bool, true, Result, Ok, Err, IfOk, List, [], ◌∷◌, map, length, refl}
 use Rattle.std.proofs.Common.{inl, inr, ap, sym, ◌∙◌, subst, arith, get_or, set}
 use Rattle.std.proofs.lemmas.Bool.{cases_lt, cases_eq, false_from_ne_true}
 use Rattle.std.proofs.lemmas.List.{length-set}
@@ -16,8 +16,8 @@ use Rattle.ff_fsync.specs.declared.input.Input.{Input}
 use Rattle.ff_fsync.specs.Synced.{is_shown, Timing}
 use Rattle.ff_fsync.specs.SyncLaws.{clash, Risen, ready_at}
 use Rattle.ff_fsync.specs.Sides.{Side, side_at, frames_of}
-use Rattle.ff_fsync.specs.Inputs.{items_of, begun_by, Trims, IsLastBy, IsLed}
-use Rattle.ff_fsync.specs.Syncs.{side_of, sides_of, sides_sound, standing_of, timing_of, IsDue, AreTrimmed, AreLed}
+use Rattle.ff_fsync.specs.Inputs.{items_of, emptied, begun_by, Trims, IsLastBy, IsLed}
+use Rattle.ff_fsync.specs.Syncs.{side_of, sides_of, sides_sound, standing_of, timing_of, IsDue, AreTrimmed, AreLed, AreEmptied}
 use Rattle.ff_fsync.proofs.Inputting.{rises_of}
 use Rattle.ff_fsync.proofs.Finding.{side_there, long_sides}
 use Rattle.ff_fsync.proofs.Dropping.{Drops, drop_shown, drop_no_more}
@@ -122,3 +122,47 @@ ports_there is p lt = let e = long_lanes is in omega (arith, lt, e)
 pub if_ok : {A E : Type 0} (r : Result A E) (P Q : A → Type 0) → ((x : A) → P x → Q x) → IfOk r P → IfOk r Q
 if_ok (Ok x) P Q h p = h x p
 if_ok (Err e) P Q h p = tt
+
+-- nothing waits of the inputs ---------------------------------------------------------------------------------------
+
+past_empty : (lane : Lane) (is : List Input) (p : ℕ) → length is ≤ p → (side_at lane (sides_of is) p).waits ≡ []
+past_empty lane [] p le = refl
+past_empty lane (i ∷ is) zero le = absurd (omega (arith, le))
+past_empty lane (i ∷ is) (suc p) le = past_empty lane is p (omega (arith, le))
+
+pub emptied_none : (head : StreamHead) (is : List Input) → AreEmptied head is is 0
+emptied_none head is = record { long = refl; lanes = refl; shut = λ q. refl; done = λ q lt. absurd (omega arith) }
+
+pub emptied_more : (head : StreamHead) (old is : List Input) (p : ℕ) (i j : Input) → AreEmptied head old is p → p < length is → j ≡ get_or is p j
+    → side_of i ≡ emptied (side_of j) → AreEmptied head old (set is p i) (p + 1)
+emptied_more head old is p i j h lt e d = record {
+  long = length-set is p i ∙ h.long;
+  lanes = set_lanes is p i j lt e (ap (λ (s : Side). s.lane) d) ∙ h.lanes;
+  shut = λ q. elim (cases_eq q p) as (λ _. (side_at (Frames head) (sides_of (set is p i)) q).after ≡ (side_at (Frames head) (sides_of old) q).after) [
+    | inl same ↦ subst (λ r. (side_at (Frames head) (sides_of (set is p i)) r).after ≡ (side_at (Frames head) (sides_of old) r).after) (sym same)
+        (ap (λ (s : Side). s.after) (set_here (Frames head) is p i lt ∙ d) ∙ (ap (λ (s : Side). s.after) (sym (side_there (Frames head) is p j lt e)) ∙ h.shut p))
+    | inr n ↦ ap (λ (s : Side). s.after) (set_others (Frames head) is p q i n) ∙ h.shut q
+  ];
+  done = λ q l. elim (cases_eq q p) as (λ _. (side_at (Frames head) (sides_of (set is p i)) q).waits ≡ []) [
+    | inl same ↦ subst (λ r. (side_at (Frames head) (sides_of (set is p i)) r).waits ≡ []) (sym same) (ap (λ (s : Side). s.waits) (set_here (Frames head) is p i lt ∙ d))
+    | inr n ↦ ap (λ (s : Side). s.waits) (set_others (Frames head) is p q i n) ∙ h.done q (omega (arith, l, n))
+  ];
+}
+
+pub emptied_to : (head : StreamHead) (old new : List Input) (m n : ℕ) → AreEmptied head old new n → m ≤ n → AreEmptied head old new m
+emptied_to head old new m n h le = record { long = h.long; lanes = h.lanes; shut = h.shut; done = λ q lt. h.done q (omega (arith, lt, le)) }
+
+pub all_empty : (head : StreamHead) (old new : List Input) (n : ℕ) → AreEmptied head old new n → length new ≤ n → (p : ℕ) → (side_at (Frames head) (sides_of new) p).waits ≡ []
+all_empty head old new n h le p = elim (cases_lt p n) as (λ _. (side_at (Frames head) (sides_of new) p).waits ≡ []) [
+  | inl lt ↦ h.done p lt
+  | inr gt ↦ past_empty (Frames head) new p (omega (arith, le, gt))
+]
+
+-- one of them was passed an item that it let go
+pub empty_still : (lane : Lane) (is : List Input) (p : ℕ) (i j : Input) → p < length is → j ≡ get_or is p j → i.queue.items ≡ j.queue.items
+    → ((q : ℕ) → (side_at lane (sides_of is) q).waits ≡ []) → (q : ℕ) → (side_at lane (sides_of (set is p i)) q).waits ≡ []
+empty_still lane is p i j lt e same h q = elim (cases_eq q p) as (λ _. (side_at lane (sides_of (set is p i)) q).waits ≡ []) [
+  | inl z ↦ subst (λ r. (side_at lane (sides_of (set is p i)) r).waits ≡ []) (sym z)
+      (ap (λ (s : Side). s.waits) (set_here lane is p i lt) ∙ (ap (λ (fs : List VFrame). items_of fs) same ∙ (ap (λ (s : Side). s.waits) (sym (side_there lane is p j lt e)) ∙ h p)))
+  | inr n ↦ ap (λ (s : Side). s.waits) (set_others lane is p q i n) ∙ h q
+]

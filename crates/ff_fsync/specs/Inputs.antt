@@ -18,6 +18,10 @@ items_of fs = map Video fs
 abbrev pub side_by : StreamHead → List VFrame → After → ℕ → Side
 side_by head queue after next = record { lane = Frames head; waits = items_of queue; after = after; next = next }
 
+-- an input of which nothing waits
+abbrev pub emptied : Side → Side
+emptied s = record { lane = s.lane; waits = []; after = s.after; next = 0 }
+
 -- an item of these starts at this time; one starts at or before it; one at or after it
 abbrev pub starts_at : List Item → ℕ → Bool
 starts_at xs t = some_of (λ x. nat_eq (start_ticks x) t) xs

@@ -1,15 +1,18 @@
 -- The machine of framesync as the definitions see it.
 use Rattle.std.specs.Prelude.{◌≡◌, ℕ, zero, suc, ◌<◌, ◌≤◌, ◌^◌, ◌⊎◌, Bool, true, false, ◌||◌, nat_lt, cond, Option, None, Some, List, [], ◌∷◌, map, length, refl}
 use Rattle.ff_frame.specs.declared.head.StreamHead.{StreamHead}
+use Rattle.ff_frame.specs.declared.video.VFrame.{VFrame}
 use Rattle.ff_stream.specs.declared.item.Item.{Item}
 use Rattle.ff_stream.specs.declared.item.Lane.{Lane}
 use Rattle.ff_stream.specs.declared.item.Lane.TheVariants.{Frames}
 use Rattle.ff_stream.specs.Stream.{Stream}
 use Rattle.ff_filter.specs.Joins.{Flow}
+use Rattle.ff_filter.specs.Views.{View}
+use Rattle.ff_fsync.specs.declared.framesync.Framesync.{Framesync}
 use Rattle.ff_fsync.specs.declared.input.Input.{Input}
 use Rattle.ff_fsync.specs.Ranges.{all_to, any_to}
 use Rattle.ff_fsync.specs.Synced.{Timing, starts, begun, is_known, is_shown, is_open, is_broken, all_ended}
-use Rattle.ff_fsync.specs.Sides.{Side, side_at, standing, timing, Sound}
+use Rattle.ff_fsync.specs.Sides.{Side, side_at, standing, timing, Sound, sync_view}
 use Rattle.ff_fsync.specs.Inputs.{side_by, Trims, IsLed}
 
 abbrev pub side_of : Input → Side
@@ -97,3 +100,18 @@ pub record AreLed (head : StreamHead) (old new : List Input) (t n : ℕ) : Type 
 -- each of these inputs has a picture
 abbrev pub AreBegun : List Side → Type 0
 AreBegun ss = (lane : Lane) (p : ℕ) → p < length ss → 0 < length (side_at lane ss p).waits
+
+-- how the machine is seen
+abbrev pub seen : {S : Type 0} → (ℕ → List VFrame → VFrame) → Framesync S → View
+seen shows m = sync_view shows m.shortest (Frames m.head) m.from (sides_of m.inputs.items) m.ended m.stopped
+
+-- of so many inputs nothing waits; all others stayed as they were
+pub record AreEmptied (head : StreamHead) (old new : List Input) (n : ℕ) : Type 0 where
+  pub long : length new ≡ length old
+  pub lanes : map (λ (s : Side). s.lane) (sides_of new) ≡ map (λ (s : Side). s.lane) (sides_of old)
+  pub shut : (q : ℕ) → (side_at (Frames head) (sides_of new) q).after ≡ (side_at (Frames head) (sides_of old) q).after
+  pub done : (q : ℕ) → q < n → (side_at (Frames head) (sides_of new) q).waits ≡ []
+
+-- no picture waits
+abbrev pub KeepsNothing : {S : Type 0} → Framesync S → Type 0
+KeepsNothing m = (p : ℕ) → (side_at (Frames m.head) (sides_of m.inputs.items) p).waits ≡ []

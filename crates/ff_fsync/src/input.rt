@@ -6,10 +6,10 @@ ghost use Rattle.ff_filter.specs.Made.{is_over, mark_after};
 ghost use Rattle.ff_filter.specs.Views.{closes};
 ghost use Rattle.ff_fsync.specs.Synced.{is_empty as none_waits, is_whole as whole_mark, is_open as open_mark, is_broken as broken_mark};
 ghost use Rattle.ff_fsync.specs.Sides.{coming, no_side, fills_to, frames_of};
-ghost use Rattle.ff_fsync.specs.Inputs.{items_of, side_by, begun_by, reaches, Trims, IsNextIn, IsLastBy, whole_if, second_by as second_starts_by, led_by, given_back};
+ghost use Rattle.ff_fsync.specs.Inputs.{items_of, side_by, emptied, begun_by, reaches, Trims, IsNextIn, IsLastBy, whole_if, second_by as second_starts_by, led_by, given_back};
 
 use crate::time::time_among;
-use ff_filter::{After, discard};
+use ff_filter::{After, closing_of, discard};
 use ff_frame::{Bytes, StreamHead, VFrame};
 use ff_stream::{Item, Refused};
 use std::alloc::{AllocError, Global};
@@ -125,6 +125,27 @@ impl Input {
         }
         self.take_in(item);
         Ok(())
+    }
+
+    /// Lets all its pictures go.
+    pub(crate) fn clear(&mut self)
+        ensures side { side_by self.new.head self.new.queue.items self.new.after self.new.next ≡ emptied (side_by self.old.head self.old.queue.items self.old.after self.old.next) }
+    {
+        self.queue.clear();
+        self.next = 0;
+    }
+
+    /// Lets an item go that nobody wants; that the stream closes is noted.
+    pub(crate) fn pass_over(&mut self, item: Item)
+        requires going { is_over self.old.after ≡ false }
+        ensures shut { is_over self.new.after ≡ closes item }
+        ensures queue { self.new.queue.items ≡ self.old.queue.items }
+        ensures head { self.new.head ≡ self.old.head }
+    {
+        if let Some(after) = closing_of(&item) {
+            self.after = after;
+        }
+        discard(item);
     }
 
     /// Whether some picture starts at or after a time.

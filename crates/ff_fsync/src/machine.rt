@@ -1,12 +1,12 @@
-ghost use Rattle.std.specs.Prelude.{◌≡◌, ◌↔◌, ◌<◌, ◌≤◌, ◌^◌, ◌+◌, List, length, map, IsTrue, IfOk, OnOk, OnErr, IfErr, Ok, Some, None, true, false};
+ghost use Rattle.std.specs.Prelude.{◌≡◌, ◌||◌, ◌↔◌, ◌<◌, ◌≤◌, ◌^◌, ◌+◌, List, length, map, IsTrue, IfOk, OnOk, OnErr, IfErr, Ok, Some, None, true, false};
 ghost use Rattle.ff_stream.specs.declared.item.Item.{Item as AnItem};
 ghost use Rattle.ff_stream.specs.declared.item.Item.TheVariants.{Video};
 ghost use Rattle.ff_stream.specs.declared.item.Lane.TheVariants.{Frames};
-ghost use Rattle.ff_filter.specs.Views.{Fed, Same, Gave, Waits, IsSpent};
+ghost use Rattle.ff_filter.specs.Views.{Fed, Same, Gave, Waits, Stopped, IsSpent};
 ghost use Rattle.ff_fsync.specs.Synced.{pictures};
 ghost use Rattle.ff_fsync.specs.Sides.{side_at, shown_as, sync_view, sync_spent, is_done as is_done_by};
 ghost use Rattle.ff_fsync.specs.SideLaws.{sync-grows, sync-hides, sync-settles, sync-quiet, sync-spent_only, sync-shut_spent, sync-done_spent};
-ghost use Rattle.ff_fsync.specs.Syncs.{sides_of, sides_sound, standing_of, timing_of, IsDue, NoneFrom, AreLed};
+ghost use Rattle.ff_fsync.specs.Syncs.{sides_of, sides_sound, standing_of, timing_of, IsDue, NoneFrom, AreLed, AreEmptied, KeepsNothing, seen};
 
 use crate::framesync::Framesync;
 use crate::lending::{lend, restore};
@@ -31,6 +31,46 @@ impl<S: Stack> Framesync<S> {
         'inputs: for p in 0..self.inputs.len() {
             self.inputs[p].trim(time);
         }
+    }
+}
+
+impl<S: Stack> Framesync<S> {
+    /// Lets all pictures go that wait.
+    pub(crate) fn let_go(&mut self)
+        ensures cleared { KeepsNothing self.new }
+        ensures emptied { AreEmptied self.old.head self.old.inputs.items self.new.inputs.items (length self.old.inputs.items) }
+        ensures stack { self.new.stack ≡ self.old.stack }
+        ensures head { self.new.head ≡ self.old.head }
+        ensures shortest { self.new.shortest ≡ self.old.shortest }
+        ensures from { self.new.from ≡ self.old.from }
+        ensures ended { self.new.ended ≡ self.old.ended }
+        ensures stopped { self.new.stopped ≡ self.old.stopped }
+        ensures over { self.old.ended ≡ true → Same (seen (S.shows self.old.stack) self.old) (seen (S.shows self.new.stack) self.new) }
+    {
+        'inputs: for p in 0..self.inputs.len() {
+            self.inputs[p].clear();
+        }
+    }
+
+    // Where the output has ended, lets all go.
+    fn settle(&mut self)
+        ensures same { Same (seen (S.shows self.old.stack) self.old) (seen (S.shows self.new.stack) self.new) }
+        ensures cleared { self.new.ended ≡ true → KeepsNothing self.new }
+    {
+        if self.ended {
+            self.let_go();
+        }
+    }
+
+    // Lets an item go that nobody wants; that the input closes is noted.
+    fn pass_over(&mut self, port: usize, item: Item)
+        requires there { port < length self.old.inputs.items }
+        requires unwanted { (self.old.ended || self.old.stopped) ≡ true }
+        requires open { (seen (S.shows self.old.stack) self.old).shut port ≡ false }
+        ensures fed { Fed (seen (S.shows self.old.stack) self.old) (seen (S.shows self.new.stack) self.new) port item }
+        ensures kept { KeepsNothing self.old → KeepsNothing self.new }
+    {
+        self.inputs[port].pass_over(item);
     }
 }
 
@@ -128,21 +168,50 @@ impl<S: Stack> Filter for Framesync<S> {
         self.stopped
     }
 
-    fn feed(&mut self, port: usize, item: Item) -> Result<(), Refused> {
+    fn feed(&mut self, port: usize, item: Item) -> Result<(), Refused>
+        requires there { port < length (seen (S.shows self.old.stack) self.old).ins }
+        requires open_before { (seen (S.shows self.old.stack) self.old).shut port ≡ false }
+        ensures fed { OnOk result (Fed (seen (S.shows self.old.stack) self.old) (seen (S.shows self.new.stack) self.new) port item) }
+        ensures refused { IfErr result (λ r. r.item ≡ item) }
+        ensures unchanged { OnErr result (Same (seen (S.shows self.old.stack) self.old) (seen (S.shows self.new.stack) self.new)) }
+        ensures cleared { (self.old.ended || self.old.stopped) ≡ true → KeepsNothing self.old → KeepsNothing self.new }
+    {
+        if self.ended | self.stopped {
+            self.pass_over(port, item);
+            return Ok(());
+        }
         match self.inputs[port].feed(item) {
             Ok(()) => Ok(()),
             Err(refused) => Err(refused),
         }
     }
 
-    fn pull(&mut self, _port: usize) -> Result<Option<Item>, AllocError> {
+    fn pull(&mut self, _port: usize) -> Result<Option<Item>, AllocError>
+        requires there { _port < length (seen (S.shows self.old.stack) self.old).outs }
+        requires wanted { (seen (S.shows self.old.stack) self.old).stopped _port ≡ false }
+        ensures gives { (x : AnItem) → result ≡ Ok (Some x) → Gave (seen (S.shows self.old.stack) self.old) (seen (S.shows self.new.stack) self.new) _port x }
+        ensures waits { result ≡ Ok None → Waits (seen (S.shows self.old.stack) self.old) (seen (S.shows self.new.stack) self.new) _port }
+        ensures unchanged { OnErr result (Same (seen (S.shows self.old.stack) self.old) (seen (S.shows self.new.stack) self.new)) }
+        ensures cleared { (self.old.ended ≡ true → KeepsNothing self.old) → self.new.ended ≡ true → KeepsNothing self.new }
+    {
         if self.ended {
             return Ok(None);
         }
-        self.pull_on()
+        match self.pull_on() {
+            Err(error) => Err(error),
+            Ok(given) => {
+                self.settle();
+                Ok(given)
+            }
+        }
     }
 
-    fn stop(&mut self, _port: usize) {
+    fn stop(&mut self, _port: usize)
+        requires there { _port < length (seen (S.shows self.old.stack) self.old).outs }
+        ensures stopped { Stopped (seen (S.shows self.old.stack) self.old) (seen (S.shows self.new.stack) self.new) _port }
+        ensures cleared { KeepsNothing self.new }
+    {
+        self.let_go();
         self.stopped = true;
     }
 

@@ -12,7 +12,7 @@ use Rattle.ff_stream.specs.Within.{passes_limits}
 use Rattle.ff_filter.specs.declared.after.After.{After}
 use Rattle.ff_filter.specs.declared.after.After.TheVariants.{More}
 use Rattle.ff_filter.specs.Joins.{Flow, one, before, joined}
-use Rattle.ff_filter.specs.Views.{View, closes, Gave, Waits}
+use Rattle.ff_filter.specs.Views.{View, closes, Fed, Gave, Waits, Stopped}
 use Rattle.ff_filter.specs.Made.{made_of, waiting}
 use Rattle.ff_filter.specs.Limits.{limited, limited_some, limited_cut}
 use Rattle.ff_vfilter.specs.declared.scale.Scale.{Scale}
@@ -148,6 +148,12 @@ gave_there v w p x lt g = let z : 0 ≡ p = omega arith in subst (λ (q : ℕ). 
 
 pub waits_there : (v w : View) (p : ℕ) → p < 1 → Waits v w 0 → Waits v w p
 waits_there v w p lt g = let z : 0 ≡ p = omega arith in subst (λ (q : ℕ). Waits v w q) z g
+
+pub fed_there : (v w : View) (p : ℕ) (x : Item) → p < 1 → Fed v w 0 x → Fed v w p x
+fed_there v w p x lt g = let z : 0 ≡ p = omega arith in subst (λ (q : ℕ). Fed v w q x) z g
+
+pub stopped_there : (v w : View) (p : ℕ) → p < 1 → Stopped v w 0 → Stopped v w p
+stopped_there v w p lt g = let z : 0 ≡ p = omega arith in subst (λ (q : ℕ). Stopped v w q) z g
 
 pub some_there : (b : Bool) (o : Option VFrame) → is_some o ≡ not b → b ≡ false → (f : VFrame) × (o ≡ Some f)
 some_there b None e f = let clash : false ≡ true = e ∙ ap not f in cc

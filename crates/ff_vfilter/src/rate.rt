@@ -1,18 +1,18 @@
-ghost use Rattle.std.specs.Prelude.{◌≡◌, ◌<◌, ◌≤◌, ◌^◌, ◌⊎◌, ◌↔◌, OnErr, Some, None, Ok, IsTrue, true, false};
+ghost use Rattle.std.specs.Prelude.{◌≡◌, length, ◌<◌, ◌≤◌, ◌^◌, ◌⊎◌, ◌↔◌, OnOk, OnErr, Some, None, Ok, IfErr, IsTrue, ◌||◌, true, false};
 ghost use Rattle.ff_stream.specs.declared.item.Item.{Item as AnItem};
 ghost use Rattle.ff_stream.specs.declared.item.Lane.TheVariants.{Frames};
 ghost use Rattle.ff_frame.specs.declared.video.VFrame.{VFrame as AFrame};
 ghost use Rattle.ff_stream.specs.Within.{passes_limits};
-ghost use Rattle.ff_filter.specs.Views.{Gave, Waits, Same, IsSpent};
+ghost use Rattle.ff_filter.specs.Views.{Fed, Gave, Waits, Same, Stopped, IsSpent};
 ghost use Rattle.ff_filter.specs.Made.{is_over};
 ghost use Rattle.ff_vfilter.specs.Rates.{number_of, shown};
 ghost use Rattle.ff_vfilter.specs.RateViews.{limit_of, work_left};
-ghost use Rattle.ff_vfilter.specs.RateSeen.{seen, has_closed, fed_mark, rate_spent};
+ghost use Rattle.ff_vfilter.specs.RateSeen.{seen, has_closed, fed_mark, rate_spent, KeepsNothing};
 ghost use Rattle.ff_vfilter.specs.RateCuts.{span_of, span_ahead, is_late as is_late_by, is_cut as is_cut_by};
 
 use crate::showing::{Ahead, Showing};
 use crate::span::Span;
-use ff_filter::{Filter, Inlet, Next, discard, time_base};
+use ff_filter::{Filter, Inlet, Next, closing_of, discard, time_base};
 use ff_frame::{StreamHead, VFrame};
 use ff_stream::{Item, Refused};
 use std::alloc::{AllocError, Global};
@@ -199,6 +199,41 @@ impl Rate {
         self.is_fed_out()
     }
 
+    // Lets all go that waits, is shown or was looked at.
+    fn let_go(&mut self)
+        ensures cleared { KeepsNothing self.new }
+        ensures over { self.old.ended ≡ true → Same (seen self.old) (seen self.new) }
+        ensures unwanted { Stopped (seen self.old) (seen (record self.new { stopped = true })) 0 }
+        ensures ended { self.new.ended ≡ self.old.ended }
+    {
+        self.input.queue.clear();
+        self.showing.picture = None;
+        self.showing.ahead = Ahead::Unknown;
+    }
+
+    // Where the output has ended, lets all go.
+    fn settle(&mut self)
+        ensures same { Same (seen self.old) (seen self.new) }
+        ensures cleared { self.new.ended ≡ true → KeepsNothing self.new }
+    {
+        if self.ended {
+            self.let_go();
+        }
+    }
+
+    // Lets an item go that nobody wants; that the input closes is noted.
+    fn pass_over(&mut self, item: Item)
+        requires unwanted { (self.old.ended || self.old.stopped) ≡ true }
+        requires open { is_over self.old.input.after ≡ false }
+        ensures fed { Fed (seen self.old) (seen self.new) 0 item }
+        ensures kept { KeepsNothing self.old → KeepsNothing self.new }
+    {
+        if let Some(after) = closing_of(&item) {
+            self.input.after = after;
+        }
+        discard(item);
+    }
+
     // Goes on until a picture is due, or nothing is known.
     fn step(&mut self) -> Result<Work, AllocError>
         requires { self.old.ended ≡ false }
@@ -265,7 +300,18 @@ impl Filter for Rate {
         self.stopped
     }
 
-    fn feed(&mut self, _port: usize, item: Item) -> Result<(), Refused> {
+    fn feed(&mut self, _port: usize, item: Item) -> Result<(), Refused>
+        requires there { _port < length (seen self.old).ins }
+        requires open_before { (seen self.old).shut _port ≡ false }
+        ensures fed { OnOk result (Fed (seen self.old) (seen self.new) _port item) }
+        ensures refused { IfErr result (λ r. r.item ≡ item) }
+        ensures unchanged { OnErr result (Same (seen self.old) (seen self.new)) }
+        ensures cleared { (self.old.ended || self.old.stopped) ≡ true → KeepsNothing self.old → KeepsNothing self.new }
+    {
+        if self.ended | self.stopped {
+            self.pass_over(item);
+            return Ok(());
+        }
         if self.input.reserve().is_err() {
             return Err(Refused { item });
         }
@@ -273,21 +319,36 @@ impl Filter for Rate {
         Ok(())
     }
 
-    fn pull(&mut self, _port: usize) -> Result<Option<Item>, AllocError> {
+    fn pull(&mut self, _port: usize) -> Result<Option<Item>, AllocError>
+        requires there { _port < length (seen self.old).outs }
+        requires wanted { (seen self.old).stopped _port ≡ false }
+        ensures gives { (x : AnItem) → result ≡ Ok (Some x) → Gave (seen self.old) (seen self.new) _port x }
+        ensures waits { result ≡ Ok None → Waits (seen self.old) (seen self.new) _port }
+        ensures unchanged { OnErr result (Same (seen self.old) (seen self.new)) }
+        ensures cleared { (self.old.ended ≡ true → KeepsNothing self.old) → self.new.ended ≡ true → KeepsNothing self.new }
+    {
         if self.ended {
             return Ok(None);
         }
         loop {
             match self.step() {
                 Err(error) => return Err(error),
-                Ok(Work::Gave(item)) => return Ok(Some(item)),
+                Ok(Work::Gave(item)) => {
+                    self.settle();
+                    return Ok(Some(item));
+                }
                 Ok(Work::Waits) => return Ok(None),
                 Ok(Work::On) => {}
             }
         }
     }
 
-    fn stop(&mut self, _port: usize) {
+    fn stop(&mut self, _port: usize)
+        requires there { _port < length (seen self.old).outs }
+        ensures stopped { Stopped (seen self.old) (seen self.new) _port }
+        ensures cleared { KeepsNothing self.new }
+    {
+        self.let_go();
         self.stopped = true;
     }
 

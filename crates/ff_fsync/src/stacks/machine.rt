@@ -96,6 +96,7 @@ impl Stacked {
         if is_long(&self.sync.head, self.before, end_ticks(&item)) {
             discard(item);
             self.sync.ended = true;
+            self.sync.let_go();
             return Item::Broken;
         }
         self.before += 1;

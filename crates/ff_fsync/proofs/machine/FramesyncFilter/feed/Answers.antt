@@ -32,3 +32,6 @@ returns-in-Err-clause-unchanged g c =
     let same = set_same s.inputs.items c.args.port c.feed.new.self c.index_mut.result.now (ports_there s.inputs.items c.args.port c.requires.there) c.index_mut.ensures.value c.in-Err.ensures.unchanged in
     let v : View = sync_view (g.S.Stack.shows s.stack) s.shortest (Frames s.head) s.from (sides_of s.inputs.items) s.ended s.stopped in
     subst (λ (ss : List Side). Same v (sync_view (g.S.Stack.shows s.stack) s.shortest (Frames s.head) s.from ss s.ended s.stopped)) (sym same) (same_self v)
+
+pub pass_over-requires-clause-there : goal.pass_over-requires-clause-there
+pass_over-requires-clause-there g c = ports_there c.args.self.now.inputs.items c.args.port c.requires.there
