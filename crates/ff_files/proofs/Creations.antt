@@ -52,9 +52,14 @@ module _ (names : List (List ℕ)) where
     | inl none ↦ inl (files_on f0 f1 f2 keeps none.0, λ n. none.1 n ∙ same n)
     | inr more ↦ elim more [
       | inl all ↦ inr (inl all)
-      | inr one ↦ inr (inr (one.0, one.1, record {
-        counted = ends_since before mid now names one.0 one.1 same one.2.counted;
-        untouched = but_since f0 f1 f2 names one.0 keeps one.2.untouched;
-      }, one.3))
+      | inr one ↦ inr (inr (
+        one.0,
+        one.1,
+        record {
+          counted = ends_since before mid now names one.0 one.1 same one.2.counted;
+          untouched = but_since f0 f1 f2 names one.0 keeps one.2.untouched;
+        },
+        one.3,
+      ))
     ]
   ]

@@ -1,5 +1,5 @@
 -- What the steps of a turn come to.
-use Rattle.std.proofs.Common.{◌≡◌, ◌≢◌, ℕ, zero, suc, ◌<◌, ◌⊎◌, inl, inr, Bool, true, false, ◌||◌, List, [], ◌∷◌, ◌++◌, length, slice_index_or, slice_set, ◌≤◌, refl, ap, sym, ◌∙◌, subst, arith, Option, None, Some, is_some, get_or-set_other}
+use Rattle.std.proofs.Common.{◌≡◌, ◌≢◌, ℕ, zero, suc, ◌<◌, ◌⊎◌, inl, inr, Bool, true, false, ◌||◌, List, [], ◌∷◌, ◌++◌, ◌^◌, length, slice_index_or, slice_set, ◌≤◌, refl, ap, sym, ◌∙◌, subst, arith, Option, None, Some, is_some, get_or-set_other}
 use Rattle.ff_stream.specs.declared.item.Item.{Item}
 use Rattle.ff_stream.specs.Items.{Closes}
 use Rattle.ff_stream.specs.Order.{closed_below}
@@ -14,7 +14,8 @@ use Rattle.ff_net.specs.declared.ports.OutPort.{OutPort}
 use Rattle.ff_net.specs.declared.wires.Wires.{Wires}
 use Rattle.ff_net.specs.Pasts.{Past, Task}
 use Rattle.ff_net.specs.Ports.{in_at, in_wires, out_at}
-use Rattle.ff_net.specs.Worlds.{Wire, Stand}
+use Rattle.ff_net.specs.Worlds.{Wire, Stand, IsEmpty, IsFull, lanes_of}
+use Rattle.ff_net.specs.declared.wires.Queue.{Queue}
 use Rattle.ff_net.specs.Logs.{WasChoked}
 use Rattle.ff_net.specs.Nodes.{IsDone, pass_of}
 use Rattle.ff_sched.specs.Passing.{Passing}
@@ -30,7 +31,11 @@ use Rattle.ff_net_threads.specs.declared.links.linked.Linked.{Linked}
 use Rattle.ff_net_threads.specs.links.Ends.{taken_in, taken_of, in_end_at}
 use Rattle.ff_net_threads.specs.links.Nodes.{Behind}
 use Rattle.ff_net_threads.proofs.LinksLemmas.Linking.{in_nth, out_nth, count_map}
-use Rattle.ff_net_threads.specs.links.Turns.{TakesOneAtMost, InMoves, took, ended as in_ended, laid, InRests, Shuts, SendsOneAtMost, OutMoves, sent as was_sent, ended as out_ended, lifted, OutRests, HasMoved, at_input, at_output, at_node, at_end, at_pass}
+use Rattle.ff_net_threads.specs.links.Turns.{TakesOneAtMost, InMoves, took, ended as in_ended, laid, InRests, FoundEmpty, CannotTake, link_shut, found_empty, Shuts, SendsOneAtMost, OutMoves, sent as was_sent, ended as out_ended, lifted, OutRests, FoundFull, CannotSend, nothing, found_full, spent, HasDrawnNone, due, cannot, HasMoved, at_input, at_output, at_node, at_end, at_pass}
+
+pub false_if_not : (b : Bool) → (b ≡ true → ⊥) → b ≡ false
+false_if_not true h = absurd (h refl)
+false_if_not false h = refl
 
 some_none : {A : Type 0} (o : Option A) (x : A) → o ≡ Some x → o ≡ None → ⊥
 some_none o x e f = cc
@@ -129,8 +134,33 @@ module _ (old mid new : InEnd) (taking : new.taking ≡ mid.taking) (finished : 
   pub draw_rests : InRests old mid → new.held ≡ mid.held → InRests old new
   draw_rests r held = record { taken = laid_taken ∙ r.taken; going = ap (λ (t : Option Receiving). is_some t) taking ∙ r.going; held = held ∙ r.held }
 
-pub rests_then : (a b c : InEnd) → InRests a b → InRests b c → InRests a c
-rests_then a b c x y = record { taken = y.taken ∙ x.taken; going = y.going ∙ x.going; held = y.held ∙ x.held }
+-- nothing lies on a wire that is empty, so it isn't full
+some_queue : (queues : List Queue) (w : ℕ) → w < length queues → Queue
+some_queue [] w lt = absurd (omega arith)
+some_queue (q ∷ qs) w lt = q
+
+pub full_not_empty : (wires : Wires) (w : ℕ) → w < length (lanes_of wires) → IsFull wires w → IsEmpty wires w → ⊥
+full_not_empty wires w lt f e =
+    let queues : List Queue = wires.queues.items in
+    let d : Queue = some_queue queues w (subst (λ (n : ℕ). w < n) (count_map (λ (q : Queue). q.lane) queues) lt) in
+    let most : length (slice_index_or queues w d).content.items ≡ (slice_index_or queues w d).size = f.as_many d in
+    let some : 1 ≤ (slice_index_or queues w d).size = f.some d in
+    let none : length (slice_index_or queues w d).content.items ≡ 0 = ap length (e d) in
+    omega (arith, most, some, none)
+
+-- an end that looked, or had finished its link, and laid nothing
+pub none_drawn : (wires : Wires) (old mid new : InEnd) → new.taking ≡ mid.taking → new.held ≡ None → new.held ≡ mid.held → InRests old mid → (old.held ≡ None → (mid.taking ≡ None) ⊎ FoundEmpty old mid) → CannotTake wires old new
+none_drawn wires old mid new taking none held rests looked = elim (looked (sym rests.held ∙ (sym held ∙ none))) [
+  | inl s ↦ link_shut (taking ∙ s)
+  | inr f ↦ found_empty none (f.0, f.1, taking ∙ f.2, f.3)
+]
+
+-- an end that lifted nothing and sent nothing
+pub none_sent : (wires : Wires) (old mid new : OutEnd) → mid ≡ old → OutRests mid new → (old.held ≡ None → IsEmpty wires old.wire) → (new.held ≡ None) ⊎ FoundFull mid new ⊎ (2 ^ 40 < length new.sender.sent) → CannotSend wires old new
+none_sent wires old mid new same rests clear why = elim why [
+  | inl none ↦ nothing none (clear (sym (ap (λ (o : OutEnd). o.held) same) ∙ (sym rests.held ∙ none)))
+  | inr more ↦ elim more [ inl f ↦ found_full (subst (λ (o : OutEnd). FoundFull o new) same f) | inr many ↦ spent many ]
+]
 
 pub takes_then : (a b c : InEnd) → TakesOneAtMost a b → Shuts b c → TakesOneAtMost a c
 takes_then a b c t s = record {
@@ -209,8 +239,8 @@ less_or_not (suc m) (suc n) = elim (less_or_not m n) [ inl l ↦ inl (omega (ari
 
 module _ {M : Type 0} (view : M → View) where
   -- idle since a moment, and so since another with the same pass
-  idle_before : (before other node : Node M) (wires : Wires) (world : ℕ → Wire) (past : Past) → pass_of before ≡ pass_of other → IsIdle view before node wires world past → IsIdle view other node wires world past
-  idle_before before other node wires world past same i = record { no_room = i.no_room; no_item = i.no_item; refused = since i.refused }
+  idle_before : (may_take : Bool) (before other node : Node M) (wires : Wires) (world : ℕ → Wire) (past : Past) → pass_of before ≡ pass_of other → IsIdle view may_take before node wires world past → IsIdle view may_take other node wires world past
+  idle_before may_take before other node wires world past same i = record { no_room = i.no_room; no_item = i.no_item; refused = λ may. since (i.refused may) }
     where
       since : IsRefused view before node wires → IsRefused view other node wires
       since (full q lt f) = full q lt f
@@ -224,6 +254,11 @@ module _ {M : Type 0} (view : M → View) where
     | inl l ↦ inr l
     | inr g ↦ inl (stepped_as view how (λ x p y q. Moves x y p q) a wires b wires' (λ x p y q c h. elim (moved x p y q h) [ inl m ↦ m | inr l ↦ absurd (let less : length (pass_of a).log < length (pass_of b).log = l in omega (arith, less, g)) ]) step)
   ]
+
+  -- nothing was taken, and the ends stayed
+  pub drawn_none_then : (old drawn last : Linked M) → ((p : ℕ) → in_end_at last.ins.items p ≡ in_end_at drawn.ins.items p) → HasDrawnNone view old drawn → HasDrawnNone view old last
+  drawn_none_then old drawn last same (due node s d) = due node s d
+  drawn_none_then old drawn last same (cannot h) = cannot (λ p lt. subst (λ (e : InEnd). CannotTake old.wires (in_end_at old.ins.items p) e) (sym (same p)) (h p lt))
 
   -- where the node has finished an input, its link is finished
   pub shut_port : (l : Linked M) (task : Task) → Behind view task l → (last : List InEnd) → ((world : ℕ → Wire) → Stand l.wires world → (p : ℕ) → p < length l.ins.items → (world (in_end_at l.ins.items p).wire).finished ≡ true → (in_end_at last p).taking ≡ None)
@@ -240,12 +275,12 @@ module _ {M : Type 0} (view : M → View) where
         (stepped_then view (λ a p b q. Unit {0}) (λ a p b q. Moves a b p q) (λ a p b q. Moves a b p q) old.node old.wires drawn.node drawn.wires turned.node turned.wires (λ a p b q c r x y u m. then_moves _ _ a b c p q r x y m) filled step))
 
     -- the node is idle
-    pub node_idle : pass_of drawn.node ≡ pass_of old.node → last.wires ≡ turned.wires → Stepped view (λ a p b q. IsIdle view drawn.node turned.node turned.wires b q) drawn.node drawn.wires turned.node turned.wires
-        → Stepped view (λ a p b q. IsIdle view old.node last.node last.wires b q) old.node old.wires last.node last.wires
-    node_idle pass wires step = subst (λ (n : Node M). Stepped view (λ a p b q. IsIdle view old.node n last.wires b q) old.node old.wires n last.wires) (sym node)
-        (subst (λ (w : Wires). Stepped view (λ a p b q. IsIdle view old.node turned.node w b q) old.node old.wires turned.node w) (sym wires)
-        (stepped_then view (λ a p b q. Unit {0}) (λ a p b q. IsIdle view drawn.node turned.node turned.wires b q) (λ a p b q. IsIdle view old.node turned.node turned.wires b q) old.node old.wires drawn.node drawn.wires turned.node turned.wires
-        (λ a p b q c r x y u i. idle_before drawn.node old.node turned.node turned.wires c r pass i) filled step))
+    pub node_idle : (may_take : Bool) → pass_of drawn.node ≡ pass_of old.node → last.wires ≡ turned.wires → Stepped view (λ a p b q. IsIdle view may_take drawn.node turned.node turned.wires b q) drawn.node drawn.wires turned.node turned.wires
+        → Stepped view (λ a p b q. IsIdle view may_take old.node last.node last.wires b q) old.node old.wires last.node last.wires
+    node_idle may_take pass wires step = subst (λ (n : Node M). Stepped view (λ a p b q. IsIdle view may_take old.node n last.wires b q) old.node old.wires n last.wires) (sym node)
+        (subst (λ (w : Wires). Stepped view (λ a p b q. IsIdle view may_take old.node turned.node w b q) old.node old.wires turned.node w) (sym wires)
+        (stepped_then view (λ a p b q. Unit {0}) (λ a p b q. IsIdle view may_take drawn.node turned.node turned.wires b q) (λ a p b q. IsIdle view may_take old.node turned.node turned.wires b q) old.node old.wires drawn.node drawn.wires turned.node turned.wires
+        (λ a p b q c r x y u i. idle_before may_take drawn.node old.node turned.node turned.wires c r pass i) filled step))
 
   -- where the receiver of a link has finished, or a closing item was sent, nothing more goes on the node's output
   pub stop_port : (poured last : Linked M) (task : Task) → Behind view task poured → Behind view task last → last.outs.items ≡ poured.outs.items → ((world : ℕ → Wire) → Stand poured.wires world → (q : ℕ) → q < length poured.node.outs.items → (world (out_at poured.node.outs.items q).wire).finished ≡ true → (out_at last.node.outs.items q).done ≡ true)

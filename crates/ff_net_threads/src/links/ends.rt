@@ -1,12 +1,13 @@
 // The ends of links at the wires of a node.
-ghost use Rattle.std.specs.Prelude.{◌≡◌, ◌≢◌, ◌<◌, ◌⊎◌, ℕ, length, slice_index_or, true, false, [], ◌∷◌, None, is_some};
+ghost use Rattle.std.specs.Prelude.{◌≡◌, ◌≢◌, ◌<◌, ◌⊎◌, ◌^◌, ℕ, length, slice_index_or, true, false, [], ◌∷◌, None, is_some};
 ghost use Rattle.ff_net.specs.declared.wires.Wires.{Wires};
 ghost use Rattle.ff_net.specs.Pasts.{Past};
 ghost use Rattle.ff_net.specs.Ways.{lane_at};
-ghost use Rattle.ff_net.specs.Worlds.{Wire, Stand, lanes_of};
+ghost use Rattle.ff_net.specs.Worlds.{Wire, Stand, IsEmpty, lanes_of};
 ghost use Rattle.ff_net_threads.specs.links.Ends.{InEndStands, OutEndStands, CanPour, OnWires, Draws, Pours, claims_of, taken_of, in_link, out_link, in_end_at};
 ghost use Rattle.ff_net_threads.specs.declared.links.ends.OutEnd.{OutEnd};
-ghost use Rattle.ff_net_threads.specs.links.Turns.{Shuts, TakesOneAtMost, InMoves, InRests, SendsOneAtMost, OutMoves, OutRests};
+ghost use Rattle.ff_net_threads.specs.links.Turns.{Shuts, TakesOneAtMost, InMoves, InRests, FoundEmpty, CannotTake};
+ghost use Rattle.ff_net_threads.specs.links.Turns.{SendsOneAtMost, OutMoves, OutRests, FoundFull, CannotSend};
 
 use ff_link::{Finished, Put, Receiver, Sender, Take};
 use ff_net::{Put as Laid, Take as Lifted, Wires};
@@ -92,7 +93,7 @@ fn shut_if<R: Wait>(rt: &R, wires: &Wires, end: &mut InEnd) -> bool
     ensures link { in_link end.new ≡ in_link end.old }
     ensures shuts { Shuts end.old end.new }
     ensures moved { result ≡ true → InMoves end.old end.new }
-    ensures still { result ≡ false → InRests end.old end.new }
+    ensures still { result ≡ false → end.new ≡ end.old }
     ensures shut { (world : ℕ → Wire) → Stand wires.now world → (world end.old.wire).finished ≡ true → end.new.taking ≡ None }
     ensures stands { (world : ℕ → Wire) (past : Past) → Stand wires.now world → InEndStands end.old (lane_at (lanes_of wires.now) end.old.wire) (world end.old.wire)
         → OnWires [] (end.old.wire ∷ []) wires.now world past (InEndStands end.new (lane_at (lanes_of wires.now) end.old.wire)) end.old.wire }
@@ -111,6 +112,7 @@ fn fetch<R: Wait>(rt: &R, end: &mut InEnd) -> bool
     ensures takes { TakesOneAtMost end.old end.new }
     ensures moved { result ≡ true → taken_of end.new ≢ taken_of end.old }
     ensures still { result ≡ false → InRests end.old end.new }
+    ensures none { result ≡ false → end.old.held ≡ None → (end.new.taking ≡ None) ⊎ FoundEmpty end.old end.new }
 {
     if end.held.is_some() {
         return false;
@@ -136,6 +138,7 @@ fn lay(wires: &mut Wires, end: &mut InEnd) -> bool
     ensures finished { end.new.finished ≡ end.old.finished }
     ensures moved { result ≡ true → (is_some end.old.held ≡ true) × (end.new.held ≡ None) }
     ensures still { result ≡ false → (end.new.held ≡ end.old.held) × (wires.new ≡ wires.old) }
+    ensures lays { IsEmpty wires.old end.old.wire → end.new.held ≡ None }
     ensures lanes { lanes_of wires.new ≡ lanes_of wires.old }
     ensures wire { end.new.wire ≡ end.old.wire }
     ensures link { in_link end.new ≡ in_link end.old }
@@ -165,6 +168,7 @@ pub fn draw<R: Wait>(rt: &R, wires: &mut Wires, end: &mut InEnd) -> bool
     ensures takes { TakesOneAtMost end.old end.new }
     ensures moved { result ≡ true → InMoves end.old end.new }
     ensures still { result ≡ false → InRests end.old end.new × (wires.new ≡ wires.old) }
+    ensures why { result ≡ false → CannotTake wires.old end.old end.new }
     ensures lanes { lanes_of wires.new ≡ lanes_of wires.old }
     ensures wire { end.new.wire ≡ end.old.wire }
     ensures link { in_link end.new ≡ in_link end.old }
@@ -193,6 +197,7 @@ fn lift(wires: &mut Wires, end: &mut OutEnd) -> bool
     ensures sender { end.new.sender ≡ end.old.sender }
     ensures moved { result ≡ true → (end.old.held ≡ None) × (is_some end.new.held ≡ true) }
     ensures still { result ≡ false → (end.new ≡ end.old) × (wires.new ≡ wires.old) }
+    ensures empty { result ≡ false → end.old.held ≡ None → IsEmpty wires.old end.old.wire }
     ensures stands { (world : ℕ → Wire) (past : Past) → Stand wires.old world → OutEndStands end.old (lane_at (lanes_of wires.old) end.old.wire) (world end.old.wire)
         → OnWires (end.old.wire ∷ []) [] wires.new world past (OutEndStands end.new (lane_at (lanes_of wires.old) end.old.wire)) end.old.wire }
 {
@@ -222,6 +227,7 @@ fn send<R: Wait>(rt: &R, wires: &mut Wires, end: &mut OutEnd) -> bool
     ensures sends { SendsOneAtMost end.old end.new }
     ensures moved { result ≡ true → (end.new.sender.sent ≢ end.old.sender.sent) ⊎ (end.new.done ≡ true) }
     ensures still { result ≡ false → OutRests end.old end.new × (wires.new ≡ wires.old) }
+    ensures why { result ≡ false → (end.new.held ≡ None) ⊎ FoundFull end.old end.new ⊎ (2 ^ 40 < length end.new.sender.sent) }
     ensures stands { (world : ℕ → Wire) (past : Past) → Stand wires.old world → OutEndStands end.old (lane_at (lanes_of wires.old) end.old.wire) (world end.old.wire)
         → OnWires (end.old.wire ∷ []) [] wires.new world past (OutEndStands end.new (lane_at (lanes_of wires.old) end.old.wire)) end.old.wire }
 {
@@ -258,6 +264,7 @@ pub fn pour<R: Wait>(rt: &R, wires: &mut Wires, end: &mut OutEnd) -> bool
     ensures sends { SendsOneAtMost end.old end.new }
     ensures moved { result ≡ true → OutMoves end.old end.new }
     ensures still { result ≡ false → OutRests end.old end.new × (wires.new ≡ wires.old) }
+    ensures why { result ≡ false → CannotSend wires.old end.old end.new }
     ensures lanes { lanes_of wires.new ≡ lanes_of wires.old }
     ensures wire { end.new.wire ≡ end.old.wire }
     ensures link { out_link end.new ≡ out_link end.old }
@@ -283,6 +290,7 @@ pub fn draw_at<R: Wait>(rt: &R, wires: &mut Wires, ins: &mut Vec<InEnd>, p: usiz
     ensures takes { TakesOneAtMost (in_end_at ins.old.items p) (in_end_at ins.new.items p) }
     ensures moved { result ≡ true → InMoves (in_end_at ins.old.items p) (in_end_at ins.new.items p) }
     ensures still { result ≡ false → InRests (in_end_at ins.old.items p) (in_end_at ins.new.items p) × (wires.new ≡ wires.old) }
+    ensures why { result ≡ false → CannotTake wires.old (in_end_at ins.old.items p) (in_end_at ins.new.items p) }
 {
     draw(rt, wires, &mut ins[p])
 }
@@ -294,7 +302,7 @@ pub fn shut_at<R: Wait>(rt: &R, wires: &Wires, ins: &mut Vec<InEnd>, p: usize) -
     ensures draws { Draws wires.now wires.now ins.old.items ins.new.items p }
     ensures shuts { Shuts (in_end_at ins.old.items p) (in_end_at ins.new.items p) }
     ensures moved { result ≡ true → InMoves (in_end_at ins.old.items p) (in_end_at ins.new.items p) }
-    ensures still { result ≡ false → InRests (in_end_at ins.old.items p) (in_end_at ins.new.items p) }
+    ensures still { result ≡ false → in_end_at ins.new.items p ≡ in_end_at ins.old.items p }
     ensures shut { (world : ℕ → Wire) → Stand wires.now world → (world (in_end_at ins.old.items p).wire).finished ≡ true → (in_end_at ins.new.items p).taking ≡ None }
 {
     shut_if(rt, wires, &mut ins[p])
@@ -310,6 +318,7 @@ pub fn pour_at<R: Wait>(rt: &R, wires: &mut Wires, outs: &mut Vec<OutEnd>, q: us
     ensures sends { (d : OutEnd) → SendsOneAtMost (slice_index_or outs.old.items q d) (slice_index_or outs.new.items q d) }
     ensures moved { result ≡ true → (d : OutEnd) → OutMoves (slice_index_or outs.old.items q d) (slice_index_or outs.new.items q d) }
     ensures still { result ≡ false → ((d : OutEnd) → OutRests (slice_index_or outs.old.items q d) (slice_index_or outs.new.items q d)) × (wires.new ≡ wires.old) }
+    ensures why { result ≡ false → (d : OutEnd) → CannotSend wires.old (slice_index_or outs.old.items q d) (slice_index_or outs.new.items q d) }
 {
     pour(rt, wires, &mut outs[q])
 }

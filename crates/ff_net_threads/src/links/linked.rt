@@ -4,14 +4,15 @@ ghost use Rattle.ff_stream.specs.Ports.{IsClosed};
 ghost use Rattle.ff_net_threads.specs.links.Ends.{in_end_at, taken_of};
 ghost use Rattle.ff_net_threads.specs.declared.links.ends.OutEnd.{OutEnd};
 ghost use Rattle.ff_net_threads.specs.links.Nodes.{Follows, IsLawful, HasEnded, Behind, IsBeginning, AreWired, IsWired, node_of, wires_on, lanes_on, ins_of, outs_of};
-ghost use Rattle.ff_net_threads.specs.links.Turns.{TakesOneAtMost, InMoves, InRests, Shuts, SendsOneAtMost, OutMoves, OutRests, IsWaiting, HasMoved, HasRested};
+ghost use Rattle.ff_net_threads.specs.links.Turns.{TakesOneAtMost, InMoves, InRests, CannotTake, Shuts, SendsOneAtMost, OutMoves, OutRests, CannotSend};
+ghost use Rattle.ff_net_threads.specs.links.Turns.{IsWaiting, HasMoved, HasDrawnNone, HasRested};
 ghost use Rattle.ff_net.specs.declared.fault.Fault.{Fault};
 ghost use Rattle.ff_net.specs.Logs.{tickets_in};
 ghost use Rattle.ff_net.specs.Nodes.{IsOf, IsSound, IsDone, NodeStands, HasFinished, IsOver};
 ghost use Rattle.ff_net.specs.Nodes.{machine_of, pass_of, inputs_of, outputs_of, in_wire_of, out_wire_of};
 ghost use Rattle.ff_net.specs.Pasts.{Past, Task};
 ghost use Rattle.ff_net.specs.Steps.{Stepped, Moves, Fills, IsDue};
-ghost use Rattle.ff_net.specs.Turns.{IsIdle};
+ghost use Rattle.ff_net.specs.Turns.{HasDue, IsIdle};
 ghost use Rattle.ff_net.specs.Worlds.{Wire, Stand, lanes_of, sizes_of};
 
 use crate::links::bells::Bells;
@@ -31,7 +32,8 @@ pub struct Linked<M> {
 }
 
 fn shut_all(ins: &Vec<InEnd>) -> bool
-    ensures { result ≡ true → (p : ℕ) → p < length ins.now.items → (in_end_at ins.now.items p).taking ≡ None }
+    ensures shut { result ≡ true → (p : ℕ) → p < length ins.now.items → (in_end_at ins.now.items p).taking ≡ None }
+    ensures exact { ((p : ℕ) → p < length ins.now.items → (in_end_at ins.now.items p).taking ≡ None) → result ≡ true }
 {
     for end in ins {
         if end.taking.is_some() {
@@ -42,7 +44,8 @@ fn shut_all(ins: &Vec<InEnd>) -> bool
 }
 
 fn sent_all(outs: &Vec<OutEnd>) -> bool
-    ensures { result ≡ true → (q : ℕ) (d : OutEnd) → q < length outs.now.items → (slice_index_or outs.now.items q d).done ≡ true }
+    ensures sent { result ≡ true → (q : ℕ) (d : OutEnd) → q < length outs.now.items → (slice_index_or outs.now.items q d).done ≡ true }
+    ensures exact { ((q : ℕ) (d : OutEnd) → q < length outs.now.items → (slice_index_or outs.now.items q d).done ≡ true) → result ≡ true }
 {
     for end in outs {
         if !end.done {
@@ -52,25 +55,42 @@ fn sent_all(outs: &Vec<OutEnd>) -> bool
     true
 }
 
-// Whether an output waits for room.
-fn waits(outs: &Vec<OutEnd>) -> bool
-    ensures { result ≡ false → (q : ℕ) (d : OutEnd) → q < length outs.now.items → IsWaiting (slice_index_or outs.now.items q d) → ⊥ }
+// Whether an item lies between the node and a link.
+fn waits(wires: &Wires, outs: &Vec<OutEnd>) -> bool
+    requires { (q : ℕ) (d : OutEnd) → q < length outs.now.items → (slice_index_or outs.now.items q d).wire < length (lanes_of wires.now) }
+    ensures none { result ≡ false → (q : ℕ) (d : OutEnd) → q < length outs.now.items → IsWaiting wires.now (slice_index_or outs.now.items q d) → ⊥ }
+    ensures one { result ≡ true → (q : ℕ) × (q < length outs.now.items) × ((d : OutEnd) → IsWaiting wires.now (slice_index_or outs.now.items q d)) }
 {
     for end in outs {
-        if is_waiting(end) {
+        if is_waiting(wires, end) {
             return true;
         }
     }
     false
 }
 
-fn is_waiting(end: &OutEnd) -> bool
-    ensures { result ≡ false → IsWaiting end.now → ⊥ }
+fn is_waiting(wires: &Wires, end: &OutEnd) -> bool
+    requires { end.now.wire < length (lanes_of wires.now) }
+    ensures no { result ≡ false → IsWaiting wires.now end.now → ⊥ }
+    ensures yes { result ≡ true → IsWaiting wires.now end.now }
 {
     if end.done {
         return false;
     }
-    end.held.is_some()
+    if end.held.is_some() {
+        return true;
+    }
+    !wires.is_empty(end.wire)
+}
+
+// Whether an end holds an item, for which its link had no room.
+fn some_held(outs: &Vec<OutEnd>) -> bool {
+    for end in outs {
+        if !end.done && end.held.is_some() {
+            return true;
+        }
+    }
+    false
 }
 
 // How many items are taken from this link, which is full, once an eighth of what it holds is left.
@@ -149,16 +169,24 @@ impl<M: Machine> Linked<M> {
     /// Whether the node is done, has finished each link that it takes from, and has closed each link that it sends
     /// over, or was told that its receiver has finished.
     pub fn is_done(&self) -> bool
-        ensures { result ≡ true → HasEnded self.now }
+        ensures ended { result ≡ true → HasEnded self.now }
+        ensures exact { HasEnded self.now → result ≡ true }
     {
         self.node.is_done() && shut_all(&self.ins) && sent_all(&self.outs)
     }
 
     /// Whether an output waits for room in its link.
-    pub(crate) fn waits_for_room(&self) -> bool
-        ensures { result ≡ false → (q : ℕ) (d : OutEnd) → q < length self.now.outs.items → IsWaiting (slice_index_or self.now.outs.items q d) → ⊥ }
+    pub(crate) fn waits_for_room(&self) -> bool {
+        some_held(&self.outs)
+    }
+
+    // Whether the node may take: no item lies between it and one of its links.
+    fn may_take(&self) -> bool
+        requires { IsLawful M.view self.now }
+        ensures none { result ≡ true → (q : ℕ) (d : OutEnd) → q < length self.now.outs.items → IsWaiting self.now.wires (slice_index_or self.now.outs.items q d) → ⊥ }
+        ensures one { result ≡ false → (q : ℕ) × (q < length self.now.outs.items) × ((d : OutEnd) → IsWaiting self.now.wires (slice_index_or self.now.outs.items q d)) }
     {
-        waits(&self.outs)
+        !waits(&self.wires, &self.outs)
     }
 
     /// How many ends it has.
@@ -238,6 +266,7 @@ impl<M: Machine> Linked<M> {
         ensures takes { (p : ℕ) → TakesOneAtMost (in_end_at self.old.ins.items p) (in_end_at self.new.ins.items p) }
         ensures moved { result ≡ true → (p : ℕ) × InMoves (in_end_at self.old.ins.items p) (in_end_at self.new.ins.items p) }
         ensures still { result ≡ false → ((p : ℕ) → InRests (in_end_at self.old.ins.items p) (in_end_at self.new.ins.items p)) × (self.new.wires ≡ self.old.wires) }
+        ensures why { result ≡ false → (p : ℕ) → p < length self.old.ins.items → CannotTake self.old.wires (in_end_at self.old.ins.items p) (in_end_at self.new.ins.items p) }
     {
         let mut moved = false;
         let count = self.ins.len();
@@ -248,8 +277,8 @@ impl<M: Machine> Linked<M> {
         moved
     }
 
-    // Draws where no item is due.
-    fn draw_if_free<R: Wait>(&mut self, rt: &R) -> bool
+    // Draws where no item waits or is due.
+    fn draw_if_free<R: Wait>(&mut self, rt: &R, may_take: bool) -> bool
         requires { IsLawful M.view self.old }
         ensures follows { Follows M.view self.old self.new }
         ensures outs { self.new.outs ≡ self.old.outs }
@@ -257,10 +286,11 @@ impl<M: Machine> Linked<M> {
         ensures takes { (p : ℕ) → TakesOneAtMost (in_end_at self.old.ins.items p) (in_end_at self.new.ins.items p) }
         ensures moved { result ≡ true → (p : ℕ) × InMoves (in_end_at self.old.ins.items p) (in_end_at self.new.ins.items p) }
         ensures still { result ≡ false → ((p : ℕ) → InRests (in_end_at self.old.ins.items p) (in_end_at self.new.ins.items p)) × Stepped M.view (λ a p b q. Unit {0}) self.old.node self.old.wires self.new.node self.new.wires }
-        ensures waits { (q : ℕ) (d : OutEnd) → q < length self.old.outs.items → IsWaiting (slice_index_or self.old.outs.items q d) → (p : ℕ) → taken_of (in_end_at self.new.ins.items p) ≡ taken_of (in_end_at self.old.ins.items p) }
+        ensures why { result ≡ false → may_take ≡ true → HasDrawnNone M.view self.old self.new }
+        ensures held_back { may_take ≡ false → self.new.ins ≡ self.old.ins }
         ensures due { (world : ℕ → Wire) (past : Past) (q : ℕ) → Stand self.old.wires world → NodeStands M.view self.old.node world past → IsDue M.view self.old.node world past q → (p : ℕ) → taken_of (in_end_at self.new.ins.items p) ≡ taken_of (in_end_at self.old.ins.items p) }
     {
-        if self.waits_for_room() {
+        if !may_take {
             return false;
         }
         if self.fill() {
@@ -278,6 +308,7 @@ impl<M: Machine> Linked<M> {
         ensures wires { self.new.wires ≡ self.old.wires }
         ensures pass { pass_of self.new.node ≡ pass_of self.old.node }
         ensures stepped { Stepped M.view (Fills M.view result self.old.node) self.old.node self.old.wires self.new.node self.new.wires }
+        ensures due { result ≡ true → HasDue M.view self.new.node }
     {
         self.node.is_due()
     }
@@ -291,7 +322,7 @@ impl<M: Machine> Linked<M> {
         ensures wires { self.new.wires ≡ self.old.wires }
         ensures shuts { (p : ℕ) → Shuts (in_end_at self.old.ins.items p) (in_end_at self.new.ins.items p) }
         ensures moved { result ≡ true → (p : ℕ) × InMoves (in_end_at self.old.ins.items p) (in_end_at self.new.ins.items p) }
-        ensures still { result ≡ false → (p : ℕ) → InRests (in_end_at self.old.ins.items p) (in_end_at self.new.ins.items p) }
+        ensures still { result ≡ false → (p : ℕ) → in_end_at self.new.ins.items p ≡ in_end_at self.old.ins.items p }
         ensures shut { (world : ℕ → Wire) → Stand self.old.wires world → (p : ℕ) → p < length self.old.ins.items → (world (in_end_at self.old.ins.items p).wire).finished ≡ true → (in_end_at self.new.ins.items p).taking ≡ None }
     {
         let mut moved = false;
@@ -312,6 +343,7 @@ impl<M: Machine> Linked<M> {
         ensures sends { (q : ℕ) (d : OutEnd) → SendsOneAtMost (slice_index_or self.old.outs.items q d) (slice_index_or self.new.outs.items q d) }
         ensures moved { result ≡ true → (q : ℕ) × ((d : OutEnd) → OutMoves (slice_index_or self.old.outs.items q d) (slice_index_or self.new.outs.items q d)) }
         ensures still { result ≡ false → ((q : ℕ) (d : OutEnd) → OutRests (slice_index_or self.old.outs.items q d) (slice_index_or self.new.outs.items q d)) × (self.new.wires ≡ self.old.wires) }
+        ensures why { result ≡ false → (q : ℕ) (d : OutEnd) → q < length self.old.outs.items → CannotSend self.old.wires (slice_index_or self.old.outs.items q d) (slice_index_or self.new.outs.items q d) }
     {
         let mut moved = false;
         let count = self.outs.len();
@@ -323,7 +355,13 @@ impl<M: Machine> Linked<M> {
     }
 
     // A turn of the node on its wires. It says whether something moved, was granted or told, or the node has become done.
-    fn turn_node<R: Wait>(&mut self, rt: &R, cell: &SchedCell, was_done: bool) -> bool
+    fn turn_node<R: Wait>(
+        &mut self,
+        rt: &R,
+        cell: &SchedCell,
+        was_done: bool,
+        may_take: bool,
+    ) -> bool
         requires lawful { IsLawful M.view self.old }
         requires cell { IsOf M.view cell.now (node_of self.old) }
         ensures follows { Follows M.view self.old self.new }
@@ -333,14 +371,15 @@ impl<M: Machine> Linked<M> {
         ensures moved { result ≡ true → Stepped M.view (λ a p b q. Moves a b p q) self.old.node self.old.wires self.new.node self.new.wires
             ⊎ (length (pass_of self.old.node).log < length (pass_of self.new.node).log) ⊎ ((was_done ≡ false) × IsDone self.new.node) }
         ensures once { length (tickets_in (pass_of self.new.node).log) ≤ length (tickets_in (pass_of self.old.node).log) + 1 }
-        ensures still { result ≡ false → Stepped M.view (λ a p b q. IsIdle M.view self.old.node self.new.node self.new.wires b q)
+        ensures held_back { may_take ≡ false → tickets_in (pass_of self.new.node).log ≡ tickets_in (pass_of self.old.node).log }
+        ensures still { result ≡ false → Stepped M.view (λ a p b q. IsIdle M.view may_take self.old.node self.new.node self.new.wires b q)
             self.old.node self.old.wires self.new.node self.new.wires
             ⊎ (was_done ≡ true) }
         ensures closed { (world : ℕ → Wire) (past : Past) → NodeStands M.view self.new.node world past → (p : ℕ) → p < inputs_of self.new.node → IsClosed (world (in_wire_of self.new.node p)).taken → HasFinished self.new.node p }
         ensures spent { (p : ℕ) → p < inputs_of self.new.node → (M.view (machine_of self.new.node)).spent p → HasFinished self.new.node p }
         ensures faulty { (IsSound M.view self.new.node → ⊥) → (p : ℕ) → p < inputs_of self.new.node → HasFinished self.new.node p }
     {
-        match self.node.turn(rt, cell, &mut self.wires) {
+        match self.node.turn(rt, cell, &mut self.wires, may_take) {
             Turn::Moved => true,
             Turn::NotYet => false,
             Turn::Done => !was_done,
@@ -365,19 +404,22 @@ impl<M: Machine> Linked<M> {
     }
 
     /// One turn: at most one item is taken from each link and one put on each, and a source takes at most one grant from the
-    /// scheduler's cell. Nothing is taken from a link where an item is due, or while an output waits for room. The node tells the
-    /// cell the events that are due. At the turn's end each output that was told that its receiver has finished is stopped, and
-    /// the link of each input that the node has finished is finished too: where its closing item was taken, it is spent, or the
-    /// node has a fault.
+    /// scheduler's cell. Nothing is taken from a link where an item is due, and where one lies between the node and a link no
+    /// grant either. The node tells the cell the events that are due. At the turn's end each output that was told that its
+    /// receiver has finished is stopped, and the link of each input that the node has finished is finished too: where its closing
+    /// item was taken, it is spent, or the node has a fault.
     pub fn turn<R: Wait>(&mut self, rt: &R, cell: &SchedCell) -> Turn
         requires lawful { IsLawful M.view self.old }
         requires cell { IsOf M.view cell.now (node_of self.old) }
         ensures follows { Follows M.view self.old self.new }
         ensures done { result ≡ Turn.Done → HasEnded self.new }
+        ensures ended { HasEnded self.new → result ≡ Turn.Done }
         ensures once { length (tickets_in (pass_of (node_of self.new)).log) ≤ length (tickets_in (pass_of (node_of self.old)).log) + 1 }
         ensures takes { (p : ℕ) → TakesOneAtMost (in_end_at (ins_of self.old) p) (in_end_at (ins_of self.new) p) }
         ensures sends { (q : ℕ) (d : OutEnd) → SendsOneAtMost (slice_index_or (outs_of self.old) q d) (slice_index_or (outs_of self.new) q d) }
-        ensures waits { (q : ℕ) (d : OutEnd) → q < length (outs_of self.old) → IsWaiting (slice_index_or (outs_of self.old) q d) → (p : ℕ) → taken_of (in_end_at (ins_of self.new) p) ≡ taken_of (in_end_at (ins_of self.old) p) }
+        ensures waits { (q : ℕ) (d : OutEnd) → q < length (outs_of self.old) → IsWaiting (wires_on self.old) (slice_index_or (outs_of self.old) q d) → (p : ℕ) → taken_of (in_end_at (ins_of self.new) p) ≡ taken_of (in_end_at (ins_of self.old) p) }
+        ensures ungranted { (q : ℕ) (d : OutEnd) → q < length (outs_of self.old) → IsWaiting (wires_on self.old) (slice_index_or (outs_of self.old) q d)
+            → tickets_in (pass_of (node_of self.new)).log ≡ tickets_in (pass_of (node_of self.old)).log }
         ensures due { (world : ℕ → Wire) (past : Past) (q : ℕ) → Stand (wires_on self.old) world → NodeStands M.view (node_of self.old) world past → IsDue M.view (node_of self.old) world past q
             → (p : ℕ) → taken_of (in_end_at (ins_of self.new) p) ≡ taken_of (in_end_at (ins_of self.old) p) }
         ensures moved { result ≡ Turn.Moved → HasMoved M.view self.old self.new }
@@ -389,8 +431,9 @@ impl<M: Machine> Linked<M> {
         ensures shut { (task : Task) → Behind M.view task self.old → (p : ℕ) → p < inputs_of (node_of self.new) → HasFinished (node_of self.new) p → (in_end_at (ins_of self.new) p).taking ≡ None }
     {
         let was_done = self.node.is_done();
-        let drawn = self.draw_if_free(rt);
-        let turned = self.turn_node(rt, cell, was_done);
+        let may_take = self.may_take();
+        let drawn = self.draw_if_free(rt, may_take);
+        let turned = self.turn_node(rt, cell, was_done, may_take);
         let poured = self.pour_all(rt);
         let stopped = self.stop_finished();
         let shut = self.shut_ends(rt);
@@ -400,6 +443,7 @@ impl<M: Machine> Linked<M> {
 
 fn turn_of(done: bool, moved: bool) -> Turn
     ensures done { result ≡ Turn.Done → done ≡ true }
+    ensures exact { done ≡ true → result ≡ Turn.Done }
     ensures moved { result ≡ Turn.Moved → moved ≡ true }
     ensures not_yet { result ≡ Turn.NotYet → moved ≡ false }
 {

@@ -96,8 +96,10 @@ returns-clause-logged g c = λ fine.
 pub returns-in-Err-clause-created : goal.returns-in-Err-clause-created
 returns-in-Err-clause-created g c =
     let H = g.H.Host in
-    inl (files_on (H.files c.args.host.now) (H.files c.open_inputs.new.host) (H.files c.close_sources.new.host) c.in-Err.ensures.files c.close_sources.ensures.files,
-    λ n. c.close_sources.ensures.outs n ∙ c.in-Err.ensures.outs n)
+    inl (
+      files_on (H.files c.args.host.now) (H.files c.open_inputs.new.host) (H.files c.close_sources.new.host) c.in-Err.ensures.files c.close_sources.ensures.files,
+      λ n. c.close_sources.ensures.outs n ∙ c.in-Err.ensures.outs n,
+    )
 
 pub returns-clause-created : goal.returns-clause-created
 returns-clause-created g c =

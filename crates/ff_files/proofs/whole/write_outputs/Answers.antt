@@ -18,9 +18,14 @@ returns-in-Err-clause-created g c =
     let H = g.H.Host in
     let names = names_of g.N.Named.name_text c.args.outputs.now in
     let refusal = c.in-Err.field-0 in
-    inr (inr (refusal.output, refusal.end, uncreated names (H.files c.args.host.now) (H.files c.create_outputs.new.host) (H.files c.close_all.new.host)
-    (H.out_faults c.args.host.now) (H.out_faults c.create_outputs.new.host) (H.out_faults c.close_all.new.host) (vec_len c.create_outputs.new.snks) refusal.output refusal.end
-    c.requires.apart c.in-Err.ensures.first c.in-Err.ensures.refused c.close_all.ensures.others c.in-Err.ensures.files c.close_all.ensures.files, c.end_of_output.ensures))
+    inr (inr (
+      refusal.output,
+      refusal.end,
+      uncreated names (H.files c.args.host.now) (H.files c.create_outputs.new.host) (H.files c.close_all.new.host)
+          (H.out_faults c.args.host.now) (H.out_faults c.create_outputs.new.host) (H.out_faults c.close_all.new.host) (vec_len c.create_outputs.new.snks) refusal.output refusal.end
+          c.requires.apart c.in-Err.ensures.first c.in-Err.ensures.refused c.close_all.ensures.others c.in-Err.ensures.files c.close_all.ensures.files,
+      c.end_of_output.ensures,
+    ))
 
 pub returns-in-Ok-clause-created : goal.returns-in-Ok-clause-created
 returns-in-Ok-clause-created g c =

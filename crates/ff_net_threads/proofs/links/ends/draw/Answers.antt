@@ -1,14 +1,15 @@
-use Rattle.std.proofs.Common.{◌≡◌, ℕ, false, [], ◌∷◌, refl, sym, subst}
-use Rattle.ff_net.specs.Worlds.{lanes_of}
+use Rattle.std.proofs.Common.{◌≡◌, ℕ, false, [], ◌∷◌, refl, sym, ◌∙◌, subst}
+use Rattle.ff_net.specs.Worlds.{IsEmpty, lanes_of}
 use Rattle.ff_net.specs.Ways.{lane_at}
 use Rattle.ff_net_threads.specs.links.Ends.{InEndStands}
 use Rattle.ff_net.specs.Steps.{Course}
 use Rattle.ff_net.proofs.Queues.{finished_of, in_queues}
 use Rattle.ff_net_threads.proofs.LinksLemmas.Carrying.{renamed, on_wires_self}
+use Rattle.ff_net.proofs.Changes.{true_not_false}
 use Rattle.ff_net.proofs.Rounds.{or_true, or_false}
 use Rattle.ff_net_threads.specs.declared.links.ends.InEnd.{InEnd}
-use Rattle.ff_net_threads.specs.links.Turns.{InRests, ended}
-use Rattle.ff_net_threads.proofs.LinksLemmas.Turns.{shut_takes, draw_takes, draw_moves, draw_rests, in_rests_self}
+use Rattle.ff_net_threads.specs.links.Turns.{InRests, ended, link_shut, lying}
+use Rattle.ff_net_threads.proofs.LinksLemmas.Turns.{shut_takes, draw_takes, draw_moves, draw_rests, in_rests_self, none_drawn}
 use Rattle.ff_net_threads.proofs.links.ends.draw.Goals as goal
 
 pub returns-then-is_finished-clause-stands : goal.returns-then-is_finished-clause-stands
@@ -55,3 +56,17 @@ returns-clause-still g c n =
     let no = or_false c.fetch-fetched.result c.lay-laid.result n in
     let lays = c.lay-laid.ensures.still no.1 in
     (draw_rests c.args.end.now c.fetch-fetched.new.end c.lay-laid.new.end c.lay-laid.ensures.taking c.lay-laid.ensures.finished (c.fetch-fetched.ensures.still no.0) lays.0, lays.1)
+
+pub returns-then-is_finished-clause-why : goal.returns-then-is_finished-clause-why
+returns-then-is_finished-clause-why g c n = link_shut c.shut.ensures.shut
+
+pub returns-then-not-is_empty-clause-why : goal.returns-then-not-is_empty-clause-why
+returns-then-not-is_empty-clause-why g c n = lying (λ e. true_not_false (sym (c.is_empty.ensures.exact e) ∙ c.if-not-is_empty.true))
+
+pub returns-clause-why : goal.returns-clause-why
+returns-clause-why g c n =
+    let nothing = or_false c.fetch-fetched.result c.lay-laid.result n in
+    let mid = c.fetch-fetched.new.end in
+    let wires = c.args.wires.now in
+    let none = c.lay-laid.ensures.lays (subst (λ (w : ℕ). IsEmpty wires w) (sym c.fetch-fetched.ensures.wire) (c.is_empty.ensures.empty c.if-not-is_empty.false)) in
+    none_drawn wires c.args.end.now mid c.lay-laid.new.end c.lay-laid.ensures.taking none (c.lay-laid.ensures.still nothing.1).0 (c.fetch-fetched.ensures.still nothing.0) (c.fetch-fetched.ensures.none nothing.0)

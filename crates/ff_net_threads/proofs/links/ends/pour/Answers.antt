@@ -5,7 +5,8 @@ use Rattle.ff_net.specs.Steps.{Course}
 use Rattle.ff_net.proofs.Moments.{course_trans}
 use Rattle.ff_net_threads.proofs.LinksLemmas.Carrying.{some_past, renamed, claimed}
 use Rattle.ff_net.proofs.Rounds.{or_true, or_false}
-use Rattle.ff_net_threads.proofs.LinksLemmas.Turns.{pour_sends, pour_moves, out_rests_then}
+use Rattle.ff_net_threads.proofs.LinksLemmas.Turns.{pour_sends, pour_moves, out_rests_then, none_sent}
+use Rattle.ff_net_threads.specs.links.Turns.{over}
 use Rattle.ff_net_threads.proofs.links.ends.pour.Goals as goal
 
 pub send-sent-requires-clause-stands : goal.send-sent-requires-clause-stands
@@ -47,3 +48,11 @@ returns-clause-still g c n =
     let up = c.lift-lifted.ensures.still no.0 in
     let sends = c.send-sent.ensures.still no.1 in
     (out_rests_then c.args.end.now c.lift-lifted.new.end c.send-sent.new.end up.0 sends.0, sends.1 ∙ up.1)
+
+pub returns-then-end-clause-why : goal.returns-then-end-clause-why
+returns-then-end-clause-why g c n = over c.if-end.true
+
+pub returns-clause-why : goal.returns-clause-why
+returns-clause-why g c n =
+    let no = or_false c.lift-lifted.result c.send-sent.result n in
+    none_sent c.args.wires.now c.args.end.now c.lift-lifted.new.end c.send-sent.new.end (c.lift-lifted.ensures.still no.0).0 (c.send-sent.ensures.still no.1).0 (c.lift-lifted.ensures.empty no.0) (c.send-sent.ensures.why no.1)

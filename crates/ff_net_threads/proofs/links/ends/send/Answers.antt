@@ -1,4 +1,4 @@
-use Rattle.std.proofs.Common.{[], inl, ◌∷◌, arith, Some, refl, sym, ap, ◌∙◌, is_some}
+use Rattle.std.proofs.Common.{[], inl, inr, ◌∷◌, arith, Some, refl, sym, ap, ◌∙◌, is_some}
 use Rattle.ff_stream.specs.declared.item.Item.{Item}
 use Rattle.ff_net.specs.Worlds.{lanes_of}
 use Rattle.ff_link.specs.Views.{Sending}
@@ -53,3 +53,12 @@ returns-in-Full-clause-still g c n = (
 
 pub returns-in-Finished-clause-sends : goal.returns-in-Finished-clause-sends
 returns-in-Finished-clause-sends g c = sent_none c.args.end.now _ c.requires.goes_on (ap (λ (s : Sending). s.sent) c.in-Finished.ensures.after)
+
+pub returns-then-puts-gt-MOST_ITEMS-clause-why : goal.returns-then-puts-gt-MOST_ITEMS-clause-why
+returns-then-puts-gt-MOST_ITEMS-clause-why g c n = inr (inr (let many = c.if-puts-gt-MOST_ITEMS.true in let is = c.puts.ensures in omega (arith, many, is)))
+
+pub returns-in_default-clause-why : goal.returns-in_default-clause-why
+returns-in_default-clause-why g c n = inl c.take.ensures.after
+
+pub returns-in-Full-clause-why : goal.returns-in-Full-clause-why
+returns-in-Full-clause-why g c n = inr (inl (c.in-Full.item, refl, c.in-Full.ensures.after, c.in-Full.ensures.full))

@@ -4,4 +4,4 @@ use Rattle.ff_net_threads.specs.links.Turns.{IsWaiting}
 use Rattle.ff_net_threads.proofs.links.linked.waits.Given as goal
 
 abbrev pub invariant-loop-end : goal.invariant-loop-end
-invariant-loop-end l = (q : ℕ) (d : OutEnd) → q < l.end-index → IsWaiting (slice_index_or l.outs.items q d) → ⊥
+invariant-loop-end l = (q : ℕ) (d : OutEnd) → q < l.end-index → IsWaiting l.wires (slice_index_or l.outs.items q d) → ⊥

@@ -1,11 +1,12 @@
-use Rattle.std.proofs.Common.{sym, ◌∙◌, ap, subst}
+use Rattle.std.proofs.Common.{◌<◌, length, sym, ◌∙◌, ap, subst}
 use Rattle.ff_net.specs.declared.node.Node.{Node}
 use Rattle.ff_net.specs.declared.wires.Wires.{Wires}
 use Rattle.ff_net.specs.Nodes.{pass_of}
 use Rattle.ff_net.specs.Steps.{Stepped}
+use Rattle.ff_net.proofs.Changes.{true_not_false}
 use Rattle.ff_net.proofs.Moments.{stepped_as, stepped_self}
 use Rattle.ff_net_threads.specs.links.Ends.{in_end_at, taken_of}
-use Rattle.ff_net_threads.specs.links.Turns.{TakesOneAtMost, InMoves, InRests}
+use Rattle.ff_net_threads.specs.links.Turns.{TakesOneAtMost, InMoves, InRests, CannotTake, due, cannot}
 use Rattle.ff_net_threads.proofs.LinksLemmas.Linking.{follows_self, follows_then, lawful_after}
 use Rattle.ff_net_threads.proofs.LinksLemmas.Turns.{takes_self, in_rests_self}
 use Rattle.ff_net_threads.proofs.links.linked.Linked.draw_if_free.Goals as goal
@@ -13,14 +14,14 @@ use Rattle.ff_net_threads.proofs.links.linked.Linked.draw_if_free.Goals as goal
 pub draw_all-requires : goal.draw_all-requires
 draw_all-requires g c = lawful_after g.M.Machine.view c.args.self.now c.fill.new.self c.fill.ensures.follows c.requires
 
-pub returns-then-waits_for_room-clause-follows : goal.returns-then-waits_for_room-clause-follows
-returns-then-waits_for_room-clause-follows g c = let view = g.M.Machine.view in follows_self view c.args.self.now
+pub returns-then-not-may_take-clause-follows : goal.returns-then-not-may_take-clause-follows
+returns-then-not-may_take-clause-follows g c = let view = g.M.Machine.view in follows_self view c.args.self.now
 
-pub returns-then-waits_for_room-clause-takes : goal.returns-then-waits_for_room-clause-takes
-returns-then-waits_for_room-clause-takes g c p = takes_self (in_end_at c.args.self.now.ins.items p)
+pub returns-then-not-may_take-clause-takes : goal.returns-then-not-may_take-clause-takes
+returns-then-not-may_take-clause-takes g c p = takes_self (in_end_at c.args.self.now.ins.items p)
 
-pub returns-then-waits_for_room-clause-still : goal.returns-then-waits_for_room-clause-still
-returns-then-waits_for_room-clause-still g c n = let view = g.M.Machine.view in (λ p. in_rests_self (in_end_at c.args.self.now.ins.items p), stepped_self view _ c.args.self.now.node c.args.self.now.wires (λ w p. tt))
+pub returns-then-not-may_take-clause-still : goal.returns-then-not-may_take-clause-still
+returns-then-not-may_take-clause-still g c n = let view = g.M.Machine.view in (λ p. in_rests_self (in_end_at c.args.self.now.ins.items p), stepped_self view _ c.args.self.now.node c.args.self.now.wires (λ w p. tt))
 
 pub returns-then-fill-clause-takes : goal.returns-then-fill-clause-takes
 returns-then-fill-clause-takes g c p = subst (λ ends. TakesOneAtMost (in_end_at c.args.self.now.ins.items p) (in_end_at ends.items p)) (sym c.fill.ensures.ins) (takes_self (in_end_at c.args.self.now.ins.items p))
@@ -32,8 +33,18 @@ returns-then-fill-clause-still g c n =
       stepped_as view _ _ c.args.self.now.node c.args.self.now.wires c.fill.new.self.node c.fill.new.self.wires (λ a p b q x f. tt) c.fill.ensures.stepped,
     )
 
-pub returns-then-fill-clause-waits : goal.returns-then-fill-clause-waits
-returns-then-fill-clause-waits g c q d lt w p = ap (λ ends. taken_of (in_end_at ends.items p)) c.fill.ensures.ins
+pub returns-then-fill-clause-why : goal.returns-then-fill-clause-why
+returns-then-fill-clause-why g c n may =
+    let view = g.M.Machine.view in
+    let before = c.args.self.now in
+    let filled = c.fill.new.self in
+    due filled.node
+    (subst (λ (w : Wires). Stepped view (λ a p b q. Unit {0}) before.node before.wires filled.node w) c.fill.ensures.wires
+    (stepped_as view _ (λ a p b q. Unit {0}) before.node before.wires filled.node filled.wires (λ a p b q x f. tt) c.fill.ensures.stepped))
+    (c.fill.ensures.due c.if-fill.true)
+
+pub returns-then-fill-clause-held_back : goal.returns-then-fill-clause-held_back
+returns-then-fill-clause-held_back g c kept = c.fill.ensures.ins
 
 pub returns-then-fill-clause-due : goal.returns-then-fill-clause-due
 returns-then-fill-clause-due g c world past q stand was d p = ap (λ ends. taken_of (in_end_at ends.items p)) c.fill.ensures.ins
@@ -65,8 +76,17 @@ returns-clause-still g c n =
           (stepped_as view _ (λ a p b q. Unit {0}) before.node before.wires filled.node filled.wires (λ a p b q x f. tt) c.fill.ensures.stepped)),
     )
 
-pub returns-clause-waits : goal.returns-clause-waits
-returns-clause-waits g c q d lt w p = absurd (c.waits_for_room.ensures c.if-waits_for_room.false q d lt w)
+pub returns-clause-why : goal.returns-clause-why
+returns-clause-why g c n may =
+    let last = c.draw_all.new.self in
+    let before = c.args.self.now in
+    let filled = c.fill.new.self in
+    cannot (λ p lt. subst (λ (w : Wires). CannotTake w (in_end_at before.ins.items p) (in_end_at last.ins.items p)) c.fill.ensures.wires
+    (subst (λ ends. CannotTake filled.wires (in_end_at ends.items p) (in_end_at last.ins.items p)) c.fill.ensures.ins
+    (c.draw_all.ensures.why n p (subst (λ ends. p < length ends.items) (sym c.fill.ensures.ins) lt))))
+
+pub returns-clause-held_back : goal.returns-clause-held_back
+returns-clause-held_back g c kept = absurd (true_not_false (sym c.if-not-may_take.false ∙ kept))
 
 pub returns-clause-due : goal.returns-clause-due
 returns-clause-due g c world past q stand was d p = absurd ((c.fill.ensures.stepped.goes world past stand was).so.none_before c.if-fill.false q d)

@@ -7,9 +7,9 @@ use Rattle.ff_net.specs.Worlds.{Stand}
 use Rattle.ff_net_threads.specs.declared.links.ends.InEnd.{InEnd}
 use Rattle.ff_net_threads.specs.declared.links.linked.Linked.{Linked}
 use Rattle.ff_net_threads.specs.links.Ends.{in_end_at}
-use Rattle.ff_net_threads.specs.links.Turns.{Shuts, InMoves, InRests}
+use Rattle.ff_net_threads.specs.links.Turns.{Shuts, InMoves}
 use Rattle.ff_net_threads.proofs.LinksLemmas.Linking.{follows_self, follows_then, drawn, in_end_there, wired_after}
-use Rattle.ff_net_threads.proofs.LinksLemmas.Turns.{in_other, in_each, shuts_self, in_rests_self}
+use Rattle.ff_net_threads.proofs.LinksLemmas.Turns.{in_other, in_each, shuts_self}
 use Rattle.ff_net_threads.proofs.links.linked.Linked.shut_ends.Goals as goal
 
 pub shut_at-shut-requires-clause-wire : goal.shut_at-shut-requires-clause-wire
@@ -32,7 +32,7 @@ loop-p-init g c =
       shuts = λ k. shuts_self (in_end_at ends k);
       later = λ k le. refl;
       moved = λ t. cc (t);
-      still = λ n k. in_rests_self (in_end_at ends k);
+      still = λ n k. refl;
       shut = λ world stand k lt. absurd (omega (arith, lt));
     }
 
@@ -66,7 +66,7 @@ loop-p-preserved g c =
       ];
       still = λ n.
           let nothing = or_false c.loop-p.moved c.shut_at-shut.result n in
-          in_each InRests olds before.ins.items after.ins.items p draws.end draws.set same (e.still nothing.1) (i.still nothing.0);
+          in_each (λ a b. b ≡ a) olds before.ins.items after.ins.items p draws.end draws.set same (e.still nothing.1) (i.still nothing.0);
       shut = λ world stand k lt finished. elim (same_or_not k p) [
         | inl is ↦ subst (λ (n : ℕ). (in_end_at after.ins.items n).taking ≡ None) (sym is)
             (e.shut world (subst (λ (w : Wires). Stand w world) (sym i.wires) stand) (subst (λ (x : InEnd). (world x.wire).finished ≡ true) (sym same) (subst (λ (n : ℕ). (world (in_end_at olds n).wire).finished ≡ true) is finished)))

@@ -2,7 +2,7 @@ use Rattle.std.proofs.Common.{◌≡◌, ◌<◌, ◌≤◌, ℕ, length, true, 
 use Rattle.ff_net.specs.Worlds.{Wire, Stand}
 use Rattle.ff_net_threads.specs.links.Ends.{in_end_at}
 use Rattle.ff_net_threads.specs.links.Nodes.{Follows}
-use Rattle.ff_net_threads.specs.links.Turns.{Shuts, InMoves, InRests}
+use Rattle.ff_net_threads.specs.links.Turns.{Shuts, InMoves}
 use Rattle.ff_net_threads.proofs.links.linked.Linked.shut_ends.Given as goal
 
 abbrev pub invariant-loop-p : goal.invariant-loop-p
@@ -17,6 +17,6 @@ invariant-loop-p g l =
       shuts : (k : ℕ) → Shuts (in_end_at l.fn.self.ins.items k) (in_end_at l.self.ins.items k);
       later : (k : ℕ) → l.p ≤ k → in_end_at l.self.ins.items k ≡ in_end_at l.fn.self.ins.items k;
       moved : l.moved ≡ true → (k : ℕ) × (k < l.p) × InMoves (in_end_at l.fn.self.ins.items k) (in_end_at l.self.ins.items k);
-      still : l.moved ≡ false → (k : ℕ) → InRests (in_end_at l.fn.self.ins.items k) (in_end_at l.self.ins.items k);
+      still : l.moved ≡ false → (k : ℕ) → in_end_at l.self.ins.items k ≡ in_end_at l.fn.self.ins.items k;
       shut : (world : ℕ → Wire) → Stand l.fn.self.wires world → (k : ℕ) → k < l.p → (world (in_end_at l.fn.self.ins.items k).wire).finished ≡ true → (in_end_at l.self.ins.items k).taking ≡ None;
     }

@@ -10,10 +10,11 @@ use Rattle.ff_sched.specs.Passing.{Passing}
 use Rattle.ff_net.specs.Steps.{Moves, Stepped}
 use Rattle.ff_net.proofs.Changes.{true_not_false}
 use Rattle.ff_net.proofs.Rounds.{or_false}
+use Rattle.ff_net_threads.specs.declared.links.ends.InEnd.{InEnd}
 use Rattle.ff_net_threads.specs.links.Ends.{in_end_at, taken_of}
-use Rattle.ff_net_threads.specs.links.Turns.{InMoves, InRests, Shuts, SendsOneAtMost, OutMoves, OutRests}
+use Rattle.ff_net_threads.specs.links.Turns.{InMoves, InRests, Shuts, SendsOneAtMost, OutMoves, OutRests, CannotSend}
 use Rattle.ff_net_threads.proofs.LinksLemmas.Linking.{follows_then, lawful_after, of_after}
-use Rattle.ff_net_threads.proofs.LinksLemmas.Turns.{takes_then, rests_then, shut_port, stop_port, after_stop, node_idle, moved_of}
+use Rattle.ff_net_threads.proofs.LinksLemmas.Turns.{takes_then, drawn_none_then, false_if_not, shut_port, stop_port, after_stop, node_idle, moved_of}
 use Rattle.ff_net_threads.proofs.links.linked.Linked.turn.Goals as goal
 
 pub turn_node-turned-requires-clause-lawful : goal.turn_node-turned-requires-clause-lawful
@@ -77,7 +78,15 @@ returns-clause-sends g c q d =
 pub returns-clause-waits : goal.returns-clause-waits
 returns-clause-waits g c q d lt w p =
     let same = c.stop_finished-stopped.ensures.ins ∙ (c.pour_all-poured.ensures.ins ∙ c.turn_node-turned.ensures.ins) in
-    (c.shut_ends-shut.ensures.shuts p).taken ∙ (ap (λ ends. taken_of (in_end_at ends.items p)) same ∙ c.draw_if_free-drawn.ensures.waits q d lt w p)
+    let kept = false_if_not c.may_take-may_take.result (λ may. c.may_take-may_take.ensures.none may q d lt w) in
+    (c.shut_ends-shut.ensures.shuts p).taken ∙ (ap (λ ends. taken_of (in_end_at ends.items p)) same ∙ ap (λ ends. taken_of (in_end_at ends.items p)) (c.draw_if_free-drawn.ensures.held_back kept))
+
+pub returns-clause-ungranted : goal.returns-clause-ungranted
+returns-clause-ungranted g c q d lt w =
+    let same : pass_of c.shut_ends-shut.new.self.node ≡ pass_of c.turn_node-turned.new.self.node =
+    ap (λ (n : Node _). pass_of n) c.shut_ends-shut.ensures.node ∙ (c.stop_finished-stopped.ensures.pass ∙ ap (λ (n : Node _). pass_of n) c.pour_all-poured.ensures.node) in
+    let kept = false_if_not c.may_take-may_take.result (λ may. c.may_take-may_take.ensures.none may q d lt w) in
+    ap (λ (p : Passing). tickets_in p.log) same ∙ (c.turn_node-turned.ensures.held_back kept ∙ ap (λ (p : Passing). tickets_in p.log) c.draw_if_free-drawn.ensures.pass)
 
 pub returns-clause-due : goal.returns-clause-due
 returns-clause-due g c world past q stand was d p =
@@ -126,12 +135,24 @@ returns-clause-not_yet g c says =
     let b = or_false (d || t) u f.0 in
     let e = or_false d t b.0 in
     let pours = c.pour_all-poured.ensures.still b.1 in
+    let may_take = c.may_take-may_take.result in
+    let stays : (p : ℕ) → in_end_at last.ins.items p ≡ in_end_at drawn.ins.items p = λ p. c.shut_ends-shut.ensures.still a.1 p ∙ ap (λ ends. in_end_at ends.items p) same in
+    let wires : last.wires ≡ turned.wires = c.shut_ends-shut.ensures.wires ∙ ((c.stop_finished-stopped.ensures.still f.1).1 ∙ pours.1) in
     let draws = c.draw_if_free-drawn.ensures.still e.0 in record {
-      ins = λ p. rests_then (in_end_at old.ins.items p) (in_end_at drawn.ins.items p) (in_end_at last.ins.items p) (draws.0 p) (subst (λ ends. InRests (in_end_at ends.items p) (in_end_at last.ins.items p)) same (c.shut_ends-shut.ensures.still a.1 p));
+      ins = λ p. subst (λ (x : InEnd). InRests (in_end_at old.ins.items p) x) (sym (stays p)) (draws.0 p);
+      unsent = λ q x lt.
+          let outs = c.turn_node-turned.ensures.outs ∙ c.draw_if_free-drawn.ensures.outs in
+          subst (λ (w : Wires). CannotSend w (slice_index_or old.outs.items q x) (slice_index_or last.outs.items q x)) (sym wires)
+          (subst (λ ends. CannotSend turned.wires (slice_index_or ends.items q x) (slice_index_or last.outs.items q x)) outs
+          (subst (λ ends. CannotSend turned.wires (slice_index_or turned.outs.items q x) (slice_index_or ends.items q x)) (sym (c.shut_ends-shut.ensures.outs ∙ c.stop_finished-stopped.ensures.outs))
+          (c.pour_all-poured.ensures.why b.1 q x (subst (λ ends. q < length ends.items) (sym outs) lt))));
+      may_take = may_take;
+      waits = c.may_take-may_take.ensures.one;
+      untaken = λ may. drawn_none_then view old drawn last stays (c.draw_if_free-drawn.ensures.why e.0 may);
       outs = λ q x. subst (λ ends. OutRests (slice_index_or ends.items q x) (slice_index_or last.outs.items q x)) (c.turn_node-turned.ensures.outs ∙ c.draw_if_free-drawn.ensures.outs)
           (subst (λ ends. OutRests (slice_index_or turned.outs.items q x) (slice_index_or ends.items q x)) (sym (c.shut_ends-shut.ensures.outs ∙ c.stop_finished-stopped.ensures.outs)) (pours.0 q x));
       node = elim (c.turn_node-turned.ensures.still e.1) [
-        | inl s ↦ inl (node_idle view old drawn turned last draws.1 node c.draw_if_free-drawn.ensures.pass (c.shut_ends-shut.ensures.wires ∙ ((c.stop_finished-stopped.ensures.still f.1).1 ∙ pours.1)) s)
+        | inl s ↦ inl (node_idle view old drawn turned last draws.1 node may_take c.draw_if_free-drawn.ensures.pass wires s)
         | inr was ↦ inr (c.is_done-was_done.ensures.done was)
       ];
     }
