@@ -12,7 +12,7 @@ use Rattle.ff_graph_dag.specs.declared.graph.Wire.{Wire}
 use Rattle.ff_graph_dag.specs.declared.graph.Plan.{Plan}
 use Rattle.ff_graph_dag.specs.declared.placed.Placed.{Placed}
 use Rattle.ff_graph_dag.specs.Dags.{Spot, spot_of, held_at, IsReady, Delivered, Kept, Stored, Pulled}
-use Rattle.ff_graph_dag.specs.Graphs.{spots, no_spot, spot_at, wire_at, port_held, graph_view, Sound, IsCarried, IsEmpty, to_go, InThere}
+use Rattle.ff_graph_dag.specs.Graphs.{spots, no_spot, spot_at, wire_at, port_held, port_stopped, graph_view, Sound, IsCarried, IsEmpty, to_go, InThere}
 use Rattle.ff_graph_dag.specs.Readings.{spots_size}
 use Rattle.ff_graph_dag.proofs.Edges.{stored}
 use Rattle.ff_graph_dag.proofs.Moving.{spots_set, spot_is, size_set, node_of, to_there, from_there, kept_carried, kept_sound, kept_same, delivered_sound}
@@ -37,6 +37,9 @@ module _ {F : Type 0} (view : F → View) (p : Plan) (ps : List (Placed F)) (w :
   in_there : InThere (spots view ps) e.to
   in_there = subst (λ (x : Wire). InThere (spots view ps) x.to) is (to_there p (spots view ps) w s wlt)
 
+  pub input_there : (d q : Placed F) → q ≡ slice_index_or ps e.to.filter d → e.to.port < length (view q.filter).ins
+  input_there d q k = subst (λ (a : Spot). e.to.port < length a.view.ins) (spot_is view ps e.to.filter d q filter_there k) in_there
+
   pub held_there : (d q : Placed F) → q ≡ slice_index_or ps e.to.filter d → e.to.port < length q.held.items
   held_there d q k =
       let at : spot_at (spots view ps) e.to.filter ≡ spot_of view q = spot_is view ps e.to.filter d q filter_there k in
@@ -56,11 +59,6 @@ module _ {F : Type 0} (view : F → View) (p : Plan) (ps : List (Placed F)) (w :
   out_there f d q h k =
       let at : spot_at (spots view ps) f.filter ≡ spot_of view q = spot_is view ps f.filter d q (source_there f h) k in
       subst (λ (a : Spot). f.port < length a.view.outs) at (from_there p (spots view ps) w f s wlt (ap (λ (x : Wire). x.from) is ∙ h))
-
-  pub out_wanted : (f : Port) (d q : Placed F) → e.from ≡ Some f → q ≡ slice_index_or ps f.filter d → (view q.filter).stopped f.port ≡ false
-  out_wanted f d q h k =
-      let at : spot_at (spots view ps) f.filter ≡ spot_of view q = spot_is view ps f.filter d q (source_there f h) k in
-      ap (λ (a : Spot). a.view.stopped f.port) (sym at) ∙ s.wanted w f wlt (ap (λ (x : Wire). x.from) is ∙ h)
 
   pub kept_fine : (k : ℕ) (d q r : Placed F) → k < length ps → q ≡ slice_index_or ps k d → Kept (spot_of view q) (spot_of view r) → Fine p (spots view ps)
       (spots view (slice_set ps k r))
@@ -178,7 +176,8 @@ module _ {F : Type 0} (view : F → View) (p : Plan) (ps : List (Placed F)) (w :
 
   -- no item came from q, which left r
   pub waited : (f : Port) (d q r : Placed F) → e.from ≡ Some f → q ≡ slice_index_or ps f.filter d → Kept (spot_of view q) (spot_of view r)
-      → (view r.filter).rest silence f.port ≡ nothing → port_held (spots view ps) e.to ≡ false → IsEmpty p (spots view (slice_set ps f.filter r)) w
+      → ((view r.filter).stopped f.port ≡ false → (view r.filter).rest silence f.port ≡ nothing) → port_held (spots view ps) e.to ≡ false
+      → IsEmpty p (spots view (slice_set ps f.filter r)) w
   waited f d q r h k kept n empty =
       let all = kept_all f.filter d q r (source_there f h) k kept in
       let flt : f.filter < length (spots view ps) = omega (arith, spots_size view ps, source_there f h) in
@@ -189,14 +188,15 @@ module _ {F : Type 0} (view : F → View) (p : Plan) (ps : List (Placed F)) (w :
             (ap (λ (m : Option Item). is_some m) ((all.kept e.to.filter).held e.to.port) ∙ empty);
         from = λ g j.
             let same : f ≡ g = cc (is, h, j) in
-            subst (λ (y : Port). (spot_at (spots view (slice_set ps f.filter r)) y.filter).view.rest silence y.port ≡ nothing) same
-            (ap (λ (a : Spot). a.view.rest silence f.port) here ∙ n);
+            subst (λ (y : Port). port_stopped (spots view (slice_set ps f.filter r)) y ≡ false
+            → (spot_at (spots view (slice_set ps f.filter r)) y.filter).view.rest silence y.port ≡ nothing) same
+            (λ on. ap (λ (a : Spot). a.view.rest silence f.port) here ∙ n (ap (λ (a : Spot). a.view.stopped f.port) (sym here) ∙ on));
       }
 
   pub idle : e.from ≡ None → port_held (spots view ps) e.to ≡ false → IsEmpty p (spots view ps) w
   idle h empty = record {
     held = subst (λ (y : Wire). port_held (spots view ps) y.to ≡ false) (sym is) empty;
-    from = λ g j. absurd (none_some g (sym h ∙ (ap (λ (y : Wire). y.from) (sym is) ∙ j)));
+    from = λ g j on. absurd (none_some g (sym h ∙ (ap (λ (y : Wire). y.from) (sym is) ∙ j)));
   }
     where
       none_some : (g : Port) → None ≡ Some g → ⊥

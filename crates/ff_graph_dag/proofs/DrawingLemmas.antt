@@ -12,7 +12,7 @@ use Rattle.ff_filter.specs.Views.{View, SamePorts, Same, closes}
 use Rattle.ff_filter.specs.Held.{held_closes}
 use Rattle.ff_graph_dag.specs.declared.graph.Port.{Port}
 use Rattle.ff_graph_dag.specs.declared.graph.Plan.{Plan}
-use Rattle.ff_graph_dag.specs.Dags.{Spot, held_at, spot_shut, reads, solve_spots, Stored, Pulled}
+use Rattle.ff_graph_dag.specs.Dags.{Spot, held_at, spot_shut, reads, solve_spots, IsDecided, Stored, Pulled}
 use Rattle.ff_graph_dag.specs.Graphs.{no_spot, spot_at, wire_at, port_shut, port_ended, port_stopped, port_held, graph_view, Apart, InThere, OutThere, Sound}
 use Rattle.ff_graph_dag.specs.Graphs.{begins, go_on, to_go}
 use Rattle.ff_graph_dag.specs.Readings.{is_same, is_other}
@@ -88,6 +88,10 @@ module _ (p : Plan) (ss : List Spot) (w : ℕ) (f : Port) (u t : Spot) (x : Item
       m q
       ∙ each_by (λ a b. (q : ℕ) → b.view.stopped q ≡ a.view.stopped q) (λ a q. refl) ss f.filter u jlt g.stopped m q
 
+  decideds : (m : ℕ) → IsDecided (spot_at ss m).view → IsDecided (spot_at put_spots m).view
+  decideds m d = each_by (λ a b. IsDecided a.view → IsDecided b.view) (λ a d. d) mid_spots put_port.filter t mlt (subst IsDecided (sym h.view)) m
+      (each_by (λ a b. IsDecided a.view → IsDecided b.view) (λ a d. d) ss f.filter u jlt g.decided m d)
+
   fed : (m q : ℕ) → (spot_at put_spots m).view.shut q ≡ (spot_at ss m).view.shut q
   fed m q = each_by (λ a b. (q : ℕ) → b.view.shut q ≡ a.view.shut q) (λ a q. refl) mid_spots put_port.filter t mlt (λ q. ap (λ (v : View). v.shut q) h.view) m q
       ∙ each_by (λ a b. (q : ℕ) → b.view.shut q ≡ a.view.shut q) (λ a q. refl) ss f.filter u jlt g.fed m q
@@ -152,7 +156,7 @@ module _ (p : Plan) (ss : List Spot) (w : ℕ) (f : Port) (u t : Spot) (x : Item
     pads_there = each_map (OutThere ss) (OutThere put_spots) (λ e l. subst (λ (ls : List Lane). e.port < length ls) (sym (alikes e.filter).ports.outs) l) p.pads.items
         s.pads_there;
     linked = λ v e vlt k. linked_at v e vlt k (v == w) refl;
-    wanted = λ v e vlt k. stops e.filter e.port ∙ s.wanted v e vlt k;
+    idle = λ v e vlt k on. decideds (wire_at p v).to.filter (s.idle v e vlt k (sym (stops e.filter e.port) ∙ on));
     unshut = λ v vlt e. fed (wire_at p v).to.filter (wire_at p v).to.port ∙ unshut_at v vlt e (v == w) refl;
   }
 

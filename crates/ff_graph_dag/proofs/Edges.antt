@@ -1,18 +1,22 @@
 -- What each move along an edge does to the streams on all edges.
-use Rattle.std.proofs.Common.{Result, Ok, Err, OnErr, ◌≡◌, ◌≢◌, ℕ, zero, suc, ◌<◌, ◌==◌, ◌||◌, is_some, if◌then◌else◌, Bool, true, false, cond, List, [], ◌∷◌}
+use Rattle.std.proofs.Common.{not, inl, inr, subst, true≢false, Result, Ok, Err, OnErr, ◌≡◌, ◌≢◌, ℕ, zero, suc, ◌<◌, ◌==◌, ◌||◌, is_some, if◌then◌else◌, Bool, true, false, cond, List, [], ◌∷◌}
 use Rattle.std.proofs.Common.{length, Option, None, Some, slice_index_or, slice_set, refl, ap, sym, ◌∙◌, arith}
+use Rattle.std.proofs.lemmas.Bool.{cases_eq}
 use Rattle.std.proofs.lemmas.Bool.Decides.{nat_tests}
 use Rattle.std.specs.declared.alloc.AllocError.{AllocError}
 use Rattle.ff_stream.specs.declared.item.Item.{Item}
-use Rattle.ff_stream.specs.Ports.{nothing}
+use Rattle.ff_stream.specs.declared.item.Item.TheVariants.{Audio, Video, Packet, Trailer, End, Broken}
+use Rattle.ff_stream.specs.declared.item.Lane.{Lane}
+use Rattle.ff_stream.specs.Order.{nothing_below}
+use Rattle.ff_stream.specs.Ports.{nothing, IsClosed}
 use Rattle.ff_filter.specs.Joins.{Flow}
 use Rattle.ff_net.specs.Nets.{put_all}
-use Rattle.ff_filter.specs.Joins.{Ports, before, before_if, before_at}
-use Rattle.ff_filter.specs.Views.{View, Same, Fed, Gave, closes}
+use Rattle.ff_filter.specs.Joins.{Ports, Grows, silence, before, before_if, before_at, closed_above}
+use Rattle.ff_filter.specs.Views.{View, SamePorts, Same, Fed, Gave, Stopped, IsSpent, closes}
 use Rattle.ff_filter.specs.Held.{after_held, held_closes}
 use Rattle.ff_graph_dag.specs.declared.graph.Node.{Node}
 use Rattle.ff_graph_dag.specs.Dags.{Spot, held_at, spot_shut, reads, comes, gives, after, solve_spots, Free, StandsAt, Untouched, AllUntouched, Reads, Leaves, Leads}
-use Rattle.ff_graph_dag.specs.Dags.{Kept, Delivered, Stored, Pulled}
+use Rattle.ff_graph_dag.specs.Dags.{Kept, Delivered, Stored, Pulled, IsDecided}
 use Rattle.ff_graph_dag.specs.Readings.{is_other, is_same}
 
 suc_zero : (p : ℕ) → (suc p == 0) ≡ false
@@ -137,6 +141,64 @@ solve_drawn (r ∷ ss) (n ∷ ns) zero q (suc k) i d s e t m w x lt f l g h σ =
     ∙ solve_stored ss ns k i e t w x (omega arith) f.2 h (after s n σ)
 solve_drawn (r ∷ ss) (n ∷ ns) (suc j) q (suc k) i d s e t m w x lt f l g h σ = solve_drawn ss ns j q k i d s e t m w x (omega arith) f.1 l g h (after r n σ)
 
+-- what is decided stays so ---------------------------------------------------------------------------------------
+
+closed_behind : (x : Item) (t : Flow) → closes x ≡ false → IsClosed (before x t) → IsClosed t
+closed_behind (Audio f) t e c = c
+closed_behind (Video f) t e c = c
+closed_behind (Packet f) t e c = c
+closed_behind (Trailer f) t e c = c
+closed_behind End t e c = cc
+closed_behind Broken t e c = cc
+
+there_before : (u v : View) (q : ℕ) → SamePorts u v → q < length v.outs → q < length u.outs
+there_before u v q p lt = subst (λ (ls : List Lane). q < length ls) p.outs lt
+
+decided_same : (u v : View) → Same u v → IsDecided u → IsDecided v
+decided_same u v s d ext q lt on going =
+    subst IsClosed (sym (s.rest ext q (sym (s.stopped q) ∙ on))) (d ext q (there_before u v q s.ports lt) (sym (s.stopped q) ∙ on) (sym (s.ended q) ∙ going))
+
+decided_fed : (u v : View) (p : ℕ) (x : Item) → Fed u v p x → IsDecided u → IsDecided v
+decided_fed u v p x s d ext q lt on going =
+    subst IsClosed (sym (s.rest ext q (sym (s.stopped q) ∙ on)))
+    (d (before_at p x ext) q (there_before u v q s.ports lt) (sym (s.stopped q) ∙ on) (sym (s.ended q) ∙ going))
+
+decided_gave : (u v : View) (q : ℕ) (x : Item) → Gave u v q x → IsDecided u → IsDecided v
+decided_gave u v q x g d ext o lt on going = elim (cases_eq o q) as (λ _. IsClosed (v.rest ext o)) [
+  | inl same ↦ (
+      let more : closes x ≡ false = sym g.ended_here ∙ (ap v.ended (sym same) ∙ going) in
+      let all : IsClosed (u.rest ext q) = d ext q (there_before u v q g.ports (subst (λ (n : ℕ). n < length v.outs) same lt))
+      (sym (g.stopped q) ∙ (ap v.stopped (sym same) ∙ on)) g.open_before in
+      subst (λ (n : ℕ). IsClosed (v.rest ext n)) (sym same) (closed_behind x (v.rest ext q) more (subst IsClosed (g.rest_here ext) all))
+      )
+  | inr other ↦ (
+      let olt = there_before u v o g.ports lt in
+      let want : u.stopped o ≡ false = sym (g.stopped o) ∙ on in
+      subst IsClosed (sym (g.rest_others ext o olt other want)) (d ext o olt want (sym (g.ended_others o olt other) ∙ going))
+      )
+]
+
+pub decided_stopped : (u v : View) (q : ℕ) → Stopped u v q → IsDecided u → IsDecided v
+decided_stopped u v q g d ext o lt on going = elim (cases_eq o q) as (λ _. IsClosed (v.rest ext o)) [
+  | inl same ↦ absurd (true≢false (sym g.stopped_here ∙ (ap v.stopped (sym same) ∙ on)))
+  | inr other ↦ (
+      let olt = there_before u v o g.ports lt in
+      let want : u.stopped o ≡ false = sym (g.stopped_others o olt other) ∙ on in
+      subst IsClosed (sym (g.rest_others ext o olt other want)) (d ext o olt want (sym (g.ended o) ∙ going))
+      )
+]
+
+pub not_false : (b : Bool) → not b ≡ false → b ≡ true
+not_false true e = refl
+not_false false e = cc
+
+pub decided_spent : (v : View) (p : ℕ) → Grows v.rest → v.shut p ≡ false → IsSpent v p → IsDecided v
+decided_spent v p gr unshut (inl e) = absurd (true≢false (sym e ∙ unshut))
+decided_spent v p gr unshut (inr h) = λ ext q lt on going. elim (h.1 q lt on) as (λ _. IsClosed (v.rest ext q)) [
+  | inl e ↦ absurd (true≢false (sym e ∙ going))
+  | inr c ↦ closed_above (v.rest silence q) (v.rest ext q) (gr silence ext (λ i. nothing_below (ext i)) q) c
+]
+
 -- what each call does to a filter in its place ------------------------------------------------------------------
 
 or_none : (b : Bool) → (b || false) ≡ b
@@ -174,7 +236,15 @@ pub delivered : (s : Spot) (v : View) (hs : List (Option Item)) (i : ℕ) (x : I
     → length hs ≡ length s.held → ((p : ℕ) → p ≢ i → held_at hs p ≡ held_at s.held p)
     → Fed s.view v i x → Delivered s (record { view = v; held = hs }) i
 delivered s v hs i x h open_before k z o f = record {
-  alike = record { ports = f.ports; size = z; gives_is = same; shut = λ p lt. shuts p lt (p == i) refl; ended = f.ended; stopped = f.stopped };
+  alike = record {
+    ports = f.ports;
+    size = z;
+    gives_is = same;
+    shut = λ p lt. shuts p lt (p == i) refl;
+    ended = f.ended;
+    stopped = f.stopped;
+    decided = decided_fed s.view v i x f;
+  };
   held_here = k;
   held_others = o;
   fed_others = f.shut_others;
@@ -198,7 +268,7 @@ delivered s v hs i x h open_before k z o f = record {
 pub kept : (s : Spot) (v : View) (hs : List (Option Item)) → Same s.view v → length hs ≡ length s.held → ((p : ℕ) → held_at hs p ≡ held_at s.held p)
     → Kept s (record { view = v; held = hs })
 kept s v hs e z h = record {
-  alike = record { ports = e.ports; size = z; gives_is = same; shut = λ p lt. shuts p; ended = e.ended; stopped = e.stopped };
+  alike = record { ports = e.ports; size = z; gives_is = same; shut = λ p lt. shuts p; ended = e.ended; stopped = e.stopped; decided = decided_same s.view v e };
   held = h;
   rest = e.rest;
   fed = e.shut;
@@ -221,7 +291,15 @@ kept_empty s t i e k = record { alike = k.alike; held_here = k.held i ∙ e; hel
 
 pub kept_self : (s : Spot) → Kept s s
 kept_self s = record {
-  alike = record { ports = record { ins = refl; outs = refl }; size = refl; gives_is = λ n σ q. refl; shut = λ p lt. refl; ended = λ q. refl; stopped = λ q. refl };
+  alike = record {
+    ports = record { ins = refl; outs = refl };
+    size = refl;
+    gives_is = λ n σ q. refl;
+    shut = λ p lt. refl;
+    ended = λ q. refl;
+    stopped = λ q. refl;
+    decided = λ d. d;
+  };
   held = λ p. refl;
   rest = λ ext q o. refl;
   fed = λ p. refl;
@@ -269,6 +347,7 @@ pulled s v q x w g = record {
   ended_here = g.ended_here;
   ended_others = g.ended_others;
   stopped = g.stopped;
+  decided = decided_gave s.view v q x g;
 }
   where
     others : (n : Node) (σ : Ports) (o : ℕ) → o < length s.view.outs → o ≢ q → (b : Bool) → s.view.stopped o ≡ b → gives s n σ o ≡ gives

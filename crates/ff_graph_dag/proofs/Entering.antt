@@ -11,7 +11,7 @@ use Rattle.ff_filter.specs.Held.{held_closes}
 use Rattle.ff_graph_dag.specs.declared.graph.Port.{Port}
 use Rattle.ff_graph_dag.specs.declared.graph.Plan.{Plan}
 use Rattle.ff_graph_dag.specs.declared.placed.Placed.{Placed}
-use Rattle.ff_graph_dag.specs.Dags.{Spot, spot_of, held_at, spot_shut, reads, solve_spots, Stored}
+use Rattle.ff_graph_dag.specs.Dags.{Spot, spot_of, held_at, spot_shut, reads, solve_spots, IsDecided, Stored}
 use Rattle.ff_graph_dag.specs.Graphs.{spots, no_spot, spot_at, wire_at, feed_at, port_shut, port_ended, port_stopped, port_held, graph_view, Apart, InThere}
 use Rattle.ff_graph_dag.specs.Graphs.{OutThere, Sound, IsEntry}
 use Rattle.ff_graph_dag.specs.Readings.{spots_size, flag_is, feed_is}
@@ -100,7 +100,7 @@ module _ (p : Plan) (ss : List Spot) (i : ℕ) (t : Spot) (x : Item) (ilt : i < 
         s.pads_there;
     linked = λ w e wlt k. shut_else (wire_at p w).to ((s.wired i entry.wire).tos w wlt (inner w e k))
         ∙ (s.linked w e wlt k ∙ sym (ap (λ (v : View). v.ended e.port) (views e.filter)));
-    wanted = λ w e wlt k. ap (λ (v : View). v.stopped e.port) (views e.filter) ∙ s.wanted w e wlt k;
+    idle = λ w e wlt k on. subst IsDecided (sym (views (wire_at p w).to.filter)) (s.idle w e wlt k (sym (ap (λ (v : View). v.stopped e.port) (views e.filter)) ∙ on));
     unshut = λ w wlt e. ap (λ (v : View). v.shut (wire_at p w).to.port) (views (wire_at p w).to.filter) ∙ unshut_at w wlt e (w == i) refl;
   }
 

@@ -12,7 +12,7 @@ use Rattle.ff_filter.specs.Held.{held_closes}
 use Rattle.ff_graph_dag.specs.declared.graph.Port.{Port}
 use Rattle.ff_graph_dag.specs.declared.graph.Plan.{Plan}
 use Rattle.ff_graph_dag.specs.declared.placed.Placed.{Placed}
-use Rattle.ff_graph_dag.specs.Dags.{Spot, spot_of, held_at, reads, solve_spots, Kept, Pulled}
+use Rattle.ff_graph_dag.specs.Dags.{Spot, spot_of, held_at, reads, solve_spots, IsDecided, Kept, Pulled}
 use Rattle.ff_graph_dag.specs.Graphs.{spots, no_spot, spot_at, no_port, pad_at, edge_at, wire_at, flag_at, port_shut, port_ended, port_stopped, graph_view, Apart}
 use Rattle.ff_graph_dag.specs.Graphs.{Each, InThere, OutThere, Sound, IsPad, IsCarried, IsQuiet}
 use Rattle.ff_graph_dag.specs.Readings.{is_same, is_other, spots_size, flag_is}
@@ -52,6 +52,9 @@ module _ (p : Plan) (ss : List Spot) (q : ℕ) (u : Spot) (x : Item) (qlt : q < 
   stops : (m o : ℕ) → (spot_at pad_spots m).view.stopped o ≡ (spot_at ss m).view.stopped o
   stops = each_by (λ a b. (o : ℕ) → b.view.stopped o ≡ a.view.stopped o) (λ a o. refl) ss pad_port.filter u jlt g.stopped
 
+  decideds : (m : ℕ) → IsDecided (spot_at ss m).view → IsDecided (spot_at pad_spots m).view
+  decideds = each_by (λ a b. IsDecided a.view → IsDecided b.view) (λ a d. d) ss pad_port.filter u jlt g.decided
+
   fed : (m i : ℕ) → (spot_at pad_spots m).view.shut i ≡ (spot_at ss m).view.shut i
   fed = each_by (λ a b. (i : ℕ) → b.view.shut i ≡ a.view.shut i) (λ a i. refl) ss pad_port.filter u jlt g.fed
 
@@ -85,7 +88,7 @@ module _ (p : Plan) (ss : List Spot) (q : ℕ) (u : Spot) (x : Item) (qlt : q < 
     linked = λ v e vlt k. shuts (wire_at p v).to
         ∙ (s.linked v e vlt k ∙ sym (ended_else e (each_at (λ r. Apart e r) p.pads.items q qlt (each_map (λ r. Apart r e) (λ r. Apart e r)
         (λ r a h i. a (sym h) (sym i)) p.pads.items ((s.wired v vlt).pads e k))) (from_there p ss v e s vlt k)));
-    wanted = λ v e vlt k. stops e.filter e.port ∙ s.wanted v e vlt k;
+    idle = λ v e vlt k on. decideds (wire_at p v).to.filter (s.idle v e vlt k (sym (stops e.filter e.port) ∙ on));
     unshut = λ v vlt e. fed (wire_at p v).to.filter (wire_at p v).to.port
         ∙ s.unshut v vlt (ap (λ (m : Option Item). is_some m) (sym (held (wire_at p v).to.filter (wire_at p v).to.port)) ∙ e);
   }

@@ -3,6 +3,7 @@ pub mod DrawingLemmas
 pub mod Edges
 pub mod Entering
 pub mod Giving
+pub mod Halting
 pub mod Moving
 pub mod Silence
 pub mod Stopping

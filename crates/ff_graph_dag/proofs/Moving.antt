@@ -137,7 +137,7 @@ sound_alike p ss ts s z a u = record {
   feeds_there = each_map (InThere ss) (InThere ts) (λ f h. subst (λ (ls : List Lane). f.port < length ls) (sym (a f.filter).ports.ins) h) p.feeds.items s.feeds_there;
   pads_there = each_map (OutThere ss) (OutThere ts) (λ f h. subst (λ (ls : List Lane). f.port < length ls) (sym (a f.filter).ports.outs) h) p.pads.items s.pads_there;
   linked = λ w f lt e. (a (wire_at p w).to.filter).shut (wire_at p w).to.port (to_there p ss w s lt) ∙ (s.linked w f lt e ∙ sym ((a f.filter).ended f.port));
-  wanted = λ w f lt e. (a f.filter).stopped f.port ∙ s.wanted w f lt e;
+  idle = λ w f lt e on. (a (wire_at p w).to.filter).decided (s.idle w f lt e (sym ((a f.filter).stopped f.port) ∙ on));
   unshut = u;
 }
 

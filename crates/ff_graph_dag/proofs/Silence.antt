@@ -47,9 +47,9 @@ pad_silent p ss q qlt s e quiet = read_is p.edges.items (edge_at p q) q (solve_s
     cone = s.framed.cones q qlt
 
     given : (k o w : ℕ) → (b : Bool) → among (ways_of p q) w ≡ b → cond b (comes_from (wire_at p w).from k o) (is_port (pad_at p q) k o) ≡ true
-        → (spot_at ss k).view.rest silence o ≡ nothing
-    given k o w true a g = (empty_at p ss (ways_of p q) w a e (cone.wires w a)).from (record { filter = k; port = o }) (from_is (wire_at p w).from k o g)
-    given k o w false a g = subst (λ (f : Port). (spot_at ss f.filter).view.rest silence f.port ≡ nothing) (port_is (pad_at p q) k o g) quiet
+        → (spot_at ss k).view.stopped o ≡ false → (spot_at ss k).view.rest silence o ≡ nothing
+    given k o w true a g on = (empty_at p ss (ways_of p q) w a e (cone.wires w a)).from (record { filter = k; port = o }) (from_is (wire_at p w).from k o g) on
+    given k o w false a g on = subst (λ (f : Port). (spot_at ss f.filter).view.rest silence f.port ≡ nothing) (port_is (pad_at p q) k o g) quiet
 
     each_at : (k : ℕ) (m : Node) → k < length ss → k < length p.nodes.items → Quiets (λ w. on_way p q w ≡ true) (spot_at ss k) (slice_index_or p.nodes.items k m)
     each_at k m lt nlt σ h o olt n = gives_quiet (spot_at ss k) (slice_index_or p.nodes.items k m) σ o

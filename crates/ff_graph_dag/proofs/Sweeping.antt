@@ -28,6 +28,7 @@ kept_trans a b c h k = record {
     shut = λ p lt. k.alike.shut p (subst (λ (ls : List _). p < length ls) (sym h.alike.ports.ins) lt) ∙ h.alike.shut p lt;
     ended = λ q. k.alike.ended q ∙ h.alike.ended q;
     stopped = λ q. k.alike.stopped q ∙ h.alike.stopped q;
+    decided = λ d. k.alike.decided (h.alike.decided d);
   };
   held = λ p. k.held p ∙ h.held p;
   rest = λ ext q o. k.rest ext q (h.alike.stopped q ∙ o) ∙ h.rest ext q o;
@@ -60,7 +61,7 @@ carried_to_go p ss ts h = sum_same (length p.wires.items) (go_on p ts) (go_on p 
 pub empty_carried : (p : Plan) (ss ts : List Spot) (w : ℕ) → w < length p.wires.items → Sound p ss → IsCarried ss ts → IsEmpty p ss w → IsEmpty p ts w
 empty_carried p ss ts w lt s h e = record {
   held = ap (λ (m : Option Item). is_some m) ((h.kept (wire_at p w).to.filter).held (wire_at p w).to.port) ∙ e.held;
-  from = λ f is. (h.kept f.filter).rest silence f.port (s.wanted w f lt is) ∙ e.from f is;
+  from = λ f is on. let k = h.kept f.filter in let was = sym (k.alike.stopped f.port) ∙ on in k.rest silence f.port was ∙ e.from f is was;
 }
 
 pub all_carried : (p : Plan) (ss ts : List Spot) (ws : List ℕ) → Sound p ss → IsCarried ss ts → AreEmpty p ss ws → AreEmpty p ts ws
@@ -110,16 +111,16 @@ solve_quiet N (s ∷ ss) [] q σ h w n = h w n
 solve_quiet N (s ∷ ss) (t ∷ ns) q σ h w n = solve_quiet N ss ns (λ k d m lt lt'. q (suc k) d m (omega arith) (omega arith)) (after s t σ)
     (λ v k. put_quiet N t.outs.items (gives s t σ) σ v k (h v k) (λ o lt m. q 0 s t (omega arith) (omega arith) σ h o lt m)) w n
 
--- a filter to which nothing comes, and where nothing is due on an output
+-- a filter to which nothing comes, and where nothing is due on an output if it is wanted
 pub gives_quiet : (s : Spot) (n : Node) (σ : Ports) (o : ℕ) → ((i : ℕ) → held_at s.held i ≡ None) → ((i : ℕ) → reads n.ins.items σ i ≡ nothing)
-    → s.view.rest silence o ≡ nothing → gives s n σ o ≡ nothing
+    → (s.view.stopped o ≡ false → s.view.rest silence o ≡ nothing) → gives s n σ o ≡ nothing
 gives_quiet s n σ o h r e =
     let c : comes s n σ ≡ silence = λ j i. both i j in
-    ap (λ (t : Ports). cond (s.view.stopped o) nothing (s.view.rest t o)) c ∙ (ap (λ (t : Flow). cond (s.view.stopped o) nothing t) e ∙ either (s.view.stopped o))
+    ap (λ (t : Ports). cond (s.view.stopped o) nothing (s.view.rest t o)) c ∙ either (s.view.stopped o) (s.view.rest silence o) e
   where
     both : (i : ℕ) → comes s n σ i ≡ nothing
     both i = rw (h i) (r i)
 
-    either : (b : Bool) → cond b (nothing {A = Item}) nothing ≡ nothing
-    either true = refl
-    either false = refl
+    either : (b : Bool) (t : Flow) → (b ≡ false → t ≡ nothing) → cond b nothing t ≡ nothing
+    either true t k = refl
+    either false t k = k refl

@@ -3,7 +3,7 @@ use Rattle.std.specs.Prelude.{◌≡◌, ◌≢◌, ℕ, zero, suc, ◌<◌, ◌
 use Rattle.std.specs.Prelude.{slice_index_or}
 use Rattle.std.proofs.Math.Nat.{ℕ_set}
 use Rattle.ff_stream.specs.declared.item.Item.{Item}
-use Rattle.ff_stream.specs.Ports.{nothing}
+use Rattle.ff_stream.specs.Ports.{nothing, IsClosed}
 use Rattle.ff_net.specs.Nets.{put_all}
 use Rattle.ff_filter.specs.Joins.{Ports, before_at}
 use Rattle.ff_filter.specs.Views.{View, SamePorts, closes}
@@ -88,6 +88,10 @@ Leads w j q zero i (n ∷ ns) = ⊥
 Leads w zero q (suc k) i (n ∷ ns) = Free w n.ins.items × StandsAt w q n.outs.items × Reads w k i ns
 Leads w (suc j) q (suc k) i (n ∷ ns) = Untouched w n × Leads w j q k i ns
 
+-- whatever still comes, each output that is wanted was closed or closes
+abbrev pub IsDecided : View → Type 0
+IsDecided v = (ext : Ports) (q : ℕ) → q < length v.outs → v.stopped q ≡ false → v.ended q ≡ false → IsClosed (v.rest ext q)
+
 -- what a call leaves --------------------------------------------------------------------------------------------
 
 -- the input is there, and where an item waits, the closing one wasn't fed
@@ -103,6 +107,7 @@ pub record Alike (old new : Spot) : Type 0 where
   pub shut : (p : ℕ) → p < length old.view.ins → spot_shut new p ≡ spot_shut old p
   pub ended : (q : ℕ) → new.view.ended q ≡ old.view.ended q
   pub stopped : (q : ℕ) → new.view.stopped q ≡ old.view.stopped q
+  pub decided : IsDecided old.view → IsDecided new.view
 
 -- and the same waits before each input
 pub record Kept (old new : Spot) : Type 0 where
@@ -140,6 +145,7 @@ pub record Pulled (old new : Spot) (q : ℕ) (x : Item) : Type 0 where
   pub ended_here : new.view.ended q ≡ closes x
   pub ended_others : (o : ℕ) → o < length old.view.outs → o ≢ q → new.view.ended o ≡ old.view.ended o
   pub stopped : (o : ℕ) → new.view.stopped o ≡ old.view.stopped o
+  pub decided : IsDecided old.view → IsDecided new.view
 
 -- an output isn't wanted any more
 pub record Halted (old new : Spot) (q : ℕ) : Type 0 where
@@ -150,6 +156,7 @@ pub record Halted (old new : Spot) (q : ℕ) : Type 0 where
   pub ended : (o : ℕ) → new.view.ended o ≡ old.view.ended o
   pub stopped_here : new.view.stopped q ≡ true
   pub stopped_others : (o : ℕ) → o < length old.view.outs → o ≢ q → new.view.stopped o ≡ old.view.stopped o
+  pub decided : IsDecided old.view → IsDecided new.view
 
 -- these are facts ---------------------------------------------------------------------------------------------
 

@@ -12,7 +12,7 @@ use Rattle.ff_graph_dag.specs.declared.graph.Port.{Port}
 use Rattle.ff_graph_dag.specs.declared.graph.Wire.{Wire}
 use Rattle.ff_graph_dag.specs.declared.graph.Plan.{Plan}
 use Rattle.ff_graph_dag.specs.declared.placed.Placed.{Placed}
-use Rattle.ff_graph_dag.specs.Dags.{Spot, spot_of, held_at, spot_shut, reads, solve_spots, Free, StandsAt, Reads, Leaves, Leads, Kept, Free-prop}
+use Rattle.ff_graph_dag.specs.Dags.{Spot, spot_of, held_at, spot_shut, reads, solve_spots, Free, StandsAt, Reads, Leaves, Leads, Kept, IsDecided, Free-prop}
 use Rattle.ff_graph_dag.specs.Dags.{StandsAt-prop, Reads-prop, Leaves-prop, Leads-prop}
 
 abbrev pub spots : {F : Type 0} → (F → View) → List (Placed F) → List Spot
@@ -190,7 +190,8 @@ pub record Sound (p : Plan) (ss : List Spot) : Type 0 where
   pub pads_there : Each (OutThere ss) p.pads.items
   -- an edge is closed on both sides, or on neither
   pub linked : (w : ℕ) (f : Port) → w < length p.wires.items → (wire_at p w).from ≡ Some f → port_shut ss (wire_at p w).to ≡ port_ended ss f
-  pub wanted : (w : ℕ) (f : Port) → w < length p.wires.items → (wire_at p w).from ≡ Some f → port_stopped ss f ≡ false
+  -- an output that feeds a filter is stopped only where all that this one gives is decided
+  pub idle : (w : ℕ) (f : Port) → w < length p.wires.items → (wire_at p w).from ≡ Some f → port_stopped ss f ≡ true → IsDecided (spot_at ss (wire_at p w).to.filter).view
   pub unshut : (w : ℕ) → w < length p.wires.items → port_held ss (wire_at p w).to ≡ true → (spot_at ss (wire_at p w).to.filter).view.shut (wire_at p w).to.port ≡ false
 
 -- every filter is as it was, to whoever looks at it
@@ -198,10 +199,10 @@ pub record IsCarried (ss ts : List Spot) : Type 0 where
   pub size : length ts ≡ length ss
   pub kept : (k : ℕ) → Kept (spot_at ss k) (spot_at ts k)
 
--- nothing waits at the end of an edge, and nothing is due where it begins
+-- nothing waits at the end of an edge, and nothing is due where it begins, if it is wanted
 pub record IsEmpty (p : Plan) (ss : List Spot) (w : ℕ) : Type 0 where
   pub held : port_held ss (wire_at p w).to ≡ false
-  pub from : (f : Port) → (wire_at p w).from ≡ Some f → (spot_at ss f.filter).view.rest silence f.port ≡ nothing
+  pub from : (f : Port) → (wire_at p w).from ≡ Some f → port_stopped ss f ≡ false → (spot_at ss f.filter).view.rest silence f.port ≡ nothing
 
 -- each edge of the list is empty
 abbrev pub AreEmpty : Plan → List Spot → List ℕ → Type 0

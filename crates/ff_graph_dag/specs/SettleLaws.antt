@@ -1,6 +1,7 @@
 -- Where no more comes on any input of a graph, each output that is wanted closes.
-use Rattle.std.proofs.Common.{◌≡◌, ◌≢◌, ◌⊎◌, inl, inr, ℕ, zero, suc, ◌<◌, ◌==◌, ◌||◌, if◌then◌else◌, Bool, true, false, cond, is_some, List, [], ◌∷◌, length}
+use Rattle.std.proofs.Common.{◌≡◌, ◌≢◌, ◌⊎◌, inl, inr, ℕ, zero, suc, ◌<◌, ◌==◌, ◌||◌, if◌then◌else◌, Bool, true, false, true≢false, cond, is_some, List, [], ◌∷◌, length}
 use Rattle.std.proofs.Common.{Option, None, Some, slice_index_or, refl, ap, sym, ◌∙◌, subst, arith}
+use Rattle.std.proofs.lemmas.Bool.{cases_eq}
 use Rattle.std.proofs.lemmas.Bool.Decides.{nat_tests}
 use Rattle.ff_stream.specs.declared.item.Item.{Item}
 use Rattle.ff_stream.specs.declared.item.Item.TheVariants.{Audio, Video, Packet, Trailer, End, Broken}
@@ -13,7 +14,7 @@ use Rattle.ff_graph_dag.specs.declared.graph.Node.{Node}
 use Rattle.ff_graph_dag.specs.declared.graph.Port.{Port}
 use Rattle.ff_graph_dag.specs.declared.graph.Plan.{Plan}
 use Rattle.ff_graph_dag.specs.declared.placed.Placed.{Placed}
-use Rattle.ff_graph_dag.specs.Dags.{Spot, held_at, spot_shut, reads, comes, gives, after, solve_spots, Free, StandsAt, AllUntouched, Reads, Leaves, Leads}
+use Rattle.ff_graph_dag.specs.Dags.{Spot, held_at, spot_shut, reads, comes, gives, after, solve_spots, Free, StandsAt, AllUntouched, Reads, Leaves, Leads, IsDecided}
 use Rattle.ff_graph_dag.specs.Graphs.{spots, no_spot, spot_at, pad_at, edge_at, wire_at, port_shut, port_ended, port_stopped, graph_view, Fits, Sound, among}
 use Rattle.ff_graph_dag.specs.Graphs.{ways_of, on_way, out_edge, in_edge, is_port, comes_from, IsCone}
 use Rattle.ff_graph_dag.specs.Readings.{spots_size, at_is, flag_is, port_is, from_is, own_way, is_way, read_is, feed_is}
@@ -120,6 +121,21 @@ reads_at_is [] σ i lt = absurd (omega arith)
 reads_at_is (w ∷ ws) σ zero lt = refl
 reads_at_is (w ∷ ws) σ (suc i) lt = reads_at_is ws σ i (omega arith)
 
+-- so of one of them, or of each otherwise
+one_or_all : (n : ℕ) (P Q : ℕ → Type 0) → ((i : ℕ) → i < n → P i ⊎ Q i) → ((i : ℕ) → i < n → P i) ⊎ ((i : ℕ) × (i < n) × Q i)
+one_or_all zero P Q h = inl (λ i lt. absurd (omega arith))
+one_or_all (suc n) P Q h = next (one_or_all n P Q (λ i lt. h i (omega arith))) (h n (omega arith))
+  where
+    next : ((i : ℕ) → i < n → P i) ⊎ ((i : ℕ) × (i < n) × Q i) → P n ⊎ Q n → ((i : ℕ) → i < suc n → P i) ⊎ ((i : ℕ) × (i < suc n) × Q i)
+    next (inr s) h = inr (s.0, omega (arith, s.1), s.2)
+    next (inl a) (inr y) = inr (n, omega arith, y)
+    next (inl a) (inl x) = inl (λ i lt. elim (cases_eq i n) as (λ _. P i) [ inl e ↦ subst P (sym e) x | inr o ↦ a i (omega (arith, lt, o)) ])
+
+-- the output that an edge leaves isn't wanted any more
+abbrev pub from_stopped : List Spot → Option Port → Bool
+from_stopped ss None = false
+from_stopped ss (Some f) = port_stopped ss f
+
 or_right : (a b : Bool) → a ≡ false → (a || b) ≡ true → b ≡ true
 or_right true b n e = cc
 or_right false b n e = e
@@ -136,6 +152,13 @@ module _ (p : Plan) (ss : List Spot) (s : Sound p ss) (settle : (k : ℕ) → k 
 
   abbrev Closed : ℕ → Flow → Type 0
   Closed w t = (Done w ≡ true) ⊎ IsClosed t
+
+  -- an edge on the way whose output isn't wanted
+  abbrev IsCut : ℕ → Type 0
+  IsCut w = (among (ways_of p q) w ≡ true) × (from_stopped ss (wire_at p w).from ≡ true)
+
+  abbrev Met : ℕ → Flow → Type 0
+  Met w t = Closed w t ⊎ IsCut w
 
   abbrev OnIt : ℕ → Type 0
   OnIt w = on_way p q w ≡ true
@@ -196,28 +219,57 @@ module _ (p : Plan) (ss : List Spot) (s : Sound p ss) (settle : (k : ℕ) → k 
                 (subst IsClosed (sym (reads_at_is here.ins.items σ i ilt)) e)
           ])
 
-      wanted : (b : Bool) → among (ways_of p q) (out_edge p m k o) ≡ b → cond b (comes_from (wire_at p (out_edge p m k o)).from k o) (is_port (pad_at p q) k o) ≡ true
-          → (spot_at ss k).view.stopped o ≡ false
-      wanted true a g = s.wanted (out_edge p m k o) (record { filter = k; port = o }) (cone.wires _ a) (from_is (wire_at p (out_edge p m k o)).from k o g)
-      wanted false a g = ap (λ (f : Port). port_stopped ss f) (sym (port_is (pad_at p q) k o g)) ∙ (sym (flag_is p.pads.items (port_stopped ss) q qlt) ∙ on)
-
       ended : (b : Bool) → among (ways_of p q) (out_edge p m k o) ≡ b → cond b (comes_from (wire_at p (out_edge p m k o)).from k o) (is_port (pad_at p q) k o) ≡ true
           → (spot_at ss k).view.ended o ≡ true → Done (out_edge p m k o) ≡ true
       ended true a g e = way_done (out_edge p m k o) a ∙ (s.linked (out_edge p m k o) (record { filter = k; port = o }) (cone.wires _ a)
           (from_is (wire_at p (out_edge p m k o)).from k o g) ∙ e)
       ended false a g e = own_done (out_edge p m k o) a ∙ (ap (λ (f : Port). port_ended ss f) (port_is (pad_at p q) k o g) ∙ e)
 
-      out_done : (σ : Ports) → ((i : ℕ) → i < length here.ins.items → Closed (in_edge p m k i) (σ (in_edge p m k i))) → Closed (out_edge p m k o)
-          (gives (spot_at ss k) here σ o)
-      out_done σ c =
-          let want : (spot_at ss k).view.stopped o ≡ false = wanted (among (ways_of p q) (out_edge p m k o)) refl (cone.from k o m nlt olt way) in
-          let same : gives (spot_at ss k) here σ o ≡ (spot_at ss k).view.rest (comes (spot_at ss k) here σ) o = ap
-          (λ (b : Bool). cond b nothing ((spot_at ss k).view.rest (comes (spot_at ss k) here σ) o)) want in
-          elim (settle k klt (comes (spot_at ss k) here σ) (λ i lt. in_done i (omega (arith, fit.ins, lt)) σ (c i (omega (arith, fit.ins, lt)))) o
+      stopped_cut : (b : Bool) → among (ways_of p q) (out_edge p m k o) ≡ b → cond b (comes_from (wire_at p (out_edge p m k o)).from k o) (is_port (pad_at p q) k o) ≡ true
+          → (spot_at ss k).view.stopped o ≡ true → IsCut (out_edge p m k o)
+      stopped_cut true a g e = (a, ap (λ (f : Option Port). from_stopped ss f) (from_is (wire_at p (out_edge p m k o)).from k o g) ∙ e)
+      stopped_cut false a g e = absurd (true≢false (sym e ∙ (ap (λ (f : Port). port_stopped ss f) (sym (port_is (pad_at p q) k o g))
+          ∙ (sym (flag_is p.pads.items (port_stopped ss) q qlt) ∙ on))))
+
+      gives_is : (σ : Ports) → (spot_at ss k).view.stopped o ≡ false → gives (spot_at ss k) here σ o ≡ (spot_at ss k).view.rest (comes (spot_at ss k) here σ) o
+      gives_is σ want = ap (λ (b : Bool). cond b nothing ((spot_at ss k).view.rest (comes (spot_at ss k) here σ) o)) want
+
+      -- no edge into it is cut
+      fed_done : (σ : Ports) → (spot_at ss k).view.stopped o ≡ false → ((i : ℕ) → i < length here.ins.items → Closed (in_edge p m k i) (σ (in_edge p m k i)))
+          → Closed (out_edge p m k o) (gives (spot_at ss k) here σ o)
+      fed_done σ want c = elim (settle k klt (comes (spot_at ss k) here σ) (λ i lt. in_done i (omega (arith, fit.ins, lt)) σ (c i (omega (arith, fit.ins, lt)))) o
           (omega (arith, fit.outs, olt)) want) as (λ _. Closed (out_edge p m k o) (gives (spot_at ss k) here σ o)) [
             | inl e ↦ inl (ended (among (ways_of p q) (out_edge p m k o)) refl (cone.from k o m nlt olt way) e)
-            | inr e ↦ inr (subst IsClosed (sym same) e)
+            | inr e ↦ inr (subst IsClosed (sym (gives_is σ want)) e)
           ]
+
+      -- one is cut: all that it gives is decided
+      decided_done : (σ : Ports) → (spot_at ss k).view.stopped o ≡ false → IsDecided (spot_at ss k).view → (b : Bool) → (spot_at ss k).view.ended o ≡ b
+          → Closed (out_edge p m k o) (gives (spot_at ss k) here σ o)
+      decided_done σ want d true e = inl (ended (among (ways_of p q) (out_edge p m k o)) refl (cone.from k o m nlt olt way) e)
+      decided_done σ want d false e = inr (subst IsClosed (sym (gives_is σ want)) (d (comes (spot_at ss k) here σ) o (omega (arith, fit.outs, olt)) want e))
+
+      cut_from : (i : ℕ) → i < length here.ins.items → (f : Option Port) → (wire_at p (in_edge p m k i)).from ≡ f → from_stopped ss f ≡ true
+          → IsDecided (spot_at ss k).view
+      cut_from i ilt None e h = absurd (true≢false (sym h))
+      cut_from i ilt (Some f) e h =
+          let a = cone.into_way k o i m nlt olt way ilt in
+          let to : (wire_at p (in_edge p m k i)).to ≡ record { filter = k; port = i } = port_is (wire_at p (in_edge p m k i)).to k i
+          (cone.into_port k o i m nlt olt way ilt) in
+          subst (λ (g : Port). IsDecided (spot_at ss g.filter).view) to (s.idle (in_edge p m k i) f (cone.wires _ a) e h)
+
+      one_cut : (i : ℕ) → i < length here.ins.items → IsCut (in_edge p m k i) → IsDecided (spot_at ss k).view
+      one_cut i ilt x = cut_from i ilt (wire_at p (in_edge p m k i)).from refl x.1
+
+      out_met : (σ : Ports) → ((i : ℕ) → i < length here.ins.items → Met (in_edge p m k i) (σ (in_edge p m k i))) → (b : Bool) → (spot_at ss k).view.stopped o ≡ b
+          → Met (out_edge p m k o) (gives (spot_at ss k) here σ o)
+      out_met σ c true e = inr (stopped_cut (among (ways_of p q) (out_edge p m k o)) refl (cone.from k o m nlt olt way) e)
+      out_met σ c false e = inl
+          (elim (one_or_all (length here.ins.items) (λ i. Closed (in_edge p m k i) (σ (in_edge p m k i))) (λ i. IsCut (in_edge p m k i)) c)
+          as (λ _. Closed (out_edge p m k o) (gives (spot_at ss k) here σ o)) [
+            | inl all ↦ fed_done σ e all
+            | inr one ↦ decided_done σ e (one_cut one.0 one.1 one.2) ((spot_at ss k).view.ended o) refl
+          ])
 
       late_at : (i : ℕ) → i < length here.ins.items → (f : Option Port) → (wire_at p (in_edge p m k i)).from ≡ f → LateFrom (in_edge p m k i) k p.nodes.items
       late_at i ilt None e =
@@ -237,11 +289,11 @@ module _ (p : Plan) (ss : List Spot) (s : Sound p ss) (settle : (k : ℕ) → k 
       in_way : (i : ℕ) → i < length here.ins.items → OnIt (in_edge p m k i)
       in_way i ilt = is_way p q (in_edge p m k i) (cone.into_way k o i m nlt olt way ilt)
 
-  local_at : (k : ℕ) (m : Node) → k < length ss → Local OnIt Closed (spot_at ss k) (slice_index_or p.nodes.items k m)
-  local_at k m klt σ c o olt way = out_done k m klt o olt way σ c
+  local_at : (k : ℕ) (m : Node) → k < length ss → Local OnIt Met (spot_at ss k) (slice_index_or p.nodes.items k m)
+  local_at k m klt σ c o olt way = out_met k m klt o olt way σ c ((spot_at ss k).view.stopped o) refl
 
-  local : (k : ℕ) (d : Spot) (m : Node) → k < length ss → Local OnIt Closed (slice_index_or ss k d) (slice_index_or p.nodes.items k m)
-  local k d m klt = subst (λ (a : Spot). Local OnIt Closed a (slice_index_or p.nodes.items k m)) (sym (at_is ss k no_spot d (spot_at ss k) klt refl)) (local_at k m klt)
+  local : (k : ℕ) (d : Spot) (m : Node) → k < length ss → Local OnIt Met (slice_index_or ss k d) (slice_index_or p.nodes.items k m)
+  local k d m klt = subst (λ (a : Spot). Local OnIt Met a (slice_index_or p.nodes.items k m)) (sym (at_is ss k no_spot d (spot_at ss k) klt refl)) (local_at k m klt)
 
   fresh : (k : ℕ) (m : Node) → k < length p.nodes.items → Fresh OnIt (slice_index_or p.nodes.items k m) k p.nodes.items
   fresh k m lt o olt way i ilt = (
@@ -255,12 +307,19 @@ module _ (p : Plan) (ss : List Spot) (s : Sound p ss) (settle : (k : ℕ) → k 
   no_wire true a = absurd (free_stands (edge_at p q) q p.edges.items (s.wired _ (cone.wires _ a)).free (s.pads q qlt).edge)
   no_wire false a = a
 
+  met_start : (w : ℕ) → OnIt w → Late w p.nodes.items → Met w (ext w)
+  met_start w n late = inl (start w n late)
+
   pub pad_settles : ((graph_view p ss).ended q ≡ true) ⊎ IsClosed ((graph_view p ss).rest ext q)
-  pad_settles = elim (solve_done OnIt Closed ss p.nodes.items s.size local fresh ext start (edge_at p q) (own_way p q)) as (λ _. ((graph_view p ss).ended q ≡ true)
-      ⊎ IsClosed ((graph_view p ss).rest ext q)) [
-        | inl e ↦ inl (flag_is p.pads.items (port_ended ss) q qlt ∙ (sym (own_done (edge_at p q) (no_wire (among (ways_of p q) (edge_at p q)) refl)) ∙ e))
-        | inr c ↦ inr (subst IsClosed (sym (read_is p.edges.items (edge_at p q) q (solve_spots ext ss p.nodes.items) (s.pads q qlt).edge)) c)
-      ]
+  pad_settles = done (solve_done OnIt Met ss p.nodes.items s.size local fresh ext met_start (edge_at p q) (own_way p q))
+    where
+      apart : among (ways_of p q) (edge_at p q) ≡ false
+      apart = no_wire (among (ways_of p q) (edge_at p q)) refl
+
+      done : Met (edge_at p q) (solve_spots ext ss p.nodes.items (edge_at p q)) → ((graph_view p ss).ended q ≡ true) ⊎ IsClosed ((graph_view p ss).rest ext q)
+      done (inl (inl e)) = inl (flag_is p.pads.items (port_ended ss) q qlt ∙ (sym (own_done (edge_at p q) apart) ∙ e))
+      done (inl (inr c)) = inr (subst IsClosed (sym (read_is p.edges.items (edge_at p q) q (solve_spots ext ss p.nodes.items) (s.pads q qlt).edge)) c)
+      done (inr x) = absurd (true≢false (sym x.0 ∙ apart))
 
 -- filters that stand in a vector
 pub graph_settles : {F : Type 0} (view : F → View) → ((m : F) → Settles (view m)) → (p : Plan) (ps : List (Placed F)) → Sound p (spots view ps)

@@ -97,7 +97,7 @@ impl<F: Filter> Filter for Dag<F> {
     }
 
     fn pull(&mut self, port: usize) -> Result<Option<Item>, AllocError> {
-        match self.graph.take(port) {
+        match self.graph.pull(port) {
             Err(error) => Err(error),
             Ok(None) => Ok(None),
             Ok(Some(item)) => {

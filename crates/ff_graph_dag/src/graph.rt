@@ -146,8 +146,8 @@ impl<F: Filter> Graph<F> {
         self.places[pad.filter].pull(pad.port)
     }
 
-    /// The next item of an output that is wanted. None where each edge of its cone is empty, and nothing is due there.
-    pub fn take(&mut self, port: usize) -> Result<Option<Item>, AllocError>
+    // The next item of an output that is wanted. None where each edge of its cone is empty, and nothing is due there.
+    fn take(&mut self, port: usize) -> Result<Option<Item>, AllocError>
         requires there { port < length self.old.plan.pads.items }
         requires ways { port < length self.old.plan.ways.items }
         requires wanted { (graph_view self.old.plan (spots F.view self.old.places.items)).stopped port ≡ false }
@@ -218,14 +218,75 @@ impl<F: Filter> Graph<F> {
         }
     }
 
-    /// The receiver of an output has finished.
-    pub fn stop(&mut self, port: usize)
+    // The filter at an output is told that its receiver has finished.
+    fn leave(&mut self, port: usize)
         requires { port < length self.old.plan.pads.items }
         ensures plan { self.new.plan ≡ self.old.plan }
         ensures stopped { Stopped (graph_view self.old.plan (spots F.view self.old.places.items)) (graph_view self.old.plan (spots F.view self.new.places.items)) port }
     {
         let pad = self.plan.pads[port];
         self.places[pad.filter].stop(pad.port);
+    }
+
+    // Where an edge leads from a filter to a spent input, the output that it leaves is stopped: it keeps nothing from then on.
+    fn halt(&mut self, wire: usize)
+        requires { wire < length self.old.plan.wires.items }
+        ensures plan { self.new.plan ≡ self.old.plan }
+        ensures same { Same (graph_view self.old.plan (spots F.view self.old.places.items))
+            (graph_view self.old.plan (spots F.view self.new.places.items)) }
+    {
+        let Wire { from, to } = self.plan.wires[wire];
+        let Some(from) = from else {
+            return;
+        };
+        if self.places[to.filter].needs(to.port) {
+            return;
+        }
+        self.places[from.filter].stop(from.port);
+    }
+
+    // The same for each edge, the last one first: so a stop goes up from filter to filter.
+    fn sweep(&mut self)
+        ensures plan { self.new.plan ≡ self.old.plan }
+        ensures same { Same (graph_view self.old.plan (spots F.view self.old.places.items))
+            (graph_view self.old.plan (spots F.view self.new.places.items)) }
+    {
+        let count = self.plan.wires.len();
+        'wires: for done in 0..count {
+            self.halt(count - 1 - done);
+        }
+    }
+
+    /// The next item of an output that is wanted. None where nothing is due there.
+    pub fn pull(&mut self, port: usize) -> Result<Option<Item>, AllocError>
+        requires there { port < length self.old.plan.pads.items }
+        requires ways { port < length self.old.plan.ways.items }
+        requires wanted { (graph_view self.old.plan (spots F.view self.old.places.items)).stopped port ≡ false }
+        ensures plan { self.new.plan ≡ self.old.plan }
+        ensures gives { (x : Item) → result ≡ Ok (Some x) → Gave (graph_view self.old.plan (spots F.view self.old.places.items))
+            (graph_view self.old.plan (spots F.view self.new.places.items)) port x }
+        ensures waits { result ≡ Ok None → Waits (graph_view self.old.plan (spots F.view self.old.places.items))
+            (graph_view self.old.plan (spots F.view self.new.places.items)) port }
+        ensures unchanged { OnErr result (Same (graph_view self.old.plan (spots F.view self.old.places.items))
+            (graph_view self.old.plan (spots F.view self.new.places.items))) }
+    {
+        match self.take(port) {
+            Err(error) => Err(error),
+            Ok(given) => {
+                self.sweep();
+                Ok(given)
+            }
+        }
+    }
+
+    /// The receiver of an output has finished.
+    pub fn stop(&mut self, port: usize)
+        requires { port < length self.old.plan.pads.items }
+        ensures plan { self.new.plan ≡ self.old.plan }
+        ensures stopped { Stopped (graph_view self.old.plan (spots F.view self.old.places.items)) (graph_view self.old.plan (spots F.view self.new.places.items)) port }
+    {
+        self.leave(port);
+        self.sweep();
     }
 
     /// Whether an input was closed.

@@ -8,7 +8,8 @@
 //! Each edge has a number and one stream; input i of the graph is edge i. Filters stand in an order in which each feeds later
 //! ones only. One item may wait before each input of a filter. To pull at an output is to ask the filter there, and where it
 //! has nothing to move one item along one edge from which that output can be reached, the highest first: so nothing is asked
-//! that the output doesn't need, and nothing piles up in the middle.
+//! that the output doesn't need, and nothing piles up in the middle. Where a filter needs no more of an input, the output that feeds
+//! it is stopped, and so on upwards: nothing is kept for an output that is over.
 //!
 //! What a graph still gives is said on all edges at once (`specs/Graphs`), and at the start it is the solution of a network
 //! with a part for each filter (`specs/Parts`).

@@ -1,10 +1,10 @@
-ghost use Rattle.std.specs.Prelude.{◌≡◌, ℕ, ◌<◌, length, slice_set, replicate, is_some, IfOk, Option, None, Ok, Some, OnOk, OnErr, true, false, refl};
+ghost use Rattle.std.specs.Prelude.{◌≡◌, ℕ, ◌<◌, length, slice_set, replicate, is_some, not, IfOk, Option, None, Ok, Some, OnOk, OnErr, true, false, refl};
 ghost use Rattle.ff_filter.specs.Joins.{silence, Ports};
 ghost use Rattle.ff_stream.specs.Ports.{nothing};
 ghost use Rattle.ff_filter.specs.Views.{Gave, Waits, Same, Stopped, IsNew, closes};
 ghost use Rattle.ff_filter.specs.Held.{held_closes};
 ghost use Rattle.ff_graph_dag.specs.Parts.{IsNewSpot};
-ghost use Rattle.ff_graph_dag.specs.Dags.{spot_of, spot_shut, held_at, IsReady, Delivered, Kept, Pulled, Halted};
+ghost use Rattle.ff_graph_dag.specs.Dags.{spot_of, spot_shut, held_at, IsDecided, IsReady, Delivered, Kept, Pulled, Halted};
 
 use ff_filter::Filter;
 use ff_stream::{Item, Refused};
@@ -79,14 +79,17 @@ impl<F: Filter> Placed<F> {
         }
     }
 
-    /// The next item of an output that is wanted.
+    /// The next item of an output; None where it isn't wanted.
     pub fn pull(&mut self, port: usize) -> Result<Option<Item>, AllocError>
         requires there { port < length (F.view self.old.filter).outs }
-        requires wanted { (F.view self.old.filter).stopped port ≡ false }
         ensures gives { (x : Item) → result ≡ Ok (Some x) → Pulled (spot_of F.view self.old) (spot_of F.view self.new) port x }
-        ensures waits { result ≡ Ok None → Kept (spot_of F.view self.old) (spot_of F.view self.new) × ((F.view self.new.filter).rest silence port ≡ nothing) }
+        ensures waits { result ≡ Ok None → Kept (spot_of F.view self.old) (spot_of F.view self.new)
+            × ((F.view self.new.filter).stopped port ≡ false → (F.view self.new.filter).rest silence port ≡ nothing) }
         ensures unchanged { OnErr result (Kept (spot_of F.view self.old) (spot_of F.view self.new)) }
     {
+        if self.filter.is_stopped(port) {
+            return Ok(None);
+        }
         self.filter.pull(port)
     }
 
@@ -96,6 +99,18 @@ impl<F: Filter> Placed<F> {
         ensures { Halted (spot_of F.view self.old) (spot_of F.view self.new) port }
     {
         self.filter.stop(port);
+    }
+
+    /// Whether more of an input may matter to the filter, or it has closed.
+    pub fn needs(&self, port: usize) -> bool
+        requires there { port < length (F.view self.now.filter).ins }
+        ensures decided { result ≡ false → IsDecided (F.view self.now.filter) }
+        ensures spends { (F.view self.now.filter).shut port ≡ false → result ≡ not (F.spends self.now.filter port) }
+    {
+        if self.filter.is_shut(port) {
+            return true;
+        }
+        !self.filter.spent(port)
     }
 
     /// Whether the closing item was fed to an input, or waits before it.

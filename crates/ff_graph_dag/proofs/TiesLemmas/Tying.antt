@@ -1,5 +1,5 @@
 -- A plan whose edges fit together is sound for filters to which nothing was done.
-use Rattle.std.proofs.Common.{◌≡◌, ◌≢◌, ℕ, zero, suc, ◌+◌, ◌-◌, ◌<◌, ◌≤◌, ◌==◌, ◌||◌, Bool, true, false, cond, is_some, List, [], ◌∷◌, length, slice_get, slice_index_or, Option, None, Some, refl, ap, sym, ◌∙◌, subst, ◌⊎◌, inl, inr, arith}
+use Rattle.std.proofs.Common.{◌≡◌, ◌≢◌, ℕ, zero, suc, ◌+◌, ◌-◌, ◌<◌, ◌≤◌, ◌==◌, ◌||◌, Bool, true, false, true≢false, cond, is_some, List, [], ◌∷◌, length, slice_get, slice_index_or, Option, None, Some, refl, ap, sym, ◌∙◌, subst, ◌⊎◌, inl, inr, arith}
 use Rattle.std.proofs.lemmas.Bool.Decides.{nat_tests}
 use Rattle.ff_graph_dag.specs.declared.graph.Node.{Node}
 use Rattle.ff_graph_dag.specs.declared.graph.Port.{Port}
@@ -441,6 +441,6 @@ module _ (p : Plan) (t : IsTied p) where
       feeds_there = each (InThere ss) p.feeds.items (λ i f e. in_fits f i (t.tos i (record { from = None; to = f }) (t.feeds i f e)));
       pads_there = each (OutThere ss) p.pads.items (λ q f e. out_fits f (length p.wires.items + q) (t.pads q f e).0);
       linked = λ w f lt e. shut_not (wire_at p w).to ∙ sym (ended_not f);
-      wanted = λ w f lt e. (new_at ss new f.filter).view.stopped f.port;
+      idle = λ w f lt e on. absurd (true≢false (sym on ∙ (new_at ss new f.filter).view.stopped f.port));
       unshut = λ w lt h. (new_at ss new (wire_at p w).to.filter).view.shut (wire_at p w).to.port;
     }

@@ -1,7 +1,7 @@
 use Rattle.std.proofs.Common.{arith, sym, ◌∙◌}
 use Rattle.ff_graph_dag.specs.Graphs.{no_wire}
 use Rattle.ff_graph_dag.specs.Readings.{at_is}
-use Rattle.ff_graph_dag.proofs.Carrying.{filter_there, held_there, ready, source_there, out_there, out_wanted, kept_fine, kept_all, fed_fine, fed_less, drawn_fine}
+use Rattle.ff_graph_dag.proofs.Carrying.{filter_there, held_there, ready, source_there, out_there, kept_fine, kept_all, fed_fine, fed_less, drawn_fine}
 use Rattle.ff_graph_dag.proofs.Carrying.{drawn_fewer, store_there, held_none, waited, some_there, fed_or_kept}
 use Rattle.ff_graph_dag.proofs.graph.Graph.carry.Goals as goal
 
@@ -51,15 +51,12 @@ index_mut-requires-in-Some g c = let lt = (source_there g.F.Filter.view c.args.s
     (at_is c.args.self.now.plan.wires.items c.args.wire _ no_wire c.index.result.now c.requires c.index.ensures) c.args.self.now.sound c.in-Some.from c.in-Some.is) in
     omega (arith, lt)
 
-pub pull-requires-clause-there : goal.pull-requires-clause-there
-pull-requires-clause-there g c = out_there g.F.Filter.view c.args.self.now.plan c.args.self.now.places.items c.args.wire c.index.result.now c.requires
-    (at_is c.args.self.now.plan.wires.items c.args.wire _ no_wire c.index.result.now c.requires c.index.ensures) c.args.self.now.sound c.in-Some.from _
-    c.index_mut-in-Some.result.now c.in-Some.is c.index_mut-in-Some.ensures.value
-
-pub pull-requires-clause-wanted : goal.pull-requires-clause-wanted
-pull-requires-clause-wanted g c = out_wanted g.F.Filter.view c.args.self.now.plan c.args.self.now.places.items c.args.wire c.index.result.now c.requires
-    (at_is c.args.self.now.plan.wires.items c.args.wire _ no_wire c.index.result.now c.requires c.index.ensures) c.args.self.now.sound c.in-Some.from _
-    c.index_mut-in-Some.result.now c.in-Some.is c.index_mut-in-Some.ensures.value
+pub pull-requires : goal.pull-requires
+pull-requires g c = record {
+  there = out_there g.F.Filter.view c.args.self.now.plan c.args.self.now.places.items c.args.wire c.index.result.now c.requires
+      (at_is c.args.self.now.plan.wires.items c.args.wire _ no_wire c.index.result.now c.requires c.index.ensures) c.args.self.now.sound c.in-Some.from _
+      c.index_mut-in-Some.result.now c.in-Some.is c.index_mut-in-Some.ensures.value;
+}
 
 pub invariant_of-self-in-Err-pull : goal.invariant_of-self-in-Err-pull
 invariant_of-self-in-Err-pull g c = record {

@@ -1,12 +1,8 @@
+use Rattle.std.proofs.Common.{◌∙◌}
 use Rattle.ff_graph_dag.specs.Graphs.{no_port}
 use Rattle.ff_graph_dag.specs.Readings.{at_is}
 use Rattle.ff_graph_dag.proofs.Giving.{pad_wanted, pad_any, pad_gave, pad_kept, pad_err, pad_quiet}
 use Rattle.ff_graph_dag.proofs.graph.Graph.give.Goals as goal
-
-pub pull-requires-clause-wanted : goal.pull-requires-clause-wanted
-pull-requires-clause-wanted g c = pad_wanted g.F.Filter.view c.args.self.now.plan c.args.self.now.places.items c.args.port c.index-pad.result.now c.requires.there
-    (at_is c.args.self.now.plan.pads.items c.args.port _ no_port c.index-pad.result.now c.requires.there c.index-pad.ensures) c.args.self.now.sound _
-    c.index_mut.result.now c.index_mut.ensures.value c.requires.wanted
 
 pub invariant_of-self : goal.invariant_of-self
 invariant_of-self g c = record {
@@ -28,7 +24,10 @@ returns-clause-waits g c e = (
   pad_quiet g.F.Filter.view c.args.self.now.plan
       c.args.self.now.places.items c.args.port c.index-pad.result.now c.requires.there (at_is c.args.self.now.plan.pads.items c.args.port _ no_port
       c.index-pad.result.now
-      c.requires.there c.index-pad.ensures) c.args.self.now.sound c.pull.new.self (c.pull.ensures.waits e).1,
+      c.requires.there c.index-pad.ensures) c.args.self.now.sound c.pull.new.self
+      ((c.pull.ensures.waits e).1 ((c.pull.ensures.waits e).0.alike.stopped c.index-pad.result.now.port ∙ pad_wanted g.F.Filter.view c.args.self.now.plan
+      c.args.self.now.places.items c.args.port c.index-pad.result.now c.requires.there (at_is c.args.self.now.plan.pads.items c.args.port _ no_port
+      c.index-pad.result.now c.requires.there c.index-pad.ensures) c.args.self.now.sound _ c.index_mut.result.now c.index_mut.ensures.value c.requires.wanted)),
 )
 
 pub returns-clause-same : goal.returns-clause-same

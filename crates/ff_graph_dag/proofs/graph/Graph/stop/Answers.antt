@@ -1,16 +1,15 @@
-use Rattle.ff_graph_dag.specs.Graphs.{no_port}
-use Rattle.ff_graph_dag.specs.Readings.{at_is}
-use Rattle.ff_graph_dag.proofs.Stopping.{end_sound, end_stopped}
+use Rattle.std.proofs.Common.{subst}
+use Rattle.ff_filter.specs.Views.{Same}
+use Rattle.ff_graph_dag.specs.declared.graph.Plan.{Plan}
+use Rattle.ff_graph_dag.specs.Graphs.{graph_view, spots}
+use Rattle.ff_graph_dag.proofs.Stopping.{stopped_same}
 use Rattle.ff_graph_dag.proofs.graph.Graph.stop.Goals as goal
 
-pub invariant_of-self : goal.invariant_of-self
-invariant_of-self g c = record {
-  sound = end_sound g.F.Filter.view c.args.self.now.plan c.args.self.now.places.items c.args.port c.index-pad.result.now c.requires
-      (at_is c.args.self.now.plan.pads.items c.args.port _ no_port c.index-pad.result.now c.requires c.index-pad.ensures) c.args.self.now.sound _ c.index_mut.result.now
-      c.stop.new.self c.index_mut.ensures.value c.stop.ensures;
-}
-
 pub returns-clause-stopped : goal.returns-clause-stopped
-returns-clause-stopped g c = end_stopped g.F.Filter.view c.args.self.now.plan c.args.self.now.places.items c.args.port c.index-pad.result.now c.requires
-    (at_is c.args.self.now.plan.pads.items c.args.port _ no_port c.index-pad.result.now c.requires c.index-pad.ensures) c.args.self.now.sound _ c.index_mut.result.now
-    c.stop.new.self c.index_mut.ensures.value c.stop.ensures
+returns-clause-stopped g c =
+    let plan = c.args.self.now.plan in
+    let ss = spots g.F.Filter.view c.args.self.now.places.items in
+    let ts = spots g.F.Filter.view c.leave.new.self.places.items in
+    let us = spots g.F.Filter.view c.sweep.new.self.places.items in
+    stopped_same (graph_view plan ss) (graph_view plan ts) (graph_view plan us) c.args.port c.leave.ensures.stopped
+    (subst (λ (q : Plan). Same (graph_view q ts) (graph_view q us)) c.leave.ensures.plan c.sweep.ensures.same)
