@@ -6,7 +6,7 @@ use Rattle.ff_words.specs.declared.error.WordError.{WordError}
 use Rattle.ff_words.specs.declared.error.WordError.TheVariants.{At, NoMemory}
 use Rattle.ff_host.specs.Files.{Files}
 use Rattle.ff_input.specs.declared.heads.head.InputHead.{InputHead}
-use Rattle.ff_plan.specs.declared.planned.PlanError.{PlanError}
+use Rattle.ff_plan_layout.specs.declared.error.PlanError.{PlanError}
 use Rattle.ff_run_plan.specs.declared.fault.RunFault.{RunFault}
 use Rattle.ff_words.specs.declared.job.Job.{Job}
 use Rattle.ff_files.specs.Counts.{Counts}
