@@ -3,12 +3,12 @@ use Rattle.std.specs.Prelude.{⊤}
 use Rattle.ff_frame.specs.declared.event.Event.{Event}
 use Rattle.ff_run_plan.specs.Reads.{places_in}
 use Rattle.ff_words.specs.Words.{texts}
-use Rattle.ff_files.specs.Counts.{Counts}
+use Rattle.ff_files.specs.Counts.{Counts, counted}
 use Rattle.ff_command.specs.Command.{AskFor, ComesBeforeOutputs, ReportsHistory, ReportsReads, ReportsOwn, ReportsOwnReads, HoldsTrace}
 use Rattle.ff_command.specs.Histories.{history_in}
 use Rattle.ff_command.proofs.Answers.{due-text, none-told}
 use Rattle.ff_command.proofs.Generated.{own_none}
-use Rattle.ff_command.proofs.Reports.{has_more, reported_history, reported_reads, also_reported, not_fine, untold_due, ins_same, outs_same}
+use Rattle.ff_command.proofs.Reports.{has_more, reported_history, reported_reads, also_reported, not_fine, untold_due, created_same, ins_same, outs_same}
 use Rattle.ff_command.proofs.command.run_command.Goals as goal
 
 pub returns-clause-text : goal.returns-clause-text
@@ -128,6 +128,13 @@ returns-then-is_untold-clause-no_plan g c = λ why gives. inr c.out_of_memory.en
 
 pub returns-then-is_untold-clause-complete : goal.returns-then-is_untold-clause-complete
 returns-then-is_untold-clause-complete g c = λ gives. inr c.out_of_memory.ensures.status.0
+
+pub returns-then-is_untold-clause-created : goal.returns-then-is_untold-clause-created
+returns-then-is_untold-clause-created g c =
+    let H = g.H.Host in
+    let outs = counted H.out_faults c.args.host.now c.run_words-status.new.host in
+    created_same (texts c.args.words.now) (H.created c.run_words-status.new.host) (H.files c.args.host.now) (H.files c.run_words-status.new.host) outs c.run_words-status.result.status c.out_of_memory.result.status
+    (c.is_untold.ensures.untold c.if-is_untold.true).0 c.run_words-status.ensures.created
 
 pub returns-then-is_untold-clause-in_counts : goal.returns-then-is_untold-clause-in_counts
 returns-then-is_untold-clause-in_counts g c =
