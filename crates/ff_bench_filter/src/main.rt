@@ -10,6 +10,6 @@ fn main(rt: HostRuntime) -> io::Result<()> {
     let _program = words.next();
     match words.next() {
         Some(word) if word.as_str() == "pictures" => filters::measure(&rt),
-        _ => println!(rt; "usage: ff_filter_bench pictures"),
+        _ => println!(rt; "usage: ff_bench_filter pictures"),
     }
 }
