@@ -1,35 +1,68 @@
--- What a packet of each codec is.
-use Rattle.std.specs.Prelude.{◌≡◌, ℕ, ◌*◌, ◌≤◌, pos, ◌≤ℤ◌, length}
+-- The table of codecs: a row each, with its name and how it codes; and what a packet of each is.
+use Rattle.std.specs.Prelude.{◌≡◌, ℕ, ◌*◌, ◌≤◌, pos, ◌≤ℤ◌, length, Bool, true, false, List, codes}
 use Rattle.ff_frame.specs.declared.packet.Pkt.{Pkt}
 use Rattle.ff_frame.specs.declared.head.Codec.{Codec}
-use Rattle.ff_frame.specs.declared.head.Codec.TheVariants.{PcmU8, PcmS16le, PcmS24le, PcmS32le, Flac, RawVideo}
+use Rattle.ff_frame.specs.declared.head.Codec.TheVariants as codec
+use Rattle.ff_frame.specs.declared.coding.ByteOrder.{ByteOrder}
+use Rattle.ff_frame.specs.declared.coding.ByteOrder.TheVariants.{LittleEndian}
+use Rattle.ff_frame.specs.declared.coding.PcmDepth.{PcmDepth}
+use Rattle.ff_frame.specs.declared.coding.PcmDepth.TheVariants.{Bits8, Bits16, Bits24, Bits32}
+use Rattle.ff_frame.specs.declared.coding.Coding.{Coding}
+use Rattle.ff_frame.specs.declared.coding.Coding.TheVariants.{Pcm, Flac, RawVideo}
+
+-- linear PCM of these bits, signed or not, in this order of bytes
+abbrev pub pcm_coding : PcmDepth → Bool → ByteOrder → Coding
+pcm_coding depth signed order = Pcm (record { depth = depth; signed = signed; order = order })
+
+-- each codec: its name, and how it codes
+abbrev pub codec_row : Codec → List ℕ × Coding
+codec_row codec.PcmU8 = (codes "pcm_u8", pcm_coding Bits8 false LittleEndian)
+codec_row codec.PcmS16le = (codes "pcm_s16le", pcm_coding Bits16 true LittleEndian)
+codec_row codec.PcmS24le = (codes "pcm_s24le", pcm_coding Bits24 true LittleEndian)
+codec_row codec.PcmS32le = (codes "pcm_s32le", pcm_coding Bits32 true LittleEndian)
+codec_row codec.Flac = (codes "flac", Flac)
+codec_row codec.RawVideo = (codes "rawvideo", RawVideo)
+
+abbrev pub codec_name : Codec → List ℕ
+codec_name codec = (codec_row codec).0
+
+abbrev pub coding_of : Codec → Coding
+coding_of codec = (codec_row codec).1
+
+-- the bytes of a sample of so many bits
+abbrev pub depth_bytes : PcmDepth → ℕ
+depth_bytes Bits8 = 1
+depth_bytes Bits16 = 2
+depth_bytes Bits24 = 3
+depth_bytes Bits32 = 4
+
+abbrev pub IsPcmCoding : Coding → Type 0
+IsPcmCoding (Pcm form) = Unit {0}
+IsPcmCoding Flac = ⊥
+IsPcmCoding RawVideo = ⊥
+
+abbrev pub IsFlacCoding : Coding → Type 0
+IsFlacCoding (Pcm form) = ⊥
+IsFlacCoding Flac = Unit {0}
+IsFlacCoding RawVideo = ⊥
+
+-- the bytes of one sample as linear PCM writes it; what is said of other codings here is never used
+abbrev pub coding_bytes : Coding → ℕ
+coding_bytes (Pcm form) = depth_bytes form.depth
+coding_bytes Flac = 1
+coding_bytes RawVideo = 1
 
 -- the codec is linear PCM
 abbrev pub IsPcmCodec : Codec → Type 0
-IsPcmCodec PcmU8 = Unit {0}
-IsPcmCodec PcmS16le = Unit {0}
-IsPcmCodec PcmS24le = Unit {0}
-IsPcmCodec PcmS32le = Unit {0}
-IsPcmCodec Flac = ⊥
-IsPcmCodec RawVideo = ⊥
+IsPcmCodec codec = IsPcmCoding (coding_of codec)
 
 -- the codec is FLAC
 abbrev pub IsFlacCodec : Codec → Type 0
-IsFlacCodec PcmU8 = ⊥
-IsFlacCodec PcmS16le = ⊥
-IsFlacCodec PcmS24le = ⊥
-IsFlacCodec PcmS32le = ⊥
-IsFlacCodec Flac = Unit {0}
-IsFlacCodec RawVideo = ⊥
+IsFlacCodec codec = IsFlacCoding (coding_of codec)
 
--- the bytes of one sample as the codec of linear PCM writes it; what is said of the other codecs here is never used
+-- the bytes of one sample as the codec of linear PCM writes it
 abbrev pub sample_bytes : Codec → ℕ
-sample_bytes PcmU8 = 1
-sample_bytes PcmS16le = 2
-sample_bytes PcmS24le = 3
-sample_bytes PcmS32le = 4
-sample_bytes Flac = 1
-sample_bytes RawVideo = 1
+sample_bytes codec = coding_bytes (coding_of codec)
 
 -- a packet of linear PCM: 1 to 65,535 whole blocks, each of one sample per channel, as many as its duration says
 pub record IsPcm (block : ℕ) (packet : Pkt) : Type 0 where
@@ -44,11 +77,11 @@ pub record IsFlac (packet : Pkt) : Type 0 where
   pub some_frames : pos 1 ≤ℤ packet.duration
   pub few_frames : packet.duration ≤ℤ pos 65535
 
--- a packet of sound of so many channels; no sound is coded as raw video
+-- a packet of audio of so many channels; no audio is coded as raw video
+abbrev pub IsCodedSound : Coding → ℕ → Pkt → Type 0
+IsCodedSound (Pcm form) channels packet = IsPcm (channels * depth_bytes form.depth) packet
+IsCodedSound Flac channels packet = IsFlac packet
+IsCodedSound RawVideo channels packet = ⊥
+
 abbrev pub IsSoundPacket : Codec → ℕ → Pkt → Type 0
-IsSoundPacket PcmU8 channels packet = IsPcm (channels * sample_bytes PcmU8) packet
-IsSoundPacket PcmS16le channels packet = IsPcm (channels * sample_bytes PcmS16le) packet
-IsSoundPacket PcmS24le channels packet = IsPcm (channels * sample_bytes PcmS24le) packet
-IsSoundPacket PcmS32le channels packet = IsPcm (channels * sample_bytes PcmS32le) packet
-IsSoundPacket Flac channels packet = IsFlac packet
-IsSoundPacket RawVideo channels packet = ⊥
+IsSoundPacket codec channels packet = IsCodedSound (coding_of codec) channels packet

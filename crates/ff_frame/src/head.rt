@@ -1,3 +1,7 @@
+ghost use Rattle.std.specs.Prelude.{◌≡◌};
+ghost use Rattle.ff_frame.specs.Codecs.{pcm_coding};
+
+use crate::coding::{ByteOrder, Coding, PcmDepth, PcmForm};
 use crate::video::Format;
 use ff_time::Rational;
 
@@ -16,6 +20,52 @@ pub enum Codec {
     Flac,
     /// Pictures as their planes, one after the other.
     RawVideo,
+}
+
+fn pcm(depth: PcmDepth, signed: bool, order: ByteOrder) -> Coding
+    ensures { result ≡ pcm_coding depth signed order }
+{
+    Coding::Pcm(PcmForm {
+        depth,
+        signed,
+        order,
+    })
+}
+
+impl Codec {
+    ghost use Rattle.std.specs.Prelude.{◌≡◌};
+    ghost use Rattle.ff_frame.specs.Codecs.{codec_name, coding_of};
+
+    // The row of a codec: its name, and how it codes.
+    fn row(self) -> (&'static str, Coding)
+        ensures name { result.0.now ≡ codec_name self }
+        ensures coding { result.1 ≡ coding_of self }
+    {
+        use ByteOrder::LittleEndian;
+        use PcmDepth::{Bits8, Bits16, Bits24, Bits32};
+        match self {
+            Codec::PcmU8 => ("pcm_u8", pcm(Bits8, false, LittleEndian)),
+            Codec::PcmS16le => ("pcm_s16le", pcm(Bits16, true, LittleEndian)),
+            Codec::PcmS24le => ("pcm_s24le", pcm(Bits24, true, LittleEndian)),
+            Codec::PcmS32le => ("pcm_s32le", pcm(Bits32, true, LittleEndian)),
+            Codec::Flac => ("flac", Coding::Flac),
+            Codec::RawVideo => ("rawvideo", Coding::RawVideo),
+        }
+    }
+
+    /// Its name, as command lines and listings have it.
+    pub fn name(self) -> &'static str
+        ensures { result.now ≡ codec_name self }
+    {
+        self.row().0
+    }
+
+    /// How it codes what it is given.
+    pub fn coding(self) -> Coding
+        ensures { result ≡ coding_of self }
+    {
+        self.row().1
+    }
 }
 
 /// What is known of a stream before its first packet.

@@ -3,11 +3,14 @@
 //! Times are counted in ticks of a stream's time base. A frame or a packet is given by its fields alone: two with
 //! equal fields are one value for every contract, wherever their bytes lie.
 //!
+//! A codec is one row: `Codec` in `src/head.rt`, and `codec_row` in `specs/Codecs`, with its name and how it codes.
+//!
 //! `specs/Heads` and `Codecs` say which heads there are and which packets a codec makes, `Audio` and `Video` when the
 //! fields of a frame agree.
 #![tactic(auto)]
 
 mod audio;
+mod coding;
 mod config;
 mod cut;
 mod event;
@@ -19,6 +22,7 @@ mod totals;
 mod video;
 
 pub use audio::AFrame;
+pub use coding::{ByteOrder, Coding, PcmDepth, PcmForm};
 pub use config::ConfigError;
 pub use cut::{Cut, HeadEnd};
 pub use event::{Event, Ticket};
