@@ -1,30 +1,32 @@
 -- Samples of bytes: how many, that they fit, and that they tell the bytes.
-use Rattle.std.proofs.Common.{◌≡◌, ℕ, zero, suc, ◌+◌, ◌*◌, ◌/◌, ◌%◌, ◌^◌, ◌<◌, ◌≤◌, ℤ, pos, negsuc, ◌-ℤ◌, List, [], ◌∷◌, length, get_or, refl, sym, ap, ◌∙◌, subst, arith}
+use Rattle.std.proofs.Common.{◌≡◌, ℕ, zero, suc, ◌*◌, ◌/◌, ◌%◌, ◌^◌, ◌<◌, ◌≤◌, Bool, ℤ, pos, List, [], ◌∷◌, length, get_or, sym, ap, ◌∙◌, subst, arith}
 use Rattle.std.specs.List.{range_with_len, All}
-use Rattle.std.proofs.lemmas.Int.{ints}
+use Rattle.std.proofs.Math.Nat.{mul-div_cancel_left, div-add-mod, mod-lt}
 use Rattle.std.proofs.lemmas.List.{ext_get_or}
 use Rattle.std.proofs.lemmas.List.Elements.{All-map}
 use Rattle.std.proofs.lemmas.List.FromFn.{fill_by_all, length-map-range_with_len, get_or-map-range_with_len}
+use Rattle.std.proofs.lemmas.Nat.{div_below}
 use Rattle.ff_frame.specs.Audio.{FitsBits, IsAudio}
 use Rattle.ff_frame.specs.Frame.{audio_frame}
-use Rattle.ff_frame.specs.Codecs.{IsPcmCodec, sample_bytes}
-use Rattle.ff_frame.specs.declared.head.Codec.{Codec}
+use Rattle.ff_frame.specs.Codecs.{IsPcmCodec, IsPcmCoding, coding_of, coding_bytes, depth_bytes, sample_bytes}
+use Rattle.ff_frame.specs.PcmLaws.{few_sample_bytes}
 use Rattle.ff_frame.specs.declared.audio.AFrame.{AFrame}
+use Rattle.ff_frame.specs.declared.coding.ByteOrder.{ByteOrder}
+use Rattle.ff_frame.specs.declared.coding.Coding.{Coding}
+use Rattle.ff_frame.specs.declared.coding.Coding.TheVariants.{Pcm, Flac, RawVideo}
+use Rattle.ff_frame.specs.declared.coding.PcmDepth.{PcmDepth}
+use Rattle.ff_frame.specs.declared.coding.PcmDepth.TheVariants.{Bits8, Bits16, Bits24, Bits32}
+use Rattle.ff_frame.specs.declared.head.Codec.{Codec}
 use Rattle.ff_frame.specs.declared.head.StreamHead.{StreamHead}
 use Rattle.ff_frame.specs.declared.packet.Pkt.{Pkt}
 use Rattle.ff_pcm.specs.Frames.{codec_of, rate_of, bits_of, channels_of, IsPcmHead, HasBlocks, frame_of}
-use Rattle.ff_frame.specs.declared.head.Codec.TheVariants.{PcmU8, PcmS16le, PcmS24le, PcmS32le, Flac, RawVideo}
-use Rattle.ff_bits.specs.Integers.{signed}
-use Rattle.ff_pcm.specs.Samples.{number, depth, sample_at, samples_of, StandFor}
+use Rattle.ff_pcm.specs.Samples.{number_in, depth, sample_in, coded_sample, sample_at, samples_of, StandFor}
+use Rattle.ff_pcm.proofs.NumberLaws.{AreBytes, same_powers, number_below, number_apart}
+use Rattle.ff_pcm.proofs.ValueLaws.{value_fits, value_apart}
 
 -- so many samples have so many bytes
 pub count_of : (codec : Codec) (n count : ℕ) → n ≡ sample_bytes codec * count → n / sample_bytes codec ≡ count
-count_of PcmU8 n count e = omega (arith, e)
-count_of PcmS16le n count e = omega (arith, e)
-count_of PcmS24le n count e = omega (arith, e)
-count_of PcmS32le n count e = omega (arith, e)
-count_of Flac n count e = omega (arith, e)
-count_of RawVideo n count e = omega (arith, e)
+count_of codec n count e = ap (λ (m : ℕ). m / sample_bytes codec) e ∙ mul-div_cancel_left count (few_sample_bytes codec).0
 
 -- samples that are those of the bytes one by one are all of them
 pub are_samples : (codec : Codec) (bytes : List ℕ) (xs : List ℤ) → length bytes ≡ sample_bytes codec * length xs → ((k : ℕ) → k < length xs → get_or xs k (pos 0) ≡ sample_at codec bytes k)
@@ -33,51 +35,49 @@ are_samples codec bytes xs size each =
     let count = count_of codec (length bytes) (length xs) size in
     fill_by_all (sample_at codec bytes) xs (length bytes / sample_bytes codec) (pos 0) (sym count) (λ k lt. each k (omega (arith, lt, count)))
 
-fits_8 : (n : ℕ) (z : ℤ) → n < 256 → z ≡ pos n -ℤ pos 128 → FitsBits 8 z
-fits_8 n (pos m) lt e = omega (arith, ints)
-fits_8 n (negsuc m) lt e = omega (arith, ints)
+pub some_bits : (bits : PcmDepth) → 1 ≤ 8 * depth_bytes bits
+some_bits Bits8 = omega arith
+some_bits Bits16 = omega arith
+some_bits Bits24 = omega arith
+some_bits Bits32 = omega arith
 
-fits_16 : (n : ℕ) (z : ℤ) → n < 2 ^ 16 → z ≡ signed 16 n → FitsBits 16 z
-fits_16 n (pos m) lt e = grind (arith, ints)
-fits_16 n (negsuc m) lt e = grind (arith, ints)
+number_fits : (bits : PcmDepth) (order : ByteOrder) (place : ℕ) (bytes : List ℕ) → AreBytes bytes → number_in order (depth_bytes bits) place bytes < 2 ^ (8 * depth_bytes bits)
+number_fits bits order place bytes small = omega (arith, same_powers bits, number_below order (depth_bytes bits) place bytes small)
 
-fits_24 : (n : ℕ) (z : ℤ) → n < 2 ^ 24 → z ≡ signed 24 n → FitsBits 24 z
-fits_24 n (pos m) lt e = grind (arith, ints)
-fits_24 n (negsuc m) lt e = grind (arith, ints)
-
-fits_32 : (n : ℕ) (z : ℤ) → n < 2 ^ 32 → z ≡ signed 32 n → FitsBits 32 z
-fits_32 n (pos m) lt e = grind (arith, ints)
-fits_32 n (negsuc m) lt e = grind (arith, ints)
+coded_fits : (coding : Coding) (bytes : List ℕ) (k : ℕ) → AreBytes bytes → FitsBits (8 * coding_bytes coding) (coded_sample coding bytes k)
+coded_fits (Pcm form) bytes k small =
+    value_fits (8 * depth_bytes form.depth) (some_bits form.depth) form.signed (number_in form.order (depth_bytes form.depth) (depth_bytes form.depth * k) bytes)
+    (number_fits form.depth form.order (depth_bytes form.depth * k) bytes small)
+coded_fits Flac bytes k small = omega arith
+coded_fits RawVideo bytes k small = omega arith
 
 -- a sample fits its codec's bits
-pub fits_at : (codec : Codec) (bytes : List ℕ) (k : ℕ) → ((i : ℕ) → get_or bytes i 0 < 256) → FitsBits (depth codec) (sample_at codec bytes k)
-fits_at PcmU8 bytes k small = fits_8 (number 1 k bytes) _ (omega (arith, small k)) refl
-fits_at PcmS16le bytes k small = fits_16 (number 2 (2 * k) bytes) _ (omega (arith, small (2 * k), small (2 * k + 1))) refl
-fits_at PcmS24le bytes k small = fits_24 (number 3 (3 * k) bytes) _ (omega (arith, small (3 * k), small (3 * k + 1), small (3 * k + 1 + 1))) refl
-fits_at PcmS32le bytes k small = fits_32 (number 4 (4 * k) bytes) _ (omega (arith, small (4 * k), small (4 * k + 1), small (4 * k + 1 + 1), small (4 * k + 1 + 1 + 1))) refl
-fits_at Flac bytes k small = omega arith
-fits_at RawVideo bytes k small = omega arith
+pub fits_at : (codec : Codec) (bytes : List ℕ) (k : ℕ) → AreBytes bytes → FitsBits (depth codec) (sample_at codec bytes k)
+fits_at codec bytes k small = coded_fits (coding_of codec) bytes k small
 
 pub all_fit : (codec : Codec) (bytes : List ℕ) → ((i : ℕ) → get_or bytes i 0 < 256) → All (FitsBits (depth codec)) (samples_of codec bytes)
 all_fit codec bytes small =
     All-map (FitsBits (depth codec)) (sample_at codec bytes) (range_with_len 0 (length bytes / sample_bytes codec)) (λ k d lt. fits_at codec bytes (get_or (range_with_len 0 (length bytes / sample_bytes codec)) k d) small)
 
+turned : (blocks channels size : ℕ) → blocks * (channels * size) ≡ size * (blocks * channels)
+turned blocks channels size = omega arith
+
 -- as many samples as sample frames and channels make
 pub interleaved : (codec : Codec) (n blocks channels count : ℕ) → n ≡ blocks * (channels * sample_bytes codec) → n ≡ sample_bytes codec * count → count ≡ blocks * channels
-interleaved PcmU8 n blocks channels count e f = omega (arith, e, f)
-interleaved PcmS16le n blocks channels count e f = omega (arith, e, f)
-interleaved PcmS24le n blocks channels count e f = omega (arith, e, f)
-interleaved PcmS32le n blocks channels count e f = omega (arith, e, f)
-interleaved Flac n blocks channels count e f = omega (arith, e, f)
-interleaved RawVideo n blocks channels count e f = omega (arith, e, f)
+interleaved codec n blocks channels count e f = sym (count_of codec n count f) ∙ count_of codec n (blocks * channels) (e ∙ turned blocks channels (sample_bytes codec))
+
+-- whole blocks are whole samples
+pub whole_samples : (head : StreamHead) (given bytes : List ℕ) (codec : Codec) (size : ℕ) → codec ≡ codec_of head → bytes ≡ given → size ≡ sample_bytes codec → HasBlocks head given
+    → length bytes ≡ sample_bytes codec * (length bytes / size)
+whole_samples head given bytes codec size ek es e b =
+    let P : Codec → Type 0 = λ k. length bytes ≡ sample_bytes k * (b.blocks * channels_of head) in
+    let whole : length bytes ≡ sample_bytes codec * (b.blocks * channels_of head) =
+    subst P (sym ek) (ap (λ (l : List ℕ). length l) es ∙ (b.whole_blocks ∙ turned b.blocks (channels_of head) (sample_bytes (codec_of head)))) in
+    let over : length bytes / size ≡ b.blocks * channels_of head = ap (λ (n : ℕ). length bytes / n) e ∙ count_of codec (length bytes) (b.blocks * channels_of head) whole in
+    whole ∙ ap (λ (n : ℕ). sample_bytes codec * n) (sym over)
 
 few_bits_of : (codec : Codec) → (4 ≤ depth codec) × (depth codec ≤ 32)
-few_bits_of PcmU8 = (omega arith, omega arith)
-few_bits_of PcmS16le = (omega arith, omega arith)
-few_bits_of PcmS24le = (omega arith, omega arith)
-few_bits_of PcmS32le = (omega arith, omega arith)
-few_bits_of Flac = (omega arith, omega arith)
-few_bits_of RawVideo = (omega arith, omega arith)
+few_bits_of codec = let few = few_sample_bytes codec in (omega (arith, few.0), omega (arith, few.1))
 
 pub stand_samples : (codec : Codec) (bytes : List ℕ) (xs : List ℤ) → StandFor codec bytes xs → xs ≡ samples_of codec bytes
 stand_samples codec bytes xs s = are_samples codec bytes xs s.size s.each
@@ -133,58 +133,30 @@ framed head p frame ep er eb ec s =
 
 -- ---- the samples tell the bytes
 
-signed_apart_16 : (m n : ℕ) → m < 2 ^ 16 → n < 2 ^ 16 → signed 16 m ≡ signed 16 n → m ≡ n
-signed_apart_16 m n lm ln e = grind (arith, ints)
+turned_below : (count size i : ℕ) → i < size * count → i < count * size
+turned_below count size i lt = omega (arith, lt)
 
-signed_apart_24 : (m n : ℕ) → m < 2 ^ 24 → n < 2 ^ 24 → signed 24 m ≡ signed 24 n → m ≡ n
-signed_apart_24 m n lm ln e = grind (arith, ints)
+-- samples of a depth tell the numbers, and these their bytes
+byte_in : (bits : PcmDepth) (sign : Bool) (order : ByteOrder) (a b : List ℕ) (i count : ℕ) → AreBytes a → AreBytes b → i < depth_bytes bits * count
+    → ((k : ℕ) → k < count → sample_in bits sign order a k ≡ sample_in bits sign order b k) → get_or a i 0 ≡ get_or b i 0
+byte_in bits sign order a b i count sa sb lt same =
+    let size = depth_bytes bits in
+    let some : 0 < size = omega (arith, some_bits bits) in
+    let k = i / size in
+    let P : ℕ → Type 0 = λ j. get_or a j 0 ≡ get_or b j 0 in
+    let below : k < count = div_below i size count some (turned_below count size i lt) in
+    let number : number_in order size (size * k) a ≡ number_in order size (size * k) b =
+    value_apart (8 * size) (some_bits bits) sign _ _ (number_fits bits order (size * k) a sa) (number_fits bits order (size * k) b sb) (same k below) in
+    subst P (div-add-mod i size) (number_apart order size (size * k) a b sa sb number (i % size) (mod-lt i some))
 
-signed_apart_32 : (m n : ℕ) → m < 2 ^ 32 → n < 2 ^ 32 → signed 32 m ≡ signed 32 n → m ≡ n
-signed_apart_32 m n lm ln e = grind (arith, ints)
+byte_of : (coding : Coding) (a b : List ℕ) (i count : ℕ) → IsPcmCoding coding → AreBytes a → AreBytes b → i < coding_bytes coding * count
+    → ((k : ℕ) → k < count → coded_sample coding a k ≡ coded_sample coding b k) → get_or a i 0 ≡ get_or b i 0
+byte_of (Pcm form) a b i count h sa sb lt same = byte_in form.depth form.signed form.order a b i count sa sb lt same
+byte_of Flac a b i count h sa sb lt same = absurd h
+byte_of RawVideo a b i count h sa sb lt same = absurd h
 
-middle_apart : (m n : ℕ) → pos m -ℤ pos 128 ≡ pos n -ℤ pos 128 → m ≡ n
-middle_apart m n e = omega (arith, ints)
-
-abbrev pub AreBytes : List ℕ → Type 0
-AreBytes bytes = (i : ℕ) → get_or bytes i 0 < 256
-
-digit_apart : (x y m n : ℕ) → x < 256 → y < 256 → x + 256 * m ≡ y + 256 * n → (x ≡ y) × (m ≡ n)
-digit_apart x y m n lx ly e = (omega arith, omega arith)
-
--- a number of so many bytes tells each of them
-number_apart : (count place : ℕ) (a b : List ℕ) → AreBytes a → AreBytes b → number count place a ≡ number count place b → (r : ℕ) → r < count → get_or a (place + r) 0 ≡ get_or b (place + r) 0
-number_apart zero place a b sa sb e r lt = absurd (omega arith)
-number_apart (suc count) place a b sa sb e zero lt =
-    let f : place + 0 ≡ place = omega arith in
-    rw f ((digit_apart (get_or a place 0) (get_or b place 0) (number count (place + 1) a) (number count (place + 1) b) (sa place) (sb place) e).0)
-number_apart (suc count) place a b sa sb e (suc r) lt =
-    let f : place + suc r ≡ (place + 1) + r = omega arith in
-    let g = (digit_apart (get_or a place 0) (get_or b place 0) (number count (place + 1) a) (number count (place + 1) b) (sa place) (sb place) e).1 in
-    rw f (number_apart count (place + 1) a b sa sb g r (omega arith))
-
--- so do the samples
 byte_same : (codec : Codec) (a b : List ℕ) (i count : ℕ) → IsPcmCodec codec → AreBytes a → AreBytes b → i < sample_bytes codec * count → ((k : ℕ) → k < count → sample_at codec a k ≡ sample_at codec b k) → get_or a i 0 ≡ get_or b i 0
-byte_same PcmU8 a b i count h sa sb lt same = let f = middle_apart (number 1 i a) (number 1 i b) (same i (omega arith)) in omega (arith, f)
-byte_same PcmS16le a b i count h sa sb lt same =
-    let k = i / 2 in
-    let P : ℕ → Type 0 = λ j. get_or a j 0 ≡ get_or b j 0 in
-    let here : 2 * k + i % 2 ≡ i = omega arith in
-    let below : (x : List ℕ) → AreBytes x → number 2 (2 * k) x < 2 ^ 16 = λ x s. omega (arith, s (2 * k), s (2 * k + 1)) in
-    subst P here (number_apart 2 (2 * k) a b sa sb (signed_apart_16 _ _ (below a sa) (below b sb) (same k (omega arith))) (i % 2) (omega arith))
-byte_same PcmS24le a b i count h sa sb lt same =
-    let k = i / 3 in
-    let P : ℕ → Type 0 = λ j. get_or a j 0 ≡ get_or b j 0 in
-    let here : 3 * k + i % 3 ≡ i = omega arith in
-    let below : (x : List ℕ) → AreBytes x → number 3 (3 * k) x < 2 ^ 24 = λ x s. omega (arith, s (3 * k), s (3 * k + 1), s (3 * k + 1 + 1)) in
-    subst P here (number_apart 3 (3 * k) a b sa sb (signed_apart_24 _ _ (below a sa) (below b sb) (same k (omega arith))) (i % 3) (omega arith))
-byte_same PcmS32le a b i count h sa sb lt same =
-    let k = i / 4 in
-    let P : ℕ → Type 0 = λ j. get_or a j 0 ≡ get_or b j 0 in
-    let here : 4 * k + i % 4 ≡ i = omega arith in
-    let below : (x : List ℕ) → AreBytes x → number 4 (4 * k) x < 2 ^ 32 = λ x s. omega (arith, s (4 * k), s (4 * k + 1), s (4 * k + 1 + 1), s (4 * k + 1 + 1 + 1)) in
-    subst P here (number_apart 4 (4 * k) a b sa sb (signed_apart_32 _ _ (below a sa) (below b sb) (same k (omega arith))) (i % 4) (omega arith))
-byte_same Flac a b i count h sa sb lt same = absurd h
-byte_same RawVideo a b i count h sa sb lt same = absurd h
+byte_same codec a b i count h sa sb lt same = byte_of (coding_of codec) a b i count h sa sb lt same
 
 pub are_bytes : (xs : List ℕ) → All (λ x. x < 256) xs → AreBytes xs
 are_bytes [] h i = omega arith

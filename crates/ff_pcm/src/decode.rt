@@ -1,48 +1,40 @@
 ghost use Rattle.std.specs.Prelude.{◌≡◌, ◌*◌, ◌<◌, ℕ, All, length, IfOk, pos, slice_index_or};
 ghost use Rattle.ff_frame.specs.Audio.{FitsBits};
 ghost use Rattle.ff_frame.specs.Heads.{IsFrameOf, IsSoundHead};
-ghost use Rattle.ff_frame.specs.Codecs.{IsPcmCodec, sample_bytes};
-ghost use Rattle.ff_frame.specs.declared.head.Codec.TheVariants.{PcmU8, PcmS16le, PcmS24le, PcmS32le};
+ghost use Rattle.ff_frame.specs.Codecs.{IsPcmCodec, coding_of, depth_bytes, sample_bytes};
+ghost use Rattle.ff_frame.specs.declared.coding.Coding.TheVariants.{Pcm};
 ghost use Rattle.ff_pcm.specs.Frames.{rate_of, channels_of, bits_of, codec_of, IsPcmHead, HasBlocks, frame_of};
-ghost use Rattle.ff_pcm.specs.Samples.{depth, sample_at, StandFor};
+ghost use Rattle.ff_pcm.specs.Samples.{depth, sample_at, sample_in, StandFor};
 
-use crate::values::{number_2, number_3, number_4, signed_16, signed_24, signed_32};
-use ff_frame::{AFrame, Codec, Pkt, Samples, StreamHead};
+use crate::endian::{Big, Endian, Little};
+use crate::sample::{
+    Sample, Signed8, Signed16, Signed24, Signed32, Unsigned8, Unsigned16, Unsigned24, Unsigned32,
+};
+use ff_frame::{AFrame, ByteOrder, Codec, Coding, PcmDepth, PcmForm, Pkt, Samples, StreamHead};
 use std::alloc::{AllocError, Global};
 
-fn decode_8(bytes: &[u8], samples: &mut [i32])
-    requires { length bytes.now ≡ length samples.old }
-    ensures { (k : ℕ) → k < length samples.new → slice_index_or samples.new k (pos 0) ≡ sample_at PcmU8 bytes.now k }
+fn decode_all<S: Sample, E: Endian>(bytes: &[u8], samples: &mut [i32])
+    requires { length bytes.now ≡ depth_bytes S.bits * length samples.old }
+    ensures { (k : ℕ) → k < length samples.new → slice_index_or samples.new k (pos 0) ≡ sample_in S.bits S.sign E.order bytes.now k }
 {
     for i in 0..samples.len() {
-        samples[i] = bytes[i] as i32 - 128;
+        samples[i] = S::read::<E>(bytes, i);
     }
 }
 
-fn decode_16(bytes: &[u8], samples: &mut [i32])
-    requires { length bytes.now ≡ 2 * length samples.old }
-    ensures { (k : ℕ) → k < length samples.new → slice_index_or samples.new k (pos 0) ≡ sample_at PcmS16le bytes.now k }
+fn decode_in<E: Endian>(depth: PcmDepth, signed: bool, bytes: &[u8], samples: &mut [i32])
+    requires { length bytes.now ≡ depth_bytes depth * length samples.old }
+    ensures { (k : ℕ) → k < length samples.new → slice_index_or samples.new k (pos 0) ≡ sample_in depth signed E.order bytes.now k }
 {
-    for i in 0..samples.len() {
-        samples[i] = signed_16(number_2(bytes, 2 * i));
-    }
-}
-
-fn decode_24(bytes: &[u8], samples: &mut [i32])
-    requires { length bytes.now ≡ 3 * length samples.old }
-    ensures { (k : ℕ) → k < length samples.new → slice_index_or samples.new k (pos 0) ≡ sample_at PcmS24le bytes.now k }
-{
-    for i in 0..samples.len() {
-        samples[i] = signed_24(number_3(bytes, 3 * i));
-    }
-}
-
-fn decode_32(bytes: &[u8], samples: &mut [i32])
-    requires { length bytes.now ≡ 4 * length samples.old }
-    ensures { (k : ℕ) → k < length samples.new → slice_index_or samples.new k (pos 0) ≡ sample_at PcmS32le bytes.now k }
-{
-    for i in 0..samples.len() {
-        samples[i] = signed_32(number_4(bytes, 4 * i));
+    match (depth, signed) {
+        (PcmDepth::Bits8, true) => decode_all::<Signed8, E>(bytes, samples),
+        (PcmDepth::Bits8, false) => decode_all::<Unsigned8, E>(bytes, samples),
+        (PcmDepth::Bits16, true) => decode_all::<Signed16, E>(bytes, samples),
+        (PcmDepth::Bits16, false) => decode_all::<Unsigned16, E>(bytes, samples),
+        (PcmDepth::Bits24, true) => decode_all::<Signed24, E>(bytes, samples),
+        (PcmDepth::Bits24, false) => decode_all::<Unsigned24, E>(bytes, samples),
+        (PcmDepth::Bits32, true) => decode_all::<Signed32, E>(bytes, samples),
+        (PcmDepth::Bits32, false) => decode_all::<Unsigned32, E>(bytes, samples),
     }
 }
 
@@ -51,12 +43,10 @@ fn decode_into(codec: Codec, bytes: &[u8], samples: &mut [i32])
     requires size { length bytes.now ≡ sample_bytes codec * length samples.old }
     ensures { (k : ℕ) → k < length samples.new → slice_index_or samples.new k (pos 0) ≡ sample_at codec bytes.now k }
 {
-    match codec {
-        Codec::PcmU8 => decode_8(bytes, samples),
-        Codec::PcmS16le => decode_16(bytes, samples),
-        Codec::PcmS24le => decode_24(bytes, samples),
-        Codec::PcmS32le => decode_32(bytes, samples),
-        Codec::Flac | Codec::RawVideo => unreachable!(),
+    let form = form_of(codec);
+    match form.order {
+        ByteOrder::LittleEndian => decode_in::<Little>(form.depth, form.signed, bytes, samples),
+        ByteOrder::BigEndian => decode_in::<Big>(form.depth, form.signed, bytes, samples),
     }
 }
 
@@ -67,18 +57,23 @@ fn silence(alloc: Global, count: usize) -> Result<Vec<i32>, AllocError>
     vec![in alloc; 0; count]
 }
 
+// How a PCM codec writes a sample.
+pub(crate) fn form_of(codec: Codec) -> PcmForm
+    requires { IsPcmCodec codec }
+    ensures { coding_of codec ≡ Pcm result }
+{
+    match codec.coding() {
+        Coding::Pcm(form) => form,
+        Coding::Flac | Coding::RawVideo => unreachable!(),
+    }
+}
+
 // The bytes of one sample.
 pub(crate) fn size_of_sample(codec: Codec) -> usize
     requires { IsPcmCodec codec }
     ensures { result ≡ sample_bytes codec }
 {
-    match codec {
-        Codec::PcmU8 => 1,
-        Codec::PcmS16le => 2,
-        Codec::PcmS24le => 3,
-        Codec::PcmS32le => 4,
-        Codec::Flac | Codec::RawVideo => unreachable!(),
-    }
+    form_of(codec).depth.bytes()
 }
 
 /// The bits of a PCM codec's samples.
@@ -86,13 +81,7 @@ pub fn depth_of(codec: Codec) -> u8
     requires { IsPcmCodec codec }
     ensures { result ≡ depth codec }
 {
-    match codec {
-        Codec::PcmU8 => 8,
-        Codec::PcmS16le => 16,
-        Codec::PcmS24le => 24,
-        Codec::PcmS32le => 32,
-        Codec::Flac | Codec::RawVideo => unreachable!(),
-    }
+    form_of(codec).depth.bits()
 }
 
 fn decoded(alloc: Global, codec: Codec, bytes: &[u8], count: usize) -> Result<Samples, AllocError>

@@ -1,58 +1,41 @@
-ghost use Rattle.std.specs.Prelude.{◌≡◌, ◌*◌, ◌<◌, ℕ, All, length, IfOk, pos, ◌-ℤ◌, slice_index_or};
+ghost use Rattle.std.specs.Prelude.{◌≡◌, ◌*◌, ◌<◌, ℕ, All, length, IfOk, pos, slice_index_or};
 ghost use Rattle.ff_frame.specs.Audio.{FitsBits, IsAudio};
-ghost use Rattle.ff_frame.specs.Codecs.{IsPcmCodec, sample_bytes};
-ghost use Rattle.ff_frame.specs.declared.head.Codec.TheVariants.{PcmU8, PcmS16le, PcmS24le, PcmS32le};
+ghost use Rattle.ff_frame.specs.Codecs.{IsPcmCodec, depth_bytes, sample_bytes};
 ghost use Rattle.ff_pcm.specs.Bytes.{bytes_of};
-ghost use Rattle.ff_pcm.specs.Samples.{sample_at, depth, StandFor};
+ghost use Rattle.ff_pcm.specs.Samples.{depth, sample_at, sample_in, StandFor};
 
-use crate::decode::size_of_sample;
-use crate::values::{put_2, put_3, put_4, unsigned_16, unsigned_24, unsigned_32};
-use ff_frame::{AFrame, Codec};
+use crate::decode::{form_of, size_of_sample};
+use crate::endian::{Big, Endian, Little};
+use crate::sample::{
+    Sample, Signed8, Signed16, Signed24, Signed32, Unsigned8, Unsigned16, Unsigned24, Unsigned32,
+};
+use ff_frame::{AFrame, ByteOrder, Codec, PcmDepth};
 use std::alloc::{AllocError, Global};
 
-fn byte_of(sample: i32) -> u8
-    requires { FitsBits 8 sample }
-    ensures { sample ≡ pos result -ℤ pos 128 }
-{
-    (sample + 128) as u8
-}
-
-fn encode_8(samples: &[i32], bytes: &mut [u8])
-    requires size { length bytes.old ≡ length samples.now }
-    requires fits { All (FitsBits 8) samples.now }
-    ensures { (k : ℕ) → k < length samples.now → slice_index_or samples.now k (pos 0) ≡ sample_at PcmU8 bytes.new k }
+fn encode_all<S: Sample, E: Endian>(samples: &[i32], bytes: &mut [u8])
+    requires size { length bytes.old ≡ depth_bytes S.bits * length samples.now }
+    requires fits { All (FitsBits (8 * depth_bytes S.bits)) samples.now }
+    ensures { (k : ℕ) → k < length samples.now → slice_index_or samples.now k (pos 0) ≡ sample_in S.bits S.sign E.order bytes.new k }
 {
     for i in 0..samples.len() {
-        bytes[i] = byte_of(samples[i]);
+        S::write::<E>(bytes, i, samples[i]);
     }
 }
 
-fn encode_16(samples: &[i32], bytes: &mut [u8])
-    requires size { length bytes.old ≡ 2 * length samples.now }
-    requires fits { All (FitsBits 16) samples.now }
-    ensures { (k : ℕ) → k < length samples.now → slice_index_or samples.now k (pos 0) ≡ sample_at PcmS16le bytes.new k }
+fn encode_in<E: Endian>(depth: PcmDepth, signed: bool, samples: &[i32], bytes: &mut [u8])
+    requires size { length bytes.old ≡ depth_bytes depth * length samples.now }
+    requires fits { All (FitsBits (8 * depth_bytes depth)) samples.now }
+    ensures { (k : ℕ) → k < length samples.now → slice_index_or samples.now k (pos 0) ≡ sample_in depth signed E.order bytes.new k }
 {
-    for i in 0..samples.len() {
-        put_2(bytes, 2 * i, unsigned_16(samples[i]));
-    }
-}
-
-fn encode_24(samples: &[i32], bytes: &mut [u8])
-    requires size { length bytes.old ≡ 3 * length samples.now }
-    requires fits { All (FitsBits 24) samples.now }
-    ensures { (k : ℕ) → k < length samples.now → slice_index_or samples.now k (pos 0) ≡ sample_at PcmS24le bytes.new k }
-{
-    for i in 0..samples.len() {
-        put_3(bytes, 3 * i, unsigned_24(samples[i]));
-    }
-}
-
-fn encode_32(samples: &[i32], bytes: &mut [u8])
-    requires size { length bytes.old ≡ 4 * length samples.now }
-    ensures { (k : ℕ) → k < length samples.now → slice_index_or samples.now k (pos 0) ≡ sample_at PcmS32le bytes.new k }
-{
-    for i in 0..samples.len() {
-        put_4(bytes, 4 * i, unsigned_32(samples[i]));
+    match (depth, signed) {
+        (PcmDepth::Bits8, true) => encode_all::<Signed8, E>(samples, bytes),
+        (PcmDepth::Bits8, false) => encode_all::<Unsigned8, E>(samples, bytes),
+        (PcmDepth::Bits16, true) => encode_all::<Signed16, E>(samples, bytes),
+        (PcmDepth::Bits16, false) => encode_all::<Unsigned16, E>(samples, bytes),
+        (PcmDepth::Bits24, true) => encode_all::<Signed24, E>(samples, bytes),
+        (PcmDepth::Bits24, false) => encode_all::<Unsigned24, E>(samples, bytes),
+        (PcmDepth::Bits32, true) => encode_all::<Signed32, E>(samples, bytes),
+        (PcmDepth::Bits32, false) => encode_all::<Unsigned32, E>(samples, bytes),
     }
 }
 
@@ -62,12 +45,10 @@ fn encode_into(codec: Codec, samples: &[i32], bytes: &mut [u8])
     requires fits { All (FitsBits (depth codec)) samples.now }
     ensures { (k : ℕ) → k < length samples.now → slice_index_or samples.now k (pos 0) ≡ sample_at codec bytes.new k }
 {
-    match codec {
-        Codec::PcmU8 => encode_8(samples, bytes),
-        Codec::PcmS16le => encode_16(samples, bytes),
-        Codec::PcmS24le => encode_24(samples, bytes),
-        Codec::PcmS32le => encode_32(samples, bytes),
-        Codec::Flac | Codec::RawVideo => unreachable!(),
+    let form = form_of(codec);
+    match form.order {
+        ByteOrder::LittleEndian => encode_in::<Little>(form.depth, form.signed, samples, bytes),
+        ByteOrder::BigEndian => encode_in::<Big>(form.depth, form.signed, samples, bytes),
     }
 }
 

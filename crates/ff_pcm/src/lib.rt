@@ -1,16 +1,19 @@
 //! Linear PCM and raw video: from the bytes of packets to samples and back, and samples of other depths.
 //!
-//! Bytes of 8 bits are unsigned with the middle 128; those of 16, 24 and 32 bits are signed with the lowest byte
-//! first. `specs/Samples` says by place value which samples some bytes stand for; decoding and encoding are the two
-//! directions of that one relation. A packet of raw video is the planes of one frame as they stand (`specs/Raw`).
+//! Samples of 8, 16, 24 or 32 bits are signed or not, in either order of bytes, as the row of their codec says.
+//! `specs/Samples` says by place value which samples some bytes stand for; decoding and encoding are the two directions
+//! of that one relation. A packet of raw video is the planes of one frame as they stand (`specs/Raw`).
 #![tactic(auto)]
 
 mod decode;
 mod depth;
 mod encode;
+mod endian;
 mod fits;
 mod laws;
+mod numbers;
 mod raw;
+mod sample;
 mod values;
 
 pub use decode::{depth_of, pcm_decode};

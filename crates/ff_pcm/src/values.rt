@@ -1,30 +1,19 @@
-// One sample and its bytes.
-ghost use Rattle.std.specs.Prelude.{◌≡◌, ◌+◌, ◌*◌, ◌<◌, ◌≤◌, ◌^◌, ◌⊎◌, ℕ, length, slice_index, pos, ◌-ℤ◌};
+// One sample and its number.
+ghost use Rattle.std.specs.Prelude.{◌≡◌, ◌<◌, ◌^◌, true, false};
 ghost use Rattle.ff_frame.specs.Audio.{FitsBits};
 ghost use Rattle.ff_bits.specs.Integers.{signed};
-ghost use Rattle.ff_pcm.specs.Samples.{number};
+ghost use Rattle.ff_pcm.specs.Samples.{value_of};
 
-pub(crate) fn number_2(bytes: &[u8], place: usize) -> u32
-    requires { place + 2 ≤ length bytes.now }
-    ensures value { result ≡ number 2 place bytes.now }
-    ensures few { result < 2 ^ 16 }
+// Two's complement of a number of 8 bits.
+pub(crate) fn signed_8(n: u32) -> i32
+    requires { n < 2 ^ 8 }
+    ensures value { result ≡ signed 8 n }
 {
-    bytes[place] as u32 + 256 * bytes[place + 1] as u32
-}
-
-pub(crate) fn number_3(bytes: &[u8], place: usize) -> u32
-    requires { place + 3 ≤ length bytes.now }
-    ensures value { result ≡ number 3 place bytes.now }
-    ensures few { result < 2 ^ 24 }
-{
-    bytes[place] as u32 + 256 * bytes[place + 1] as u32 + 65536 * bytes[place + 2] as u32
-}
-
-pub(crate) fn number_4(bytes: &[u8], place: usize) -> u32
-    requires { place + 4 ≤ length bytes.now }
-    ensures { result ≡ number 4 place bytes.now }
-{
-    number_3(bytes, place) + 16777216 * bytes[place + 3] as u32
+    if n < 1 << 7 {
+        n as i32
+    } else {
+        n as i32 - (1 << 8)
+    }
 }
 
 // Two's complement of a number of 16 bits.
@@ -56,6 +45,19 @@ pub(crate) fn signed_32(n: u32) -> i32
     ensures value { result ≡ signed 32 n }
 {
     n.cast_signed()
+}
+
+// The number of 8 bits whose two's complement is a sample.
+pub(crate) fn unsigned_8(sample: i32) -> u32
+    requires { FitsBits 8 sample }
+    ensures bound { result < 2 ^ 8 }
+    ensures value { signed 8 result ≡ sample }
+{
+    if sample >= 0 {
+        sample as u32
+    } else {
+        (sample + (1 << 8)) as u32
+    }
 }
 
 // The number of 16 bits whose two's complement is a sample.
@@ -91,34 +93,75 @@ pub(crate) fn unsigned_32(sample: i32) -> u32
     sample.cast_unsigned()
 }
 
-// Writes a number into the two bytes at a place.
-pub(crate) fn put_2(bytes: &mut [u8], place: usize, n: u32)
-    requires there { place + 2 ≤ length bytes.old }
-    requires small { n < 2 ^ 16 }
-    ensures here { number 2 place bytes.new ≡ n }
-    ensures others { (i : ℕ) → (i < place) ⊎ (place + 2 ≤ i) → slice_index bytes.new i ≡ slice_index bytes.old i }
+// A number of 8 bits, counted from the middle of its range.
+pub(crate) fn centred_8(n: u32) -> i32
+    requires { n < 2 ^ 8 }
+    ensures { result ≡ value_of false 8 n }
 {
-    bytes[place] = (n % 256) as u8;
-    bytes[place + 1] = (n / 256) as u8;
+    n as i32 - (1 << 7)
 }
 
-// Writes a number into the three bytes at a place.
-pub(crate) fn put_3(bytes: &mut [u8], place: usize, n: u32)
-    requires there { place + 3 ≤ length bytes.old }
-    requires small { n < 2 ^ 24 }
-    ensures here { number 3 place bytes.new ≡ n }
-    ensures others { (i : ℕ) → (i < place) ⊎ (place + 3 ≤ i) → slice_index bytes.new i ≡ slice_index bytes.old i }
+// A number of 16 bits, counted from the middle of its range.
+pub(crate) fn centred_16(n: u32) -> i32
+    requires { n < 2 ^ 16 }
+    ensures { result ≡ value_of false 16 n }
 {
-    bytes[place] = (n % 256) as u8;
-    put_2(bytes, place + 1, n / 256);
+    n as i32 - (1 << 15)
 }
 
-// Writes a number into the four bytes at a place.
-pub(crate) fn put_4(bytes: &mut [u8], place: usize, n: u32)
-    requires there { place + 4 ≤ length bytes.old }
-    ensures here { number 4 place bytes.new ≡ n }
-    ensures others { (i : ℕ) → (i < place) ⊎ (place + 4 ≤ i) → slice_index bytes.new i ≡ slice_index bytes.old i }
+// A number of 24 bits, counted from the middle of its range.
+pub(crate) fn centred_24(n: u32) -> i32
+    requires { n < 2 ^ 24 }
+    ensures { result ≡ value_of false 24 n }
 {
-    bytes[place] = (n % 256) as u8;
-    put_3(bytes, place + 1, n / 256);
+    n as i32 - (1 << 23)
+}
+
+// A number of 32 bits, counted from the middle of its range.
+pub(crate) fn centred_32(n: u32) -> i32
+    ensures { result ≡ value_of false 32 n }
+{
+    if n < 1 << 31 {
+        n as i32 + i32::MIN
+    } else {
+        (n - (1 << 31)) as i32
+    }
+}
+
+// The number of 8 bits that stands as far from the middle of its range as a sample from 0.
+pub(crate) fn from_centre_8(sample: i32) -> u32
+    requires { FitsBits 8 sample }
+    ensures bound { result < 2 ^ 8 }
+    ensures value { value_of false 8 result ≡ sample }
+{
+    (sample + (1 << 7)) as u32
+}
+
+// The number of 16 bits that stands as far from the middle of its range as a sample from 0.
+pub(crate) fn from_centre_16(sample: i32) -> u32
+    requires { FitsBits 16 sample }
+    ensures bound { result < 2 ^ 16 }
+    ensures value { value_of false 16 result ≡ sample }
+{
+    (sample + (1 << 15)) as u32
+}
+
+// The number of 24 bits that stands as far from the middle of its range as a sample from 0.
+pub(crate) fn from_centre_24(sample: i32) -> u32
+    requires { FitsBits 24 sample }
+    ensures bound { result < 2 ^ 24 }
+    ensures value { value_of false 24 result ≡ sample }
+{
+    (sample + (1 << 23)) as u32
+}
+
+// The number of 32 bits that stands as far from the middle of its range as a sample from 0.
+pub(crate) fn from_centre_32(sample: i32) -> u32
+    ensures value { value_of false 32 result ≡ sample }
+{
+    if sample >= 0 {
+        sample as u32 + (1 << 31)
+    } else {
+        (sample - i32::MIN) as u32
+    }
 }

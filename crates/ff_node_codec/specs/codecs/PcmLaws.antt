@@ -14,7 +14,6 @@ use Rattle.ff_frame.specs.PcmLaws.{pcm_packet, packet_pcm}
 use Rattle.ff_frame.specs.Heads.{IsFrameOf, IsSoundHead}
 use Rattle.ff_frame.specs.Codecs.{IsPcmCodec, sample_bytes, IsPcm}
 use Rattle.ff_stream.specs.Lanes.{FitsFrames, FitsPackets}
-use Rattle.ff_pcm.specs.Bytes.{sample_number}
 use Rattle.ff_pcm.specs.Depth.{shifted}
 use Rattle.ff_pcm.specs.Frames.{rate_of, channels_of, bits_of, codec_of, IsPcmHead, HasBlocks, frame_of}
 use Rattle.ff_pcm.specs.Samples.{StandFor, depth}
@@ -87,8 +86,8 @@ counted : (b c m n : ℕ) → n ≡ b * c → m * n ≡ b * (c * m)
 counted b c m n e = ap (λ (k : ℕ). m * k) e ∙ sym (turned b c m)
 
 -- a frame's packet has as many blocks as the frame has sample frames
-frame_packet : (codec : Codec) (rate bits channels : ℕ) (f : AFrame) → IsFrameOf rate bits channels f → IsPcm (channels * sample_bytes codec) (packet_of codec f)
-frame_packet codec rate bits channels f t =
+frame_packet : (codec : Codec) (rate bits channels : ℕ) (f : AFrame) → IsPcmCodec codec → IsFrameOf rate bits channels f → IsPcm (channels * sample_bytes codec) (packet_of codec f)
+frame_packet codec rate bits channels f h t =
     let samples : List ℤ = map (shifted f.bits (depth codec)) f.samples in
     let count : length samples ≡ t.audio.sample_frames * channels =
     length-map f.samples (shifted f.bits (depth codec)) ∙ (t.audio.interleaved ∙ ap (λ (c : ℕ). t.audio.sample_frames * c) t.channels_are) in
@@ -96,7 +95,7 @@ frame_packet codec rate bits channels f t =
       blocks = t.audio.sample_frames;
       some_blocks = t.audio.some_sample_frames;
       few_blocks = t.audio.few_sample_frames;
-      whole_blocks = bytes_length (sample_bytes codec) (sample_number codec) samples ∙ counted t.audio.sample_frames channels (sample_bytes codec) (length samples) count;
+      whole_blocks = bytes_length codec samples h ∙ counted t.audio.sample_frames channels (sample_bytes codec) (length samples) count;
       lasts = ap pos (ap (λ (n : ℕ). n / f.channels) t.audio.interleaved ∙ mul-div_cancel t.audio.sample_frames t.audio.some_channels);
     }
 
@@ -104,7 +103,7 @@ pub pcm_encoded : (codec : Codec) (head : StreamHead) (x : Item) → IsPcmCodec 
     → IsEncoded (coded_head codec head) x (IsSound x) (pcm_packet_of codec x)
 pcm_encoded codec (AudioHead tb rate bits channels from) (Audio f) h s t = record {
   taken = t.audio;
-  made = record { fits = (refl, packet_pcm codec channels (packet_of codec f) h (frame_packet codec rate bits channels f t)); timed = tt; starts = refl; ends = refl };
+  made = record { fits = (refl, packet_pcm codec channels (packet_of codec f) h (frame_packet codec rate bits channels f h t)); timed = tt; starts = refl; ends = refl };
 }
 pcm_encoded codec (AudioHead tb rate bits channels from) (Video f) h s t = absurd t
 pcm_encoded codec (AudioHead tb rate bits channels from) (Packet p) h s t = absurd t

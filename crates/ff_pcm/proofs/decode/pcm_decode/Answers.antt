@@ -6,8 +6,12 @@ use Rattle.ff_frame.specs.Audio.{IsAudio}
 use Rattle.ff_frame.specs.declared.audio.AFrame.{AFrame}
 use Rattle.ff_pcm.specs.Frames.{codec_of}
 use Rattle.ff_pcm.specs.Samples.{StandFor}
-use Rattle.ff_pcm.proofs.SampleLaws.{fields_stand, fields_audio, framed}
+use Rattle.ff_pcm.proofs.SampleLaws.{fields_stand, fields_audio, framed, whole_samples}
 use Rattle.ff_pcm.proofs.decode.pcm_decode.Goals as goal
+
+pub decoded-requires-clause-size : goal.decoded-requires-clause-size
+decoded-requires-clause-size c =
+    whole_samples c.args.head.now c.args.packet.now.bytes c.as_slice-bytes.result.now c.audio_of-rate.result.3 c.size_of_sample.result c.audio_of-rate.ensures.codec c.as_slice-bytes.ensures c.size_of_sample.ensures c.requires.blocks
 
 pub make-requires : goal.make-requires
 make-requires c =
