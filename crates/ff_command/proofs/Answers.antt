@@ -15,7 +15,7 @@ use Rattle.ff_words.specs.declared.error.WordKind.{WordKind}
 use Rattle.ff_words.specs.Words.{fault as wrong_at}
 use Rattle.ff_words.specs.Reading as reading
 use Rattle.ff_words.proofs.Unique.{answer-one}
-use Rattle.ff_input.specs.declared.heads.head.InputHead.{InputHead}
+use Rattle.ff_input.specs.Formats.{InputHead}
 use Rattle.ff_plan_layout.specs.declared.error.PlanError.{PlanError}
 use Rattle.ff_run_plan.specs.declared.fault.RunFault.{RunFault}
 use Rattle.ff_files.specs.Counts.{Counts}

@@ -11,14 +11,14 @@ use Rattle.ff_reader.specs.declared.fault.HeadFault.TheVariants as fault
 use Rattle.ff_words.specs.declared.job.InputJob.{InputJob}
 use Rattle.ff_words.specs.declared.job.OutputJob.{OutputJob}
 use Rattle.ff_words.specs.declared.job.Job.{Job}
-use Rattle.ff_input.specs.declared.heads.head.InputHead.{InputHead}
+use Rattle.ff_input.specs.Formats.{InputHead}
 use Rattle.ff_plan_layout.specs.declared.error.PlanError.{PlanError}
 use Rattle.ff_plan_layout.specs.declared.error.PlanError.TheVariants as why
 use Rattle.ff_run_plan.specs.declared.fault.RunFault.{RunFault}
 use Rattle.ff_run_plan.specs.declared.fault.RunFault.TheVariants as run_fault
 use Rattle.ff_files.specs.Names.{name_at, names_of, KeepsAllBut}
 use Rattle.ff_files.specs.Counts.{Counts, Faulted, KeepsCounts}
-use Rattle.ff_input.specs.heads.Formats.{input_head}
+use Rattle.ff_input.specs.Formats.{input_head}
 use Rattle.ff_files.specs.Works.{Meaning, Command, HoldMeaning, HoldTrace, HoldWritten}
 use Rattle.ff_files.specs.Ends as ends
 use Rattle.ff_files.specs.Ends.{Ends, IsPlanned, IsFirstRefused, HasNoPlan, CanBeDone, refusal, sound_inputs, sound_outputs}

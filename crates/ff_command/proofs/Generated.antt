@@ -12,7 +12,7 @@ use Rattle.ff_words.specs.declared.job.Solo.TheVariants.{SelfRun}
 use Rattle.ff_words.specs.Bounds.{IsBounded}
 use Rattle.ff_words.specs.Words.{written}
 use Rattle.ff_words.proofs.Unique.{answer-one}
-use Rattle.ff_input.specs.declared.heads.head.InputHead.{InputHead}
+use Rattle.ff_input.specs.Formats.{InputHead}
 use Rattle.ff_plan_layout.specs.declared.error.PlanError.{PlanError}
 use Rattle.ff_run_plan.specs.declared.fault.RunFault.{RunFault}
 use Rattle.ff_files.specs.Counts.{Counts}

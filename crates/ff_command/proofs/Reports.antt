@@ -7,7 +7,7 @@ use Rattle.ff_words.specs.declared.error.WordError.TheVariants.{At, NoMemory}
 use Rattle.ff_host.specs.Files.{Files}
 use Rattle.ff_host.specs.declared.host.HostError.{HostError}
 use Rattle.ff_host.specs.declared.host.HostError.TheVariants as host_error
-use Rattle.ff_input.specs.declared.heads.head.InputHead.{InputHead}
+use Rattle.ff_input.specs.Formats.{InputHead}
 use Rattle.ff_plan_layout.specs.declared.error.PlanError.{PlanError}
 use Rattle.ff_run_plan.specs.declared.fault.RunFault.{RunFault}
 use Rattle.ff_words.specs.declared.job.Job.{Job}

@@ -16,8 +16,7 @@ use Rattle.ff_words.specs.declared.job.Solo.{Solo}
 use Rattle.ff_words.specs.declared.job.Solo.TheVariants.{Help, Version, SelfRun}
 use Rattle.ff_words.specs.declared.error.Fault.{Fault}
 use Rattle.ff_words.specs.Words.{IsAnswer, written}
-use Rattle.ff_input.specs.declared.heads.head.InputHead.{InputHead}
-use Rattle.ff_input.specs.heads.Formats.{input_head}
+use Rattle.ff_input.specs.Formats.{InputHead, input_head}
 use Rattle.ff_plan_layout.specs.declared.error.PlanError.{PlanError}
 use Rattle.ff_plan_layout.specs.declared.error.PlanError.TheVariants as why
 use Rattle.ff_run_plan.specs.declared.fault.RunFault.{RunFault}

@@ -14,8 +14,7 @@ use Rattle.ff_words.specs.declared.error.WordError.{WordError}
 use Rattle.ff_words.specs.declared.error.WordError.TheVariants.{At, NoMemory}
 use Rattle.ff_words.specs.Bounds.{IsBounded}
 use Rattle.ff_words.specs.Words.{fault as wrong_at, written}
-use Rattle.ff_input.specs.declared.heads.head.InputHead.{InputHead}
-use Rattle.ff_input.specs.heads.Heads.{IsHead}
+use Rattle.ff_input.specs.Formats.{InputHead, IsHead}
 use Rattle.ff_plan_layout.specs.declared.error.PlanError.{PlanError}
 use Rattle.ff_plan_layout.specs.declared.error.PlanError.TheVariants as why
 use Rattle.ff_run_plan.specs.declared.fault.RunFault.{RunFault}

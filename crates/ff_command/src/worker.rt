@@ -4,7 +4,7 @@ ghost use Rattle.ff_files.specs.Runs.{RunSays};
 ghost use Rattle.ff_files.specs.Works.{Meaning};
 ghost use Rattle.ff_frame.specs.declared.event.Event.{Event};
 ghost use Rattle.ff_sched.specs.Printing.{printed};
-ghost use Rattle.ff_input.specs.declared.heads.head.InputHead.{InputHead};
+ghost use Rattle.ff_input.specs.Formats.{InputHead};
 ghost use Rattle.ff_plan_layout.specs.declared.error.PlanError.{PlanError};
 ghost use Rattle.ff_run_plan.specs.declared.fault.RunFault.{RunFault};
 ghost use Rattle.ff_words.specs.declared.job.Job.{Job};

@@ -1,7 +1,6 @@
 //! The inputs and the outputs of a job: their names, and how the heads of the inputs are read.
-ghost use Rattle.ff_input.specs.heads.Formats.{input_head};
-ghost use Rattle.ff_input.specs.heads.Heads.{IsHead};
-ghost use Rattle.ff_input.specs.heads.Places.{Reached};
+ghost use Rattle.ff_input.specs.Formats.{IsHead, input_head};
+ghost use Rattle.ff_input.specs.Places.{Reached};
 
 use crate::head::InputFile;
 use crate::named::Named;

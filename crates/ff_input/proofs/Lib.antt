@@ -1,2 +1,12 @@
-mod HeadsLemmas
-pub mod PacketsLemmas
+pub mod Among
+pub mod Either
+pub mod FirstWordLaws
+pub mod FlacOpen
+pub mod LineShort
+pub mod OpenAmong
+pub mod OpenSteps
+pub mod PcmOpen
+pub mod Told
+pub mod Walking
+pub mod WordLaws
+pub mod Y4mOpen

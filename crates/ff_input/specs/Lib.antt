@@ -1,2 +1,11 @@
-pub mod heads
-pub mod packets
+pub mod Answers
+pub mod Either
+pub mod FirstWords
+pub mod Formats
+pub mod FlacShapes
+pub mod PcmShapes
+pub mod Places
+pub mod Reading
+pub mod Shapes
+pub mod Streams
+pub mod Y4mShapes

@@ -1,5 +1,5 @@
 -- The laws of the part that gives an input's packets.
-use Rattle.std.specs.Prelude.{◌≡◌, ℕ, zero, suc, ◌+◌, ◌<◌, ◌≤◌, Bool, true, false, cond, List, [], ◌∷◌, ◌++◌, map, length, Option, None, Some, refl}
+use Rattle.std.specs.Prelude.{◌≡◌, ℕ, zero, suc, ◌+◌, ◌<◌, ◌≤◌, Bool, true, false, cond, List, [], ◌∷◌, ◌++◌, map, length, Option, None, Some, refl, drop}
 use Rattle.std.proofs.Common.{sym, subst, ap, ◌∙◌, arith}
 use Rattle.ff_frame.specs.declared.head.StreamHead.{StreamHead}
 use Rattle.ff_stream.specs.declared.item.Lane.{Lane}
@@ -14,7 +14,8 @@ use Rattle.ff_net.specs.Pasts.{Past, due, cut_to}
 use Rattle.ff_net.specs.Ways.{Flow, AreValid}
 use Rattle.ff_reader.specs.Cutters.{Cutter}
 use Rattle.ff_node_demux.specs.Demuxing.{mark_at, damage_at, items_of, break_of, demux_of, is_too_long, fault_in, passes_in_demux, DemuxStands}
-use Rattle.ff_node_demux.specs.DemuxShapes.{IsShaped, demux_valid}
+use Rattle.ff_input.specs.Shapes.{IsShaped}
+use Rattle.ff_node_demux.specs.DemuxShapes.{demux_valid}
 use Rattle.ff_node_demux.specs.Sources.{source_valid, source_keeps, source_monotone, source_calm, source_unbroken, source_given, tried_of, source_tried, source_few, source_units}
 
 module _ {H C : Type 0} (cutter : Cutter H C) where
@@ -64,7 +65,7 @@ module _ {H C : Type 0} (cutter : Cutter H C) (left : Option (List ℕ)) (cut : 
   demux_keeps shaped head e ss v =
       let same : cutter.stream_head d.0 ≡ head = ap (λ (h : H). cutter.stream_head h) (sym d.3.of_head) ∙ e in
       subst (λ (h : StreamHead). AreValid (Packets h ∷ []) (past.task.means ss)) same
-      (source_keeps stream given ended ticket past d.3.sources (Packets (cutter.stream_head d.0)) (demux_valid cutter d.0 file (shaped d.0 file d.3.is_head)) ss v)
+      (source_keeps stream given ended ticket past d.3.sources (Packets (cutter.stream_head d.0)) (demux_valid cutter d.0 file (shaped d.0 (drop (cutter.start d.0) file) d.3.is_head)) ss v)
 
   pub demux_monotone : (meant : List Flow → Type 0) → IsMonotone meant past.task.means
   demux_monotone = source_monotone stream given ended ticket past d.3.sources

@@ -11,11 +11,6 @@ use Rattle.ff_stream.specs.WithinLaws.{within_valid}
 use Rattle.ff_net.specs.Ways.{Flow}
 use Rattle.ff_node_demux.specs.Demuxing.{mark_at, items_of, break_of, demux_of, passes_in_demux, ends_beyond}
 
-module _ {H C : Type 0} (cutter : Cutter H C) where
-  -- of each input with a head the packets are in shape for their lane: what a format owes
-  abbrev pub IsShaped : Type 0
-  IsShaped = (head : H) (file : List ℕ) → cutter.IsHead head → AreInShape (Packets (cutter.stream_head head)) (items_of cutter head file)
-
 module _ {A : Type 0} (weak strong : ℕ → A → Bool) where
   abbrev both : ℕ → A → Bool
   both n x = weak n x || strong n x

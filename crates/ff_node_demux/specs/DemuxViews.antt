@@ -9,7 +9,7 @@ use Rattle.ff_node_demux.specs.declared.demux.Demux.{Demux}
 use Rattle.ff_node_demux.specs.Demuxers.{demux_in_lanes, demux_out_lanes, demux_source, demux_fault, demux_failures, demux_device, demux_holds, demux_reads, demux_spent, demux_stands}
 use Rattle.ff_node_demux.specs.DemuxClaims.{no_input, is_some_source, holds_none}
 use Rattle.ff_node_demux.specs.DemuxLaws.{demux_is_source, demux_fed, demux_keeps, demux_monotone, demux_cause_stays, demux_calm, demux_given, demux_unbroken, demux_caused, demux_ticket_used, demux_tried, demux_units}
-use Rattle.ff_node_demux.specs.DemuxShapes.{IsShaped}
+use Rattle.ff_input.specs.Shapes.{IsShaped}
 use Rattle.ff_node_demux.specs.Exiting.{exits_front}
 
 module _ {S C H : Type 0} {G : Ghosts C H} (left : S → Option (List ℕ)) (named : S → Option (List ℕ)) (failed : S → ℕ) where

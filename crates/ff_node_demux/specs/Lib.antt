@@ -1,5 +1,3 @@
-pub mod AnyReading
-pub mod AnyShapes
 pub mod DemuxClaims
 pub mod DemuxLaws
 pub mod DemuxShapes
@@ -7,8 +5,5 @@ pub mod DemuxViews
 pub mod Demuxers
 pub mod Demuxing
 pub mod Exiting
-pub mod FlacShapes
 pub mod Reading
 pub mod Sources
-pub mod WavShapes
-pub mod Y4mShapes

@@ -1,25 +1,8 @@
 -- What a demuxer reads of its input: only where what it has read leaves the next packet undecided, and then a piece.
-use Rattle.std.specs.Prelude.{◌≡◌, ◌≢◌, ◌⊎◌, ℕ, ◌-◌, ◌≤◌, Bool, false, List, [], ◌++◌, drop, length, slice_get, Option}
+use Rattle.std.specs.Prelude.{◌≡◌, ◌⊎◌, ℕ, ◌-◌, ◌≤◌, Bool, false, List, [], ◌++◌, drop, length, Option}
 use Rattle.std.specs.Io.KnownBytes.{Consumes}
 use Rattle.ff_reader.specs.Cutters.{Cutter}
-
--- the bytes of a piece, where the rest of a packet is no reason for more
-abbrev pub piece_size : ℕ
-piece_size = 65536
-
-module _ {H C : Type 0} (cutter : Cutter H C) where
-  -- These bytes behind the head leave the packet of this number undecided: with some bytes more it is another than if they were all,
-  -- or is one at all. There, and nowhere else, a cut answers NotYet.
-  abbrev pub IsUndecided : H → List ℕ → ℕ → Type 0
-  IsUndecided head fed n = (more : List ℕ) × (slice_get (cutter.demuxed head (fed ++ more)) n ≢ slice_get (cutter.demuxed head fed) n)
-
-  -- whatever a cut was fed and gave, that leaves its next packet undecided
-  abbrev pub LeavesOpen : C → Type 0
-  LeavesOpen cut = (head : H) (fed : List ℕ) (n : ℕ) → cutter.IsHead head → cutter.cuts cut head fed n → IsUndecided head fed n
-
-  -- at most so many bytes are asked for a cut of an input with a head
-  abbrev pub AsksWithin : (C → ℕ) → (H → ℕ) → C → Type 0
-  AsksWithin asks ahead cut = (head : H) (fed : List ℕ) (n : ℕ) → cutter.cuts cut head fed n → asks cut ≤ ahead head
+use Rattle.ff_input.specs.Reading.{IsUndecided}
 
 -- A cut was fed what was read behind the head, of which so many bytes are still to come, and gave so many packets.
 pub record IsFed {H C : Type 0} (cutter : Cutter H C) (cut : C) (skip : ℕ) (head : H) (read : List ℕ) (n : ℕ) : Type 0 where

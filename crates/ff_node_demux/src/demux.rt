@@ -2,13 +2,12 @@ ghost use Rattle.std.specs.Prelude.{◌≡◌, ◌≢◌, ◌+◌, ◌^◌, ◌�
 ghost use Rattle.ff_stream.specs.declared.item.Lane.TheVariants.{Packets};
 ghost use Rattle.ff_net.specs.declared.fault.Fault.TheVariants.{TooLarge};
 
-use crate::demuxable::{Demuxable, PIECE};
 use crate::reading::{ReadEnd, read_more};
 use crate::unit::{Unit, next_unit};
 use ff_flac_dec::FrameSender;
 use ff_frame::{Event, StreamHead, Ticket};
 use ff_host::Source;
-use ff_input::AnyCut;
+use ff_input::{Demuxable, PIECE};
 use ff_net::{Fault, Machine};
 use ff_reader::PacketCut;
 use ff_stream::{Item, Refused};
@@ -135,7 +134,7 @@ impl<S: Source + Drop, C: Demuxable + Drop> Demux<S, C> {
     }
 }
 
-impl<S: Source + Drop> Demux<S, AnyCut> {
+impl<S: Source + Drop, C: Demuxable + Drop> Demux<S, C> {
     ghost use Rattle.std.specs.Prelude.{◌≡◌};
 
     /// Whether it can send frames to a decoder.
@@ -143,7 +142,7 @@ impl<S: Source + Drop> Demux<S, AnyCut> {
         self.cut.sends_frames()
     }
 
-    /// Has it send the frames that it reads from now on to a decoder, where its input is FLAC. It gives what it gave.
+    /// Has it send the frames that it reads from now on to a decoder, if it can. It gives what it gave.
     pub fn send_frames_to(&mut self, sender: FrameSender)
         ensures { self.new ≡ self.old }
     {

@@ -5,11 +5,11 @@ ghost use Rattle.ff_stream.specs.declared.item.Lane.TheVariants.{Packets};
 ghost use Rattle.ff_frame.specs.declared.packet.Pkt.{Pkt};
 ghost use Rattle.ff_reader.specs.Cutters.{GivesPacket, GaveAll};
 ghost use Rattle.ff_node_demux.specs.Demuxing.{passes_in_demux};
-ghost use Rattle.ff_node_demux.specs.Reading.{LeavesOpen, AsksWithin};
+ghost use Rattle.ff_input.specs.Reading.{LeavesOpen, AsksWithin};
 
-use crate::demuxable::Demuxable;
 use crate::limits::is_long;
 use ff_frame::{Cut, Pkt, StreamHead};
+use ff_input::Demuxable;
 use std::alloc::AllocError;
 
 /// What the cut says next.

@@ -4,7 +4,7 @@ use crate::runs::Runs;
 use crate::table::Stop;
 use crate::words::Words;
 use ff_frame::HeadEnd;
-use ff_input::{InputHead, InputWalk, read_input_head};
+use ff_input::{InputHead, InputWalk, OneOf, read_input_head};
 use ff_lists::front;
 use ff_words::FileFormat;
 use std::alloc::Global;
@@ -22,9 +22,9 @@ fn format_of(word: &str) -> Result<Option<FileFormat>, Stop> {
 
 fn show(alloc: Global, head: &InputHead) -> Result<String, Stop> {
     let (name, text) = match head {
-        InputHead::Wav(head) => ("wav", show_wav(alloc, head)?),
-        InputHead::Y4m(head) => ("y4m", show_y4m(alloc, head)?),
-        InputHead::Flac(head) => ("flac", show_flac(alloc, head)?),
+        OneOf::First(head) => ("wav", show_wav(alloc, head)?),
+        OneOf::Other(OneOf::First(head)) => ("y4m", show_y4m(alloc, head)?),
+        OneOf::Other(OneOf::Other(head)) => ("flac", show_flac(alloc, head)?),
     };
     Ok(format!(in alloc; "{name} {text}")?)
 }

@@ -1,6 +1,6 @@
 -- What words ask for has inputs and outputs that plans are made for.
 use Rattle.std.proofs.Common.{List}
-use Rattle.ff_input.specs.declared.heads.head.InputHead.{InputHead}
+use Rattle.ff_input.specs.Formats.{InputHead}
 use Rattle.ff_words.specs.declared.job.Job.{Job}
 use Rattle.ff_run.specs.build.Parts.{all_kinds}
 use Rattle.ff_command.specs.Steps.{AreAllHeads}

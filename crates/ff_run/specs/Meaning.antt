@@ -6,7 +6,7 @@
 -- at its Mux. No queue, no thread, no order of turns and no piece of a file is in it.
 use Rattle.std.specs.Prelude.{ℕ, List, Option}
 use Rattle.ff_frame.specs.declared.event.Event.{Event}
-use Rattle.ff_input.specs.declared.heads.head.InputHead.{InputHead}
+use Rattle.ff_input.specs.Formats.{InputHead}
 use Rattle.ff_plan_layout.specs.declared.error.PlanError.{PlanError}
 use Rattle.ff_words.specs.declared.job.Job.{Job}
 use Rattle.ff_files.specs.Works.{Meaning}

@@ -25,11 +25,11 @@ use Rattle.std.proofs.Math.Seq.{drop-append_seam}
 use Rattle.std.specs.List.{range_with_len}
 use Rattle.std.proofs.Math.Nat.{div-mul-le_self, mul-div_cancel, mul-le-mul_right, zero-mul}
 use Rattle.std.proofs.lemmas.List.{length-take, take-append-le, take_all, take-take}
-use Rattle.ff_wav.specs.declared.head.WavHead.{WavHead}
+use Rattle.ff_pcm_cut.specs.declared.head.PcmHead.{PcmHead as WavHead}
 use Rattle.ff_wav.specs.Heads.{magic, grammar, reading}
-use Rattle.ff_wav.specs.Packets.{IsPcmSound, IsStream, block_of, body, frames, packet_at, packet_count, packets_of, demuxed}
+use Rattle.ff_pcm_cut.specs.Packets.{IsPcmSound, IsStream, block_of, body, frames, packet_at, packet_count, packets_of, demuxed}
 use Rattle.ff_wav.specs.Written.{pad_of, says, HeadersAreRead, FilesAreRead, BodiesAreRead}
-use Rattle.ff_wav.proofs.CutLaws.{piece, made, packet_is}
+use Rattle.ff_pcm_cut.proofs.CutLaws.{piece, made, packet_is}
 use Rattle.ff_wav.specs.HeadLaws.{is_lawful}
 use Rattle.ff_wav.proofs.FormatBytes.{word_32, plain_chunk, plain_length, plain_named, plain_other, plain_size, plain_tag, plain_channels, plain_rate, plain_block, plain_bits, long_chunk, long_length, long_named, long_other, long_size, long_tag, long_kind, long_channels, long_rate, long_block, long_bits}
 

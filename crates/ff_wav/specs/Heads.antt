@@ -4,7 +4,7 @@ use Rattle.ff_frame.specs.declared.head.StreamHead.{StreamHead}
 use Rattle.ff_frame.specs.declared.cut.HeadEnd.{HeadEnd}
 use Rattle.ff_reader.specs.Heads as heads
 use Rattle.ff_reader.specs.Walks as walks
-use Rattle.ff_wav.specs.declared.head.WavHead.{WavHead}
+use Rattle.ff_pcm_cut.specs.declared.head.PcmHead.{PcmHead as WavHead}
 use Rattle.ff_wav.specs.Chunks.{chunk}
 
 -- a head, or the fault for which there is none

@@ -11,7 +11,7 @@ use Rattle.ff_reader.specs.declared.fault.HeadFault.TheVariants.{Damaged, Unsupp
 use Rattle.ff_reader.specs.declared.step.Step.TheVariants.{Wait, Decide}
 use Rattle.ff_wav.specs.Chunks.{ChunkStep, passed, number_16, number_32, codec_of, stream_of, format_of, step_of, fields, tagged, format_chunk, data_chunk, chunk}
 use Rattle.ff_reader.specs.Walks.{head_limit, IsKept, Keeps}
-use Rattle.ff_wav.specs.Packets.{IsHead, IsStream}
+use Rattle.ff_pcm_cut.specs.Packets.{IsHead, IsStream}
 
 GoodResult : Result StreamHead HeadFault → Type 0
 GoodResult (Ok f) = IsStream f

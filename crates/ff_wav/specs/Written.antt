@@ -1,11 +1,11 @@
 -- A whole file as a writer leaves it, and what is read of it.
 use Rattle.std.specs.Prelude.{◌≡◌, ℕ, ◌%◌, ◌==◌, ◌^◌, ◌<◌, ◌≤◌, if◌then◌else◌, List, [], ◌∷◌, ◌++◌, drop, length, Ok}
 use Rattle.ff_frame.specs.declared.head.StreamHead.{StreamHead}
-use Rattle.ff_wav.specs.declared.head.WavHead.{WavHead}
+use Rattle.ff_pcm_cut.specs.declared.head.PcmHead.{PcmHead as WavHead}
 use Rattle.ff_wav.specs.Chunks.{body_len}
 use Rattle.ff_wav.specs.Heads.{head as head_read}
 use Rattle.ff_wav.specs.Header.{header, header_of, header_len, longest}
-use Rattle.ff_wav.specs.Packets.{IsStream, block_of, packets_of, demuxed}
+use Rattle.ff_pcm_cut.specs.Packets.{IsStream, block_of, packets_of, demuxed}
 
 -- one byte 0 behind a body of an odd number of bytes
 abbrev pub pad_of : ℕ → List ℕ

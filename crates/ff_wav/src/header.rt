@@ -4,7 +4,7 @@ ghost use Rattle.ff_frame.specs.Heads.{IsPcmCoded};
 ghost use Rattle.ff_frame.specs.Codecs.{sample_bytes};
 ghost use Rattle.ff_wav.specs.Header.{le_16, le_32, is_plain, mask_of, fields_of, pcm_guid, extension, riff, wave_format, data_id, plain_format, long_format, format_bytes, header, header_len};
 
-use crate::cut::size_of_sample;
+use ff_pcm_cut::size_of_sample;
 use ff_frame::StreamHead;
 use std::alloc::{AllocError, Global};
 

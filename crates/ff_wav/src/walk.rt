@@ -1,5 +1,5 @@
 ghost use Rattle.std.specs.Prelude.{◌≡◌, ◌↔◌, List, ◌++◌, ℕ, false, IfOk, IfSome};
-ghost use Rattle.ff_wav.specs.Packets.{IsHead, IsStream};
+ghost use Rattle.ff_pcm_cut.specs.Packets.{IsHead, IsStream};
 ghost use Rattle.ff_wav.specs.Heads.{grammar as wav_grammar, head, answered, IsOpen};
 ghost use Rattle.ff_wav.specs.HeadLaws.{is_lawful};
 ghost use Rattle.ff_wav.specs.SoundLaws.{is_kept};
@@ -7,6 +7,7 @@ ghost use Rattle.ff_wav.specs.SoundLaws.{is_kept};
 use crate::chunk::chunk_at;
 use crate::head::{ChunkStep, WavHead};
 use ff_frame::{HeadEnd, StreamHead};
+use ff_pcm_cut::PcmCut;
 use ff_reader::{HeadFormat, HeadWalk};
 
 /// What an input begins with: `RIFF`, four bytes that aren't compared, and `WAVE`.
@@ -61,6 +62,9 @@ impl HeadFormat for Wav {
 
 /// How far a head was read: where the next chunk begins, and the stream's head so far.
 pub type WavWalk = HeadWalk<Wav>;
+
+/// The packets of a WAV's body, from pieces of any size.
+pub type WavCut = PcmCut;
 
 /// The head of an input that begins with these bytes, and where `whole` ends with them (RIFF WAVE). The first fault in
 /// the order of reading decides: Unsupported at 0 where the first bytes aren't `RIFF`, a size and `WAVE`, and at a

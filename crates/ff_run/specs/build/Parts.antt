@@ -13,12 +13,10 @@ use Rattle.ff_node_codec.specs.Decoding.{dec_task}
 use Rattle.ff_node_codec.specs.Encoding.{enc_task}
 use Rattle.ff_graph_links.specs.labels.Clear.{IsClear}
 use Rattle.ff_graph.specs.composed.Cuts.{graph_outs, graph_task}
-use Rattle.ff_input.specs.packets.AnyCutters.{any_cutter}
 use Rattle.ff_node_demux.specs.Demuxing.{demux_task}
 use Rattle.ff_node_flac.specs.Coding.{CanCode, coded_head, flac_task}
 use Rattle.ff_graph.specs.Opens.{open_ins}
-use Rattle.ff_input.specs.declared.heads.head.InputHead.{InputHead}
-use Rattle.ff_input.specs.heads.Heads.{IsHead, stream_in}
+use Rattle.ff_input.specs.Formats.{InputHead, IsHead, any_cutter, stream_in}
 use Rattle.ff_lang.specs.declared.graph.Graph.{Graph}
 use Rattle.ff_node_mux.specs.Muxing.{mux_task, unpatched, file, head_bases}
 use Rattle.ff_node_mux.specs.Outputs.{CanWrite, layout_of}

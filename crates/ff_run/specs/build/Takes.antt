@@ -1,7 +1,7 @@
 -- What a head that was read tells of its stream can be decoded, and coded and written as an output takes it.
 use Rattle.std.specs.Prelude.{◌≡◌, ℕ, ◌^◌, ◌<◌, ◌≤◌, ◌&&◌, nat_le, if◌then◌else◌, Bool, true, false, List, [], ◌∷◌, length, map, refl}
 use Rattle.std.specs.List.{AllByRecursion}
-use Rattle.std.proofs.Common.{arith, subst, sym}
+use Rattle.std.proofs.Common.{arith, inl, inr, subst, sym}
 use Rattle.std.proofs.lemmas.Bool.Decides.{nat_tests}
 use Rattle.std.proofs.lemmas.List.{length-map}
 use Rattle.ff_time.specs.Fraction.{Fraction, IsBase, IsBase-unit}
@@ -13,21 +13,18 @@ use Rattle.ff_frame.specs.declared.head.StreamHead.TheVariants.{Audio, Video}
 use Rattle.ff_node_codec.specs.codecs.Choices.{CanDecode, CanDecodeSound}
 use Rattle.ff_flac_dec.specs.Streams.{IsFlacHead, stream_of}
 use Rattle.ff_flac_frame.specs.Frame.{IsStream}
-use Rattle.ff_input.specs.heads.Heads.{IsHead, stream_in}
 use Rattle.ff_plan_rules.specs.Kept.{IsFitHead}
-use Rattle.ff_frame.specs.Heads.{base_of_head}
-use Rattle.ff_input.specs.declared.heads.head.InputHead.{InputHead}
-use Rattle.ff_input.specs.declared.heads.head.InputHead.TheVariants.{Wav, Y4m, Flac}
+use Rattle.ff_input.specs.Formats.{InputHead, IsHead, any_streams, stream_in}
+use Rattle.ff_input.specs.Streams.{IsInputStream, IsPictures}
 use Rattle.ff_map.specs.declared.map.Kind.TheVariants as kind
 use Rattle.ff_mux.specs.FlacHead.{HasRoom}
 use Rattle.ff_node_mux.specs.Outputs.{CanWrite}
 use Rattle.ff_pcm.specs.Frames.{IsPcmHead}
 use Rattle.ff_plan_layout.specs.Streams.{audio_codec, is_pcm, most_streams, packed_as, packed_bits, takes_head, takes_kind, takes_sound}
-use Rattle.ff_wav.specs.Packets as wav
+use Rattle.ff_pcm_cut.specs.Packets as pcm
 use Rattle.ff_words.specs.declared.job.FileFormat.{FileFormat}
 use Rattle.ff_words.specs.declared.job.FileFormat.TheVariants as format
 use Rattle.ff_words.specs.declared.job.OutputJob.{OutputJob}
-use Rattle.ff_y4m.specs.Packets as y4m
 use Rattle.ff_run.specs.build.Parts.{CanEncodeTo, is_flac, is_flac_coded}
 
 pcm_decodes : (head : StreamHead) (c : Codec) → IsPcmCodec c → IsPcmHead head → CanDecodeSound head c
@@ -38,36 +35,39 @@ pcm_decodes head codec.PcmS32le p h = h
 pcm_decodes head codec.Flac p h = absurd p
 pcm_decodes head codec.RawVideo p h = absurd p
 
-wav_decodes : (head : StreamHead) → wav.IsStream head → CanDecode head
-wav_decodes (Audio base rate bits channels coded) h =
+sound_decodes : (head : StreamHead) → pcm.IsStream head → CanDecode head
+sound_decodes (Audio base rate bits channels coded) h =
     pcm_decodes (Audio base rate bits channels coded) coded h.coded
     (record { sound = tt; coded = h.coded; depth_is = h.depth; some_channels = h.some_channels; few_channels = h.few_channels })
-wav_decodes (Video tb format width height sar_num sar_den) h = absurd h
+sound_decodes (Video tb format width height sar_num sar_den) h = absurd h
 
-y4m_decodes : (head : StreamHead) (size : ℕ) → y4m.IsStream head size → CanDecode head
-y4m_decodes (Audio base rate bits channels codec) size h = absurd h
-y4m_decodes (Video tb format width height sar_num sar_den) size h = (h.0, h.1)
+pictures_decode : (head : StreamHead) → IsPictures head → CanDecode head
+pictures_decode (Audio base rate bits channels codec) h = absurd h
+pictures_decode (Video tb format width height sar_num sar_den) h = (h.0, h.1)
 
 flac_decodes : (head : StreamHead) → IsFlacHead head → IsStream (stream_of head) → CanDecode head
 flac_decodes (Audio base rate bits channels coded) h i = subst (λ (c : Codec). CanDecodeSound (Audio base rate bits channels coded) c) (sym h.coded) i
 flac_decodes (Video tb format width height sar_num sar_den) h i = absurd h
 
+stream_decodes : (head : StreamHead) → IsInputStream head → CanDecode head
+stream_decodes head (inl h) = sound_decodes head h
+stream_decodes head (inr (inl h)) = flac_decodes head h.0 h.1
+stream_decodes head (inr (inr h)) = pictures_decode head h
+
 pub heads_decode : (h : InputHead) → IsHead h → CanDecode (stream_in h)
-heads_decode (Wav h) is = wav_decodes h.head is.stream
-heads_decode (Y4m h) is = y4m_decodes h.head h.frame_bytes is.stream
-heads_decode (Flac h) is = flac_decodes h.head is.sound is.stream
+heads_decode h is = stream_decodes (stream_in h) (any_streams h is)
 
 base_of_rate : (tb : Fraction) (rate : ℕ) → tb ≡ record { num = 1; den = rate } → 1 ≤ rate → rate < 2 ^ 31 → IsBase tb
 base_of_rate tb rate ticks some small = subst IsBase (sym ticks) (IsBase-unit rate (omega (arith, some)) small)
 
-wav_fits : (head : StreamHead) → wav.IsStream head → IsFitHead head
-wav_fits (Audio tb rate bits channels coded) h =
+sound_fits : (head : StreamHead) → pcm.IsStream head → IsFitHead head
+sound_fits (Audio tb rate bits channels coded) h =
     record { base = base_of_rate tb rate h.ticks h.some_rate h.small_rate; channels = (h.some_channels, h.few_channels) }
-wav_fits (Video tb format width height sar_num sar_den) h = absurd h
+sound_fits (Video tb format width height sar_num sar_den) h = absurd h
 
-y4m_fits : (head : StreamHead) (size : ℕ) → y4m.IsStream head size → IsBase (base_of_head head) → IsFitHead head
-y4m_fits (Audio base rate bits channels codec) size h b = absurd h
-y4m_fits (Video tb format width height sar_num sar_den) size h b = record { base = b; channels = tt }
+pictures_fit : (head : StreamHead) → IsPictures head → IsFitHead head
+pictures_fit (Audio base rate bits channels codec) h = absurd h
+pictures_fit (Video tb format width height sar_num sar_den) h = record { base = h.2; channels = tt }
 
 flac_fits : (head : StreamHead) → IsFlacHead head → IsStream (stream_of head) → IsFitHead head
 flac_fits (Audio tb rate bits channels coded) h i =
@@ -75,10 +75,13 @@ flac_fits (Audio tb rate bits channels coded) h i =
     record { base = base_of_rate tb rate h.ticks i.rate_low (omega (arith, small)); channels = (i.channels_low, i.channels_high) }
 flac_fits (Video tb format width height sar_num sar_den) h i = absurd h
 
+stream_fits : (head : StreamHead) → IsInputStream head → IsFitHead head
+stream_fits head (inl h) = sound_fits head h
+stream_fits head (inr (inl h)) = flac_fits head h.0 h.1
+stream_fits head (inr (inr h)) = pictures_fit head h
+
 pub heads_fit : (h : InputHead) → IsHead h → IsFitHead (stream_in h)
-heads_fit (Wav h) is = wav_fits h.head is.stream
-heads_fit (Y4m h) is = y4m_fits h.head h.frame_bytes is.stream is.base
-heads_fit (Flac h) is = flac_fits h.head is.sound is.stream
+heads_fit h is = stream_fits (stream_in h) (any_streams h is)
 
 -- FLAC is taken by its own format alone, and with a rate that has 20 bits
 flac_rate : (f : FileFormat) (rate : ℕ) → (takes_kind f kind.Audio && takes_sound f codec.Flac rate) ≡ true → rate < 1048576

@@ -1,4 +1,4 @@
-use Rattle.ff_input.specs.heads.Formats.{input_head}
+use Rattle.ff_input.specs.Formats.{input_head}
 use Rattle.ff_files.proofs.AnswerLaws.{answers_of}
 use Rattle.ff_files.proofs.job.InputJobInputFile.read_head.Goals as goal
 

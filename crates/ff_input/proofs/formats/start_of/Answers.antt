@@ -1,0 +1,19 @@
+use Rattle.std.proofs.Common.{[], refl, lit≤}
+use Rattle.ff_input.specs.Formats.{input_head}
+use Rattle.ff_input.proofs.formats.start_of.Goals as goal
+
+pub returns-in-Wav : goal.returns-in-Wav
+unfolding input_head
+returns-in-Wav c = rw c.in-Wav.is (λ more. refl, ([], [], refl, (lit≤ tt, c.new.ensures)))
+
+pub returns-in-Y4m : goal.returns-in-Y4m
+unfolding input_head
+returns-in-Y4m c = rw c.in-Y4m.is (λ more. refl, ([], [], refl, tt))
+
+pub returns-in-Flac : goal.returns-in-Flac
+unfolding input_head
+returns-in-Flac c = rw c.in-Flac.is (λ more. refl, ([], [], refl, (lit≤ tt, c.new-in-Flac.ensures)))
+
+pub returns-in-FrameHash : goal.returns-in-FrameHash
+unfolding input_head
+returns-in-FrameHash c = rw c.in-FrameHash.is (λ more. refl)

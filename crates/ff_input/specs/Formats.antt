@@ -1,0 +1,101 @@
+-- The formats of inputs, a line for each in each list: its heads, its first words, its cut. By them the head of a whole input: in the
+-- format that was given, or in the one whose first word it has.
+use Rattle.std.specs.Prelude.{ℕ, List, [], ◌∷◌, ◌++◌, map, Option, Some, None, Err}
+use Rattle.ff_frame.specs.declared.head.StreamHead.{StreamHead}
+use Rattle.ff_reader.specs.Cutters.{Cutter}
+use Rattle.ff_reader.specs.Heads as heads
+use Rattle.ff_reader.specs.declared.walk.HeadWalk.{HeadWalk}
+use Rattle.ff_reader.specs.declared.fault.HeadFault.TheVariants.{Unsupported}
+use Rattle.ff_words.specs.declared.job.FileFormat.{FileFormat}
+use Rattle.ff_words.specs.declared.job.FileFormat.TheVariants as format
+use Rattle.ff_pcm_cut.specs.declared.head.PcmHead.{PcmHead}
+use Rattle.ff_pcm_cut.specs.declared.cut.PcmCut.{PcmCut}
+use Rattle.ff_pcm_cut.specs.Cuts.{pcm_cutter}
+use Rattle.ff_wav.specs.Heads as wav
+use Rattle.ff_y4m.specs.declared.head.Y4mHead.{Y4mHead}
+use Rattle.ff_y4m.specs.declared.cut.Y4mCut.{Y4mCut}
+use Rattle.ff_y4m.specs.Cuts.{y4m_cutter}
+use Rattle.ff_y4m.specs.Heads as y4m
+use Rattle.ff_y4m.specs.Lines.{space, line_feed}
+use Rattle.ff_flac_dec.specs.declared.head.FlacHead.{FlacHead}
+use Rattle.ff_flac_dec.specs.declared.cut.FlacCut.{FlacCut}
+use Rattle.ff_flac_dec.specs.Cuts.{flac_cutter}
+use Rattle.ff_flac_dec.specs.Heads as flac
+use Rattle.ff_input.specs.declared.one_of.OneOf.{OneOf}
+use Rattle.ff_input.specs.declared.one_of.OneOf.TheVariants.{First, Other}
+use Rattle.ff_input.specs.Answers.{as_found, either_head, either_reached, units_reached}
+use Rattle.ff_input.specs.Either.{either_cutter}
+use Rattle.ff_input.specs.FirstWords.{Word, named_in}
+use Rattle.ff_input.specs.FlacShapes.{flac_shaped, flac_streams}
+use Rattle.ff_input.specs.PcmShapes.{pcm_shaped, pcm_streams}
+use Rattle.ff_input.specs.Y4mShapes.{y4m_shaped, y4m_streams}
+use Rattle.ff_input.specs.Shapes.{IsShaped, either_shaped}
+use Rattle.ff_input.specs.Streams.{HasStreams, either_streams}
+
+-- ---- a line for each format
+
+-- its head, or the fault for which there is none, in a whole input; others aren't read
+abbrev pub head_in : FileFormat → List ℕ → heads.Found (OneOf PcmHead (OneOf Y4mHead FlacHead))
+head_in format.Wav bs = as_found First (wav.head bs)
+head_in format.Y4m bs = as_found Other (as_found First (y4m.head bs))
+head_in format.Flac bs = as_found Other (as_found Other (flac.head bs))
+head_in format.FrameHash bs = Err (Unsupported 0)
+
+-- what its inputs begin with: `RIFF`, any four bytes and `WAVE`; `YUV4MPEG2` and a space or a line feed; `fLaC`
+abbrev pub first_words : List Word
+first_words =
+    record { word = wav.magic; format = format.Wav }
+    ∷ record { word = map Some (y4m.magic ++ space ∷ []); format = format.Y4m }
+    ∷ record { word = map Some (y4m.magic ++ line_feed ∷ []); format = format.Y4m }
+    ∷ record { word = flac.magic; format = format.Flac }
+    ∷ []
+
+-- of its walk: the head of a whole input, and that it has read this front; over a line, which is read anew, any
+abbrev pub any_head : {A B C : Type 0} → OneOf A (OneOf B C) → List ℕ → heads.Found (OneOf PcmHead (OneOf Y4mHead FlacHead))
+any_head walk = either_head (λ w. wav.head) (either_head (λ w. y4m.head) (λ w. flac.head)) walk
+
+abbrev pub any_reached : {A B C : Type 0} → OneOf (HeadWalk A PcmHead (Option StreamHead)) (OneOf B (HeadWalk C FlacHead (Option StreamHead))) → List ℕ → Type 0
+any_reached walk = either_reached (units_reached wav.grammar) (either_reached (λ w front. Unit {0}) (units_reached flac.grammar)) walk
+
+-- its cut, by which its packets are in shape for their lane, and its stream one that is read
+abbrev pub any_cutter : Cutter (OneOf PcmHead (OneOf Y4mHead FlacHead)) (OneOf PcmCut (OneOf Y4mCut FlacCut))
+any_cutter = either_cutter pcm_cutter (either_cutter y4m_cutter flac_cutter)
+
+pub any_shaped : IsShaped any_cutter
+any_shaped = either_shaped pcm_cutter (either_cutter y4m_cutter flac_cutter) pcm_shaped (either_shaped y4m_cutter flac_cutter y4m_shaped flac_shaped)
+
+pub any_streams : HasStreams any_cutter
+any_streams = either_streams pcm_cutter (either_cutter y4m_cutter flac_cutter) pcm_streams (either_streams y4m_cutter flac_cutter y4m_streams flac_streams)
+
+-- ---- of any
+
+abbrev pub InputHead : Type 0
+InputHead = OneOf PcmHead (OneOf Y4mHead FlacHead)
+
+-- a head, or the fault for which there is none
+abbrev pub Found : Type 0
+Found = heads.Found InputHead
+
+-- what is true of every head that is read, what it says of its one stream, and the heads of its streams, by number
+abbrev pub IsHead : InputHead → Type 0
+IsHead head = any_cutter.IsHead head
+
+abbrev pub stream_in : InputHead → StreamHead
+stream_in head = any_cutter.stream_head head
+
+abbrev pub streams_in : InputHead → List StreamHead
+streams_in head = stream_in head ∷ []
+
+-- the format whose first word an input has
+abbrev pub named : List ℕ → Option FileFormat
+named bs = named_in first_words bs
+
+-- the head of an input in a format, if it has one
+abbrev pub head_by : Option FileFormat → List ℕ → Found
+head_by (Some f) bs = head_in f bs
+head_by None bs = Err (Unsupported 0)
+
+-- the head of an input whose format was given, or is told by its first bytes
+unfoldable pub input_head : Option FileFormat → List ℕ → Found
+input_head (Some f) bs = head_in f bs
+input_head None bs = head_by (named bs) bs

@@ -1,0 +1,34 @@
+-- What is true of the stream of every input: it is linear PCM, FLAC or pictures, whichever format the input has.
+use Rattle.std.specs.Prelude.{◌⊎◌}
+use Rattle.ff_time.specs.Fraction.{IsBase}
+use Rattle.ff_frame.specs.Video.{IsSide}
+use Rattle.ff_frame.specs.declared.head.StreamHead.{StreamHead}
+use Rattle.ff_frame.specs.declared.head.StreamHead.TheVariants.{Audio, Video}
+use Rattle.ff_reader.specs.Cutters.{Cutter}
+use Rattle.ff_pcm_cut.specs.Packets as pcm
+use Rattle.ff_flac_frame.specs.Frame.{IsStream}
+use Rattle.ff_flac_dec.specs.Streams.{IsFlacHead, stream_of}
+use Rattle.ff_input.specs.declared.one_of.OneOf.TheVariants.{First, Other}
+use Rattle.ff_input.specs.Either.{either_cutter}
+
+-- FLAC, as its frames need it
+abbrev pub IsFlac : StreamHead → Type 0
+IsFlac head = IsFlacHead head × IsStream (stream_of head)
+
+-- pictures of 1 to 16,384 columns and rows
+abbrev pub IsPictures : StreamHead → Type 0
+IsPictures (Audio tb rate bits channels codec) = ⊥
+IsPictures (Video tb format width height sar_num sar_den) = IsSide width × IsSide height × IsBase tb
+
+abbrev pub IsInputStream : StreamHead → Type 0
+IsInputStream head = pcm.IsStream head ⊎ (IsFlac head ⊎ IsPictures head)
+
+module _ {H C : Type 0} (cutter : Cutter H C) where
+  -- of each input with a head the stream is such a one: what a format owes
+  abbrev pub HasStreams : Type 0
+  HasStreams = (head : H) → cutter.IsHead head → IsInputStream (cutter.stream_head head)
+
+-- those of two formats are, where those of each are
+pub either_streams : {H K C D : Type 0} (one : Cutter H C) (other : Cutter K D) → HasStreams one → HasStreams other → HasStreams (either_cutter one other)
+either_streams one other a b (First head) h = a head h
+either_streams one other a b (Other head) h = b head h

@@ -1,4 +1,0 @@
-pub mod Heads
-pub mod Formats
-pub mod Answers
-pub mod Places

@@ -1,0 +1,192 @@
+ghost use Rattle.std.specs.Prelude.{◌≡◌, ◌+◌, ◌≤◌, ◌<◌, ◌^◌, ℕ, None, Some, Ok, false, length, OnErr};
+ghost use Rattle.ff_frame.specs.declared.packet.Pkt.{Pkt};
+ghost use Rattle.ff_reader.specs.Cutters.{GivesPacket, GaveAll};
+
+use crate::one_of::OneOf;
+use ff_flac_dec::{FlacCut, FrameSender};
+use ff_frame::Cut;
+use ff_pcm_cut::PcmCut;
+use ff_reader::PacketCut;
+use ff_y4m::Y4mCut;
+use std::alloc::AllocError;
+
+/// An input is read in pieces of at most so many bytes, where the rest of a packet is no reason for more.
+pub const PIECE: usize = 65536;
+
+/// A format whose inputs can be demuxed: of each the packets are in shape for their lane, and more is read only where what was
+/// read leaves the next packet undecided.
+pub trait Demuxable: PacketCut {
+    ghost use Rattle.ff_input.specs.Shapes.{IsShaped};
+    ghost use Rattle.ff_input.specs.Streams.{HasStreams};
+    ghost use Rattle.ff_input.specs.Reading.{LeavesOpen, AsksWithin};
+
+    /// How many bytes are asked for where more are wanted,
+    ghost asks: { Self → ℕ };
+
+    /// and how many at most, of an input with a head.
+    ghost ahead: { Self.Head → ℕ };
+
+    /// How many bytes of its input to ask for where more are wanted.
+    fn piece(&self) -> usize
+        ensures value { result ≡ asks self.now }
+        ensures some { 0 < result };
+
+    /// The next packet, as `pull` gives it. What was given so far ends at or before byte 2^50.
+    fn next_cut(&mut self) -> Result<Cut, AllocError>
+        requires { Self.is.place self.old ≤ 2 ^ 50 }
+        // NotYet comes only where what was fed leaves the next packet undecided,
+        ensures undecided { result ≡ Ok Cut.NotYet → LeavesOpen Self.is self.old }
+        // and there no more is asked for than the format allows.
+        ensures asks { result ≡ Ok Cut.NotYet → AsksWithin Self.is asks ahead self.old }
+        ensures gives { (p : Pkt) → result ≡ Ok (Cut.Pkt p) → GivesPacket Self.is self.old self.new p }
+        ensures ends { result ≡ Ok Cut.End → GaveAll Self.is self.old None }
+        ensures breaks { (offset : ℕ) → result ≡ Ok (Cut.Broken offset) → GaveAll Self.is self.old (Some offset) }
+        ensures not_yet { result ≡ Ok Cut.NotYet → (Self.is.has_ended self.old ≡ false) × (length (Self.is.waiting self.old) < Self.is.longest) }
+        ensures still { result ≡ Ok Cut.NotYet → self.new ≡ self.old }
+        ensures stops { result ≡ Ok Cut.End → self.new ≡ self.old }
+        ensures stays { (offset : ℕ) → result ≡ Ok (Cut.Broken offset) → self.new ≡ self.old }
+        ensures err { OnErr result (self.new ≡ self.old) }
+        ensures ended { Self.is.has_ended self.new ≡ Self.is.has_ended self.old }
+        ensures head { Self.is.head_of self.new ≡ Self.is.head_of self.old }
+        ensures last { (p : Pkt) → result ≡ Ok (Cut.Pkt p) → p.pos + length p.bytes < 2 ^ 64 }
+        ensures place { (p : Pkt) → result ≡ Ok (Cut.Pkt p) → Self.is.place self.new ≤ p.pos + length p.bytes + 2 ^ 30 };
+
+    /// Whether it can send frames to a decoder.
+    fn sends_frames(&self) -> bool;
+
+    /// Has it send the frames that it reads from now on to a decoder, if it can. It gives what it gave.
+    fn send_frames_to(&mut self, sender: FrameSender)
+        ensures { self.new ≡ self.old };
+
+    ghost in_shape: { IsShaped Self.is };
+
+    /// The stream of each head is one that is read.
+    ghost streams: { HasStreams Self.is };
+}
+
+impl Demuxable for PcmCut {
+    ghost use Rattle.ff_input.specs.Reading.{piece_size};
+    ghost use Rattle.ff_input.specs.PcmShapes.{pcm_shaped, pcm_streams};
+
+    ghost asks = { λ cut. piece_size };
+
+    ghost ahead = { λ head. piece_size };
+
+    fn piece(&self) -> usize {
+        PIECE
+    }
+
+    fn next_cut(&mut self) -> Result<Cut, AllocError> {
+        self.pull()
+    }
+
+    fn sends_frames(&self) -> bool {
+        false
+    }
+
+    fn send_frames_to(&mut self, _: FrameSender) {}
+
+    ghost in_shape = { pcm_shaped };
+
+    ghost streams = { pcm_streams };
+}
+
+impl Demuxable for Y4mCut {
+    ghost use Rattle.ff_input.specs.Reading.{piece_size};
+    ghost use Rattle.ff_input.specs.Y4mShapes.{y4m_shaped, y4m_streams};
+
+    ghost asks = { λ cut. piece_size };
+
+    ghost ahead = { λ head. piece_size };
+
+    fn piece(&self) -> usize {
+        PIECE
+    }
+
+    fn next_cut(&mut self) -> Result<Cut, AllocError> {
+        self.pull()
+    }
+
+    fn sends_frames(&self) -> bool {
+        false
+    }
+
+    fn send_frames_to(&mut self, _: FrameSender) {}
+
+    ghost in_shape = { y4m_shaped };
+
+    ghost streams = { y4m_streams };
+}
+
+impl Demuxable for FlacCut {
+    ghost use Rattle.ff_flac_dec.specs.Cuts.{longest_frame};
+    ghost use Rattle.ff_input.specs.FlacShapes.{flac_asks, flac_shaped, flac_streams};
+
+    ghost asks = { flac_asks };
+
+    ghost ahead = { λ head. longest_frame };
+
+    /// As many bytes as wait, where these are more than a piece: so a frame that isn't whole yet is read anew only once it has
+    /// doubled, and not once for each piece.
+    fn piece(&self) -> usize {
+        PIECE.max(self.held() as usize)
+    }
+
+    fn next_cut(&mut self) -> Result<Cut, AllocError> {
+        self.pull()
+    }
+
+    fn sends_frames(&self) -> bool {
+        true
+    }
+
+    fn send_frames_to(&mut self, sender: FrameSender) {
+        FlacCut::send_frames_to(self, sender);
+    }
+
+    ghost in_shape = { flac_shaped };
+
+    ghost streams = { flac_streams };
+}
+
+impl<A: Demuxable, B: Demuxable> Demuxable for OneOf<A, B> {
+    ghost use Rattle.ff_input.specs.Either.{either};
+    ghost use Rattle.ff_input.specs.Shapes.{either_shaped};
+    ghost use Rattle.ff_input.specs.Streams.{either_streams};
+
+    ghost asks = { either A.asks B.asks };
+
+    ghost ahead = { either A.ahead B.ahead };
+
+    fn piece(&self) -> usize {
+        match self {
+            OneOf::First(cut) => cut.piece(),
+            OneOf::Other(cut) => cut.piece(),
+        }
+    }
+
+    fn next_cut(&mut self) -> Result<Cut, AllocError> {
+        match self {
+            OneOf::First(cut) => cut.next_cut(),
+            OneOf::Other(cut) => cut.next_cut(),
+        }
+    }
+
+    fn sends_frames(&self) -> bool {
+        match self {
+            OneOf::First(cut) => cut.sends_frames(),
+            OneOf::Other(cut) => cut.sends_frames(),
+        }
+    }
+
+    fn send_frames_to(&mut self, sender: FrameSender) {
+        match self {
+            OneOf::First(cut) => cut.send_frames_to(sender),
+            OneOf::Other(cut) => cut.send_frames_to(sender),
+        }
+    }
+
+    ghost in_shape = { either_shaped A.is B.is A.in_shape B.in_shape };
+
+    ghost streams = { either_streams A.is B.is A.streams B.streams };
+}

@@ -1,0 +1,64 @@
+ghost use Rattle.std.specs.Prelude.{◌≡◌, [], ◌∷◌};
+ghost use Rattle.ff_reader.specs.Walks.{agrees};
+ghost use Rattle.ff_input.specs.FirstWords.{or_else, told_by};
+
+use ff_words::FileFormat;
+
+/// What the first bytes of an input tell of its format.
+#[derive(Clone, Copy, PartialEq, Eq, Debug)]
+pub(crate) enum FirstWord {
+    /// The first word of this format is there.
+    Named(FileFormat),
+    /// They may go on to one.
+    Open,
+    /// They go on to none.
+    Other,
+}
+
+impl FirstWord {
+    /// What they tell by these words, or else by others.
+    pub(crate) fn or(self, other: FirstWord) -> FirstWord
+        ensures { result ≡ or_else self other }
+    {
+        match self {
+            FirstWord::Named(format) => FirstWord::Named(format),
+            FirstWord::Open => FirstWord::Open,
+            FirstWord::Other => other,
+        }
+    }
+}
+
+fn fits(wanted: Option<u8>, byte: u8) -> bool
+    ensures { result ≡ agrees (wanted ∷ []) (byte ∷ []) }
+{
+    match wanted {
+        Some(n) => byte == n,
+        None => true,
+    }
+}
+
+// Whether the bytes agree with these, as far as both go.
+fn agree(wanted: &[Option<u8>], bytes: &[u8]) -> bool
+    ensures { result ≡ agrees wanted.now bytes.now }
+{
+    let count = bytes.len().min(wanted.len());
+    'bytes: for i in 0..count {
+        if !fits(wanted[i], bytes[i]) {
+            return false;
+        }
+    }
+    true
+}
+
+/// What the bytes tell by a first word of a format.
+pub(crate) fn told_by_word(format: FileFormat, word: &[Option<u8>], bytes: &[u8]) -> FirstWord
+    ensures { result ≡ told_by (record { word = word.now; format = format }) bytes.now }
+{
+    if !agree(word, bytes) {
+        return FirstWord::Other;
+    }
+    if word.len() <= bytes.len() {
+        return FirstWord::Named(format);
+    }
+    FirstWord::Open
+}

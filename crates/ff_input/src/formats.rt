@@ -1,0 +1,98 @@
+// The formats of inputs: a line for each in each list, and in `specs/Formats`.
+ghost use Rattle.std.specs.Prelude.{◌≡◌, ◌≤◌, [], Some, Err, length};
+ghost use Rattle.ff_input.specs.FirstWords.{told};
+ghost use Rattle.ff_input.specs.Formats.{first_words};
+ghost use Rattle.ff_input.specs.Places.{Reached};
+
+use crate::first_word::{FirstWord, told_by_word};
+use crate::head_reader::HeadReader;
+use crate::one_of::OneOf;
+use crate::walk::InputWalk;
+use ff_flac_dec::{Flac, FlacCut, FlacHead, FlacWalk};
+use ff_frame::HeadEnd;
+use ff_reader::HeadFormat;
+use ff_wav::{Wav, WavCut, WavHead, WavWalk};
+use ff_words::FileFormat;
+use ff_y4m::{Y4mCut, Y4mHead, read_head};
+
+/// The head of an input: what comes before its packets, in the format that it has. WAV (RIFF WAVE), YUV4MPEG2 (yuv4mpeg(5)), FLAC
+/// (RFC 9639).
+pub type InputHead = OneOf<WavHead, OneOf<Y4mHead, FlacHead>>;
+
+/// How far the head of an input was read, in the format that it has.
+pub type AnyWalk = OneOf<WavWalk, OneOf<Y4mWalk, FlacWalk>>;
+
+/// The packets of an input in any format that is read, from pieces of any size.
+pub type AnyCut = OneOf<WavCut, OneOf<Y4mCut, FlacCut>>;
+
+/// `YUV4MPEG2` and a space.
+const LINE: [Option<u8>; 10] = [
+    Some(b'Y'),
+    Some(b'U'),
+    Some(b'V'),
+    Some(b'4'),
+    Some(b'M'),
+    Some(b'P'),
+    Some(b'E'),
+    Some(b'G'),
+    Some(b'2'),
+    Some(b' '),
+];
+
+/// `YUV4MPEG2` and a line feed.
+const EMPTY_LINE: [Option<u8>; 10] = [
+    Some(b'Y'),
+    Some(b'U'),
+    Some(b'V'),
+    Some(b'4'),
+    Some(b'M'),
+    Some(b'P'),
+    Some(b'E'),
+    Some(b'G'),
+    Some(b'2'),
+    Some(b'\n'),
+];
+
+/// What the first bytes of an input tell of its format.
+pub(crate) fn told_by_words(bytes: &[u8]) -> FirstWord
+    ensures { result ≡ told first_words bytes.now }
+{
+    let wav = told_by_word(FileFormat::Wav, Wav::magic(), bytes);
+    let line = told_by_word(FileFormat::Y4m, &LINE, bytes);
+    let empty_line = told_by_word(FileFormat::Y4m, &EMPTY_LINE, bytes);
+    let flac = told_by_word(FileFormat::Flac, Flac::magic(), bytes);
+    wav.or(line.or(empty_line.or(flac.or(FirstWord::Other))))
+}
+
+/// Before anything was read of an input in this format.
+pub(crate) fn start_of(format: FileFormat) -> InputWalk
+    ensures { Reached result (Some format) [] }
+{
+    match format {
+        FileFormat::Wav => InputWalk::In(OneOf::First(WavWalk::new())),
+        FileFormat::Y4m => InputWalk::In(OneOf::Other(OneOf::First(Y4mWalk))),
+        FileFormat::Flac => InputWalk::In(OneOf::Other(OneOf::Other(FlacWalk::new()))),
+        FileFormat::FrameHash => InputWalk::Other,
+    }
+}
+
+/// The head of a YUV4MPEG2 is a line, which is short, and so is read anew.
+#[derive(Clone, Copy, Debug)]
+pub struct Y4mWalk;
+
+impl HeadReader for Y4mWalk {
+    ghost use Rattle.ff_y4m.specs.Heads.{head as y4m_head};
+    ghost use Rattle.ff_y4m.specs.Packets.{IsHead as IsY4mHead};
+
+    type Head = Y4mHead;
+
+    ghost head = { λ walk. y4m_head };
+
+    ghost is_sound = { IsY4mHead };
+
+    ghost reached = { λ walk front. Unit {0} };
+
+    fn read(&mut self, bytes: &[u8], whole: bool) -> Result<Y4mHead, HeadEnd> {
+        read_head(bytes, whole)
+    }
+}

@@ -1,7 +1,0 @@
-use Rattle.ff_node_demux.proofs.WavOpen.{wav_open}
-use Rattle.ff_node_demux.proofs.demuxable.WavCutDemuxable.next_cut.Goals as goal
-
-pub returns-clause-undecided : goal.returns-clause-undecided
-returns-clause-undecided c = λ e head fed n is cuts.
-    let u = c.pull.ensures.undecided head fed n cuts e in
-    wav_open head c.args.self.now fed n is cuts (c.pull.ensures.not_yet e).0 u.0 u.1
