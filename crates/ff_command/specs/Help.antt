@@ -1,6 +1,7 @@
 -- What is told of the command itself: the texts that `-h` and `-version` ask for.
 use Rattle.std.specs.Prelude.{ℕ, ◌-◌, Bool, true, false, List, [], ◌∷◌, ◌++◌, length, map, replicate, codes}
 use Rattle.ff_lists.specs.Text.{line}
+use Rattle.ff_frame.specs.Codecs.{codec_name}
 use Rattle.ff_frame.specs.declared.head.Codec.{Codec}
 use Rattle.ff_words.specs.declared.job.FileFormat.{FileFormat}
 use Rattle.ff_words.specs.declared.table.Concern.{Concern}
@@ -96,9 +97,9 @@ abbrev pub format_lines : List (List ℕ × List ℕ × FileFormat × Bool × Bo
 format_lines [] = []
 format_lines (l ∷ list) = format_line l.0 l.3 l.4 ++ format_lines list
 
-abbrev pub codec_lines : List (List ℕ × Codec) → List ℕ
+abbrev pub codec_lines : List Codec → List ℕ
 codec_lines [] = []
-codec_lines (l ∷ list) = line (codes "  " ++ l.0) ++ codec_lines list
+codec_lines (codec ∷ list) = line (codes "  " ++ codec_name codec) ++ codec_lines list
 
 -- ---- the texts
 

@@ -1,7 +1,7 @@
 // What is told of the command itself, from the lists by which its words are read.
 ghost use Rattle.std.specs.Prelude.{◌≡◌, ◌++◌, OnOk, IfOk, ℕ, codes};
 ghost use Rattle.ff_lists.specs.Text.{line};
-ghost use Rattle.ff_words.specs.Table.{lines, formats, codecs, names};
+ghost use Rattle.ff_words.specs.Table.{lines, formats, names};
 ghost use Rattle.ff_command.specs.Help.{left, all_lines, concerned, taken, effect as effect_of, option_line, option_lines, ways, format_line, format_lines};
 ghost use Rattle.ff_command.specs.Help.{codec_lines, help_text, version_text};
 
@@ -237,15 +237,11 @@ fn push_formats(
     Ok(())
 }
 
-fn push_codecs(
-    alloc: Global,
-    out: &mut Vec<u8>,
-    list: &[(&'static str, Codec)],
-) -> Result<(), AllocError>
-    ensures { OnOk result (out.new.items ≡ out.old.items ++ codec_lines (codecs list.now)) }
+fn push_codecs(alloc: Global, out: &mut Vec<u8>, list: &[Codec]) -> Result<(), AllocError>
+    ensures { OnOk result (out.new.items ≡ out.old.items ++ codec_lines list.now) }
 {
-    for (name, _codec) in list.iter() {
-        push_codec(alloc, out, name)?;
+    for codec in list.iter() {
+        push_codec(alloc, out, codec.name())?;
     }
     Ok(())
 }

@@ -8,6 +8,7 @@ use Rattle.ff_lang.specs.declared.graph.Graph.{Graph}
 use Rattle.ff_lang.proofs.Prints.{printed_is}
 use Rattle.ff_lang.specs.Printing.{printed}
 use Rattle.ff_map.specs.declared.map.MapSpec.{MapSpec}
+use Rattle.ff_frame.specs.Codecs.{codec_name}
 use Rattle.ff_frame.specs.declared.head.Codec.{Codec}
 use Rattle.ff_frame.specs.declared.head.Codec.TheVariants as codec
 use Rattle.ff_frame.specs.declared.hash.HashKind.{HashKind}
@@ -25,7 +26,7 @@ use Rattle.ff_words.specs.declared.value.Value.TheVariants as value
 use Rattle.ff_words.specs.Table.{rule_in, option_named, format_named, audio_codec, video_codec}
 use Rattle.ff_words.specs.Values.{Reads, or_bad, format_value, codec_value, hash_value}
 use Rattle.ff_words.specs.Words.{is_dashed}
-use Rattle.ff_words.specs.Options.{options, format_name, codec_name, hash_name}
+use Rattle.ff_words.specs.Options.{options, format_name, hash_name}
 use Rattle.ff_words.specs.Writing.{micros_text, map_text, IsFineMap, IsFineGraph, IsSoundCodec}
 use Rattle.ff_words.proofs.Spellings.{is-duration, is-map}
 
@@ -162,12 +163,8 @@ reads-format f = sym (ap (λ o. or_bad (format_value o)) (format-is f))
 
 audio-is : (c : Codec) → IsSoundCodec c → audio_codec (codec_name c) ≡ Some c
 unfolding audio_codec
-audio-is codec.PcmU8 h = refl
-audio-is codec.PcmS16le h = refl
-audio-is codec.PcmS24le h = refl
-audio-is codec.PcmS32le h = refl
-audio-is codec.Flac h = refl
 audio-is codec.RawVideo h = absurd h
+audio-is other h = refl
 
 pub reads-audio : (c : Codec) → IsSoundCodec c → Reads kind.AudioCodec (codec_name c) (Ok (value.AudioCodec c))
 reads-audio c h = sym (ap (λ o. or_bad (codec_value value.AudioCodec o)) (audio-is c h))

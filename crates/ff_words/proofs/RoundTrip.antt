@@ -11,6 +11,7 @@ use Rattle.ff_lang.specs.declared.graph.Graph.{Graph}
 use Rattle.ff_lang.specs.Printing.{printed}
 use Rattle.ff_map.specs.declared.map.MapSpec.{MapSpec}
 use Rattle.ff_time.specs.declared.cut.TimeCut.{TimeCut}
+use Rattle.ff_frame.specs.Codecs.{codec_name}
 use Rattle.ff_frame.specs.declared.head.Codec.{Codec}
 use Rattle.ff_frame.specs.declared.head.Codec.TheVariants as codec
 use Rattle.ff_frame.specs.declared.hash.HashKind.{HashKind}
@@ -33,7 +34,7 @@ use Rattle.ff_words.specs.declared.value.Micros.{Micros}
 use Rattle.ff_words.specs.declared.value.Value.TheVariants as value
 use Rattle.ff_words.specs.Reading.{pending, reader, place_unless, end_wrong}
 use Rattle.ff_words.specs.Words.{IsAnswer, or_else, cut_of, length_of, fault, bad_at, same_name}
-use Rattle.ff_words.specs.Options.{format_name, codec_name, hash_name}
+use Rattle.ff_words.specs.Options.{format_name, hash_name}
 use Rattle.ff_words.specs.Writing.{given, micros_text, map_text, format_words, start_words, length_words, input_words, map_words, audio_words, video_words, vf_words, af_words, hash_words, where_some, where_true, output_words, graph_words, trace_words, queue_words, job_words, IsFineText, IsFineGraph, IsFineMap, IsReadFormat, IsSoundCodec, WhereSome, IsFineInput, IsFineOutput, IsFineJob, IsFineSolo, IsFineCommand, solo_words, command_words}
 use Rattle.ff_words.proofs.Spellings.{is-number, number-short, micros-short, map-short}
 use Rattle.ff_words.proofs.Known.{readable, line-queue, line-help, line-version, line-self_run, line-trace, line-complex, line-format, line-start, line-length, line-input, line-map, line-audio, line-video, line-vf, line-af, line-no_audio, line-no_video, line-shortest, line-hash, reads-format, reads-audio, reads-video, reads-hash, reads-map, reads-complex, reads-vf, reads-af, reads-start, reads-length}
@@ -104,12 +105,8 @@ in-split : (ws : List Text) (r : Reader) (w : Own) (x y rest : List Text) → In
 in-split ws r w x y rest h = (h.0, goes-by ws ((x ++ y) ++ rest) (x ++ (y ++ rest)) (in_hand r (held None None h.0 w)) (append_assoc x y rest) h.1)
 
 codec-short : (c : Codec) → IsFineText (codec_name c)
-codec-short codec.PcmU8 = omega arith
-codec-short codec.PcmS16le = omega arith
-codec-short codec.PcmS24le = omega arith
-codec-short codec.PcmS32le = omega arith
-codec-short codec.Flac = omega arith
 codec-short codec.RawVideo = omega arith
+codec-short other = omega arith
 
 format-short : (f : FileFormat) → IsFineText (format_name f)
 format-short format.Wav = omega arith

@@ -64,25 +64,12 @@ file_formats =
     (format_name format.FrameHash, [], format.FrameHash, false, true) ∷
     []
 
-abbrev pub codec_name : Codec → List ℕ
-codec_name codec.PcmU8 = codes "pcm_u8"
-codec_name codec.PcmS16le = codes "pcm_s16le"
-codec_name codec.PcmS24le = codes "pcm_s24le"
-codec_name codec.PcmS32le = codes "pcm_s32le"
-codec_name codec.Flac = codes "flac"
-codec_name codec.RawVideo = codes "rawvideo"
+-- the codecs of sound, in the order in which `-h` tells them
+abbrev pub audio_codecs : List Codec
+audio_codecs = codec.PcmU8 ∷ codec.PcmS16le ∷ codec.PcmS24le ∷ codec.PcmS32le ∷ codec.Flac ∷ []
 
-abbrev pub audio_codecs : List (List ℕ × Codec)
-audio_codecs =
-    (codec_name codec.PcmU8, codec.PcmU8) ∷
-    (codec_name codec.PcmS16le, codec.PcmS16le) ∷
-    (codec_name codec.PcmS24le, codec.PcmS24le) ∷
-    (codec_name codec.PcmS32le, codec.PcmS32le) ∷
-    (codec_name codec.Flac, codec.Flac) ∷
-    []
-
-abbrev pub video_codecs : List (List ℕ × Codec)
-video_codecs = (codec_name codec.RawVideo, codec.RawVideo) ∷ []
+abbrev pub video_codecs : List Codec
+video_codecs = codec.RawVideo ∷ []
 
 abbrev pub hash_name : HashKind → List ℕ
 hash_name Sha256 = codes "SHA256"

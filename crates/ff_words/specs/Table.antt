@@ -3,6 +3,7 @@ use Rattle.std.specs.Prelude.{ℕ, Bool, true, false, ◌&&◌, Option, Some, No
 use Rattle.std.specs.List.{ends_with}
 use Rattle.std.specs.Borrow.{Bor}
 use Rattle.std.specs.Str.{bytes_eq}
+use Rattle.ff_frame.specs.Codecs.{codec_name}
 use Rattle.ff_frame.specs.declared.head.Codec.{Codec}
 use Rattle.ff_words.specs.declared.job.FileFormat.{FileFormat}
 use Rattle.ff_words.specs.declared.table.Concern.{Concern}
@@ -40,9 +41,9 @@ unfoldable pub format_ending : List ℕ → Option FileFormat
 format_ending name = ending_in file_formats name
 
 -- the codec of this name
-abbrev pub codec_in : List (List ℕ × Codec) → List ℕ → Option Codec
+abbrev pub codec_in : List Codec → List ℕ → Option Codec
 codec_in [] word = None
-codec_in (line ∷ list) word = if bytes_eq line.0 word then Some line.1 else codec_in list word
+codec_in (codec ∷ list) word = if bytes_eq (codec_name codec) word then Some codec else codec_in list word
 
 unfoldable pub audio_codec : List ℕ → Option Codec
 audio_codec word = codec_in audio_codecs word
@@ -63,9 +64,6 @@ lines list = map (λ (line : Bor (List ℕ) × Concern × Kind). (line.0.now, li
 
 abbrev pub formats : List (Bor (List ℕ) × Bor (List ℕ) × FileFormat × Bool × Bool) → List (List ℕ × List ℕ × FileFormat × Bool × Bool)
 formats list = map (λ (line : Bor (List ℕ) × Bor (List ℕ) × FileFormat × Bool × Bool). (line.0.now, line.1.now, line.2, line.3, line.4)) list
-
-abbrev pub codecs : List (Bor (List ℕ) × Codec) → List (List ℕ × Codec)
-codecs list = map (λ (line : Bor (List ℕ) × Codec). (line.0.now, line.1)) list
 
 abbrev pub names : List (Bor (List ℕ)) → List (List ℕ)
 names list = map (λ (name : Bor (List ℕ)). name.now) list

@@ -2,6 +2,9 @@
 use Rattle.std.specs.Prelude.{◌≡◌, ℕ, ◌<◌, ◌≤◌, ◌^◌, Bool, true, false, Option, Some, None, List, ◌∷◌, [], ◌++◌, length, flat_map, codes}
 use Rattle.std.specs.List.{AllByRecursion}
 use Rattle.std.specs.Fmt.{decimal}
+use Rattle.ff_frame.specs.Codecs.{codec_name, coding_of}
+use Rattle.ff_frame.specs.declared.coding.Coding.{Coding}
+use Rattle.ff_frame.specs.declared.coding.Coding.TheVariants.{Pcm, Flac, RawVideo}
 use Rattle.ff_frame.specs.declared.head.Codec.{Codec}
 use Rattle.ff_frame.specs.declared.head.Codec.TheVariants as codec
 use Rattle.ff_frame.specs.declared.hash.HashKind.{HashKind}
@@ -23,7 +26,7 @@ use Rattle.ff_words.specs.declared.job.Command.{Command}
 use Rattle.ff_words.specs.declared.job.Command.TheVariants as asked
 use Rattle.ff_words.specs.declared.job.Solo.{Solo}
 use Rattle.ff_words.specs.declared.job.Solo.TheVariants.{Help, Version, SelfRun}
-use Rattle.ff_words.specs.Options.{format_name, codec_name, hash_name}
+use Rattle.ff_words.specs.Options.{format_name, hash_name}
 use Rattle.ff_words.specs.Words.{is_dashed, same_name}
 
 -- ---- values
@@ -171,13 +174,13 @@ IsReadFormat format.Flac = Unit {0}
 IsReadFormat format.Y4m = Unit {0}
 IsReadFormat format.FrameHash = ⊥
 
+abbrev pub IsSoundCoding : Coding → Type 0
+IsSoundCoding (Pcm form) = Unit {0}
+IsSoundCoding Flac = Unit {0}
+IsSoundCoding RawVideo = ⊥
+
 abbrev pub IsSoundCodec : Codec → Type 0
-IsSoundCodec codec.PcmU8 = Unit {0}
-IsSoundCodec codec.PcmS16le = Unit {0}
-IsSoundCodec codec.PcmS24le = Unit {0}
-IsSoundCodec codec.PcmS32le = Unit {0}
-IsSoundCodec codec.Flac = Unit {0}
-IsSoundCodec codec.RawVideo = ⊥
+IsSoundCodec codec = IsSoundCoding (coding_of codec)
 
 abbrev pub WhereSome : {X : Type 0} → (X → Type 0) → Option X → Type 0
 WhereSome Is None = Unit {0}

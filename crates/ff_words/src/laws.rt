@@ -11,8 +11,8 @@ ghost use Rattle.ff_words.specs.declared.job.Command.{Command};
 pub fn the_lists_are_as_defined()
     ensures of_options { map (λ line. (line.0.now, line.1, line.2)) OPTIONS ≡ options }
     ensures of_formats { map (λ line. (line.0.now, line.1.now, line.2, line.3, line.4)) FORMATS ≡ file_formats }
-    ensures of_sound { map (λ line. (line.0.now, line.1)) AUDIO_CODECS ≡ audio_codecs }
-    ensures of_pictures { map (λ line. (line.0.now, line.1)) VIDEO_CODECS ≡ video_codecs }
+    ensures of_sound { AUDIO_CODECS ≡ audio_codecs }
+    ensures of_pictures { VIDEO_CODECS ≡ video_codecs }
     ensures of_levels { map (λ name. name.now) LEVELS ≡ log_levels }
 {}
 

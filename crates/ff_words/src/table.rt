@@ -1,7 +1,7 @@
 //! The options of the command line as one list, and the lists of their values. A further option is a line here; where its
 //! kind of value is new, that is a case in `Kind`, `Value` and what reads it.
 ghost use Rattle.std.specs.Prelude.{◌≡◌};
-ghost use Rattle.ff_words.specs.Table.{lines, formats, codecs, names, rule_in, option_named, format_in};
+ghost use Rattle.ff_words.specs.Table.{lines, formats, names, rule_in, option_named, format_in};
 ghost use Rattle.ff_words.specs.Table.{format_named, ending_in, format_ending as named_by_ending, codec_in, audio_codec as audio_codec_named};
 ghost use Rattle.ff_words.specs.Table.{video_codec as video_codec_named, level_in, is_level as level_named};
 
@@ -123,16 +123,16 @@ pub static FORMATS: [(&'static str, &'static str, FileFormat, bool, bool); 4] = 
 ];
 
 /// The codecs of sound.
-pub static AUDIO_CODECS: [(&'static str, Codec); 5] = [
-    ("pcm_u8", Codec::PcmU8),
-    ("pcm_s16le", Codec::PcmS16le),
-    ("pcm_s24le", Codec::PcmS24le),
-    ("pcm_s32le", Codec::PcmS32le),
-    ("flac", Codec::Flac),
+pub static AUDIO_CODECS: [Codec; 5] = [
+    Codec::PcmU8,
+    Codec::PcmS16le,
+    Codec::PcmS24le,
+    Codec::PcmS32le,
+    Codec::Flac,
 ];
 
 /// The codecs of pictures.
-pub static VIDEO_CODECS: [(&'static str, Codec); 1] = [("rawvideo", Codec::RawVideo)];
+pub static VIDEO_CODECS: [Codec; 1] = [Codec::RawVideo];
 
 /// The values of `-loglevel`.
 pub static LEVELS: [&'static str; 8] = [
@@ -210,11 +210,11 @@ pub fn format_ending(name: &str) -> Option<FileFormat>
     find_ending(&FORMATS, name)
 }
 
-fn find_codec(list: &[(&'static str, Codec)], word: &str) -> Option<Codec>
-    ensures { result ≡ codec_in (codecs list.now) word.now }
+fn find_codec(list: &[Codec], word: &str) -> Option<Codec>
+    ensures { result ≡ codec_in list.now word.now }
 {
-    for (name, codec) in list.iter() {
-        if *name == word {
+    for codec in list.iter() {
+        if codec.name() == word {
             return Some(*codec);
         }
     }

@@ -1,6 +1,6 @@
 use Rattle.std.proofs.Common.{◌≡◌, drop}
-use Rattle.ff_words.specs.Table.{codec_in, codecs}
+use Rattle.ff_words.specs.Table.{codec_in}
 use Rattle.ff_words.proofs.table.find_codec.Given as goal
 
-abbrev pub invariant-loop-name : goal.invariant-loop-name
-invariant-loop-name l = codec_in (codecs (drop l.name-index l.list)) l.word ≡ codec_in (codecs l.list) l.word
+abbrev pub invariant-loop-codec : goal.invariant-loop-codec
+invariant-loop-codec l = codec_in (drop l.codec-index l.list) l.word ≡ codec_in l.list l.word
