@@ -1,9 +1,11 @@
 -- Heads are the same where their numbers are.
 use Rattle.std.proofs.Common.{◌≡◌, ℕ, zero, suc, true, List, [], ◌∷◌, refl, sym, ap, ◌∙◌}
+use Rattle.std.specs.Prelude.{if◌then◌else◌}
 use Rattle.std.specs.Str.{bytes_eq}
 use Rattle.std.proofs.lemmas.Slice.Eq.{bytes_eq-Decides}
 use Rattle.std.proofs.lemmas.Bool.{and_parts, and_from}
 use Rattle.ff_time.specs.Fraction.{Fraction}
+use Rattle.ff_frame.specs.Codecs.{codec_name}
 use Rattle.ff_frame.specs.declared.head.Codec.{Codec}
 use Rattle.ff_frame.specs.declared.head.Codec.TheVariants.{PcmU8, PcmS16le, PcmS24le, PcmS32le, Flac, RawVideo}
 use Rattle.ff_frame.specs.declared.head.StreamHead.{StreamHead}
@@ -11,24 +13,20 @@ use Rattle.ff_frame.specs.declared.head.StreamHead.TheVariants.{Audio, Video}
 use Rattle.ff_frame.specs.declared.video.Format.{Format}
 use Rattle.ff_frame.specs.declared.video.Format.TheVariants.{C420, C422, C444, Mono}
 use Rattle.ff_joins.specs.ConcatOptions.{EachIs}
-use Rattle.ff_filters.specs.Heads.{codec_number, format_number, numbers_of, each_is}
+use Rattle.ff_filters.specs.Heads.{format_number, numbers_of, each_is}
 
-codec_at : ℕ → Codec
-codec_at zero = PcmU8
-codec_at (suc zero) = PcmS16le
-codec_at (suc (suc zero)) = PcmS24le
-codec_at (suc (suc (suc zero))) = PcmS32le
-codec_at (suc (suc (suc (suc zero)))) = Flac
-codec_at (suc (suc (suc (suc (suc n))))) = RawVideo
+-- each codec, and of these the one of a name
+all_codecs : List Codec
+all_codecs = PcmU8 ∷ PcmS16le ∷ PcmS24le ∷ PcmS32le ∷ Flac ∷ RawVideo ∷ []
 
-codec_there : (c : Codec) → codec_at (codec_number c) ≡ c
-unfolding codec_at
-codec_there PcmU8 = refl
-codec_there PcmS16le = refl
-codec_there PcmS24le = refl
-codec_there PcmS32le = refl
-codec_there Flac = refl
+codec_in : List Codec → List ℕ → Codec
+codec_in [] name = RawVideo
+codec_in (c ∷ cs) name = if bytes_eq (codec_name c) name then c else codec_in cs name
+
+codec_there : (c : Codec) → codec_in all_codecs (codec_name c) ≡ c
+unfolding all_codecs codec_in
 codec_there RawVideo = refl
+codec_there other = refl
 
 format_at : ℕ → Format
 format_at zero = C420
@@ -43,8 +41,8 @@ format_there C422 = refl
 format_there C444 = refl
 format_there Mono = refl
 
-same_codec : (c d : Codec) → codec_number c ≡ codec_number d → c ≡ d
-same_codec c d e = sym (codec_there c) ∙ ap codec_at e ∙ codec_there d
+same_codec : (c d : Codec) → codec_name c ≡ codec_name d → c ≡ d
+same_codec c d e = sym (codec_there c) ∙ ap (codec_in all_codecs) e ∙ codec_there d
 
 same_format : (c d : Format) → format_number c ≡ format_number d → c ≡ d
 same_format c d e = sym (format_there c) ∙ ap format_at e ∙ format_there d
@@ -56,9 +54,9 @@ same_numbers : (h k : StreamHead) → numbers_of h ≡ numbers_of k → h ≡ k
 same_numbers (Audio tb rate bits channels codec) (Audio tb' rate' bits' channels' codec') e =
     let num : tb.num ≡ tb'.num = cc in
     let den : tb.den ≡ tb'.den = cc in
-    let code : codec_number codec ≡ codec_number codec' = cc in
+    let name : codec_name codec ≡ codec_name codec' = cc in
     let base : tb ≡ tb' = fraction_same tb tb' num den in
-    let coded : codec ≡ codec' = same_codec codec codec' code in
+    let coded : codec ≡ codec' = same_codec codec codec' name in
     cc
 same_numbers (Audio tb rate bits channels codec) (Video tb' format' width' height' sar_num' sar_den') e = cc
 same_numbers (Video tb format width height sar_num sar_den) (Audio tb' rate' bits' channels' codec') e = cc

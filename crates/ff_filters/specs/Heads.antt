@@ -1,31 +1,22 @@
 -- Whether heads are the same.
 use Rattle.std.specs.Prelude.{ℕ, Bool, true, ◌&&◌, List, [], ◌∷◌}
 use Rattle.std.specs.Str.{bytes_eq}
-use Rattle.ff_frame.specs.declared.head.Codec.{Codec}
-use Rattle.ff_frame.specs.declared.head.Codec.TheVariants.{PcmU8, PcmS16le, PcmS24le, PcmS32le, Flac, RawVideo}
+use Rattle.ff_frame.specs.Codecs.{codec_name}
 use Rattle.ff_frame.specs.declared.head.StreamHead.{StreamHead}
 use Rattle.ff_frame.specs.declared.head.StreamHead.TheVariants.{Audio, Video}
 use Rattle.ff_frame.specs.declared.video.Format.{Format}
 use Rattle.ff_frame.specs.declared.video.Format.TheVariants.{C420, C422, C444, Mono}
 
--- codecs and formats by number
-abbrev pub codec_number : Codec → ℕ
-codec_number PcmU8 = 0
-codec_number PcmS16le = 1
-codec_number PcmS24le = 2
-codec_number PcmS32le = 3
-codec_number Flac = 4
-codec_number RawVideo = 5
-
+-- formats by number
 abbrev pub format_number : Format → ℕ
 format_number C420 = 0
 format_number C422 = 1
 format_number C444 = 2
 format_number Mono = 3
 
--- all numbers of a head
+-- all numbers of a head, and the name of its codec
 abbrev pub numbers_of : StreamHead → List ℕ
-numbers_of (Audio tb rate bits channels codec) = 0 ∷ tb.num ∷ tb.den ∷ rate ∷ bits ∷ channels ∷ codec_number codec ∷ []
+numbers_of (Audio tb rate bits channels codec) = 0 ∷ tb.num ∷ tb.den ∷ rate ∷ bits ∷ channels ∷ codec_name codec
 numbers_of (Video tb format width height sar_num sar_den) = 1 ∷ tb.num ∷ tb.den ∷ format_number format ∷ width ∷ height ∷ sar_num ∷ sar_den ∷ []
 
 -- each of the heads is this one

@@ -2,18 +2,9 @@
 use Rattle.std.specs.Prelude.{ℕ, ◌==◌, ◌&&◌, if◌then◌else◌, List, ◌++◌, codes, decimal}
 use Rattle.ff_lists.specs.Text.{right, line}
 use Rattle.ff_time.specs.Fraction.{Fraction}
-use Rattle.ff_frame.specs.declared.head.Codec.{Codec}
-use Rattle.ff_frame.specs.declared.head.Codec.TheVariants.{PcmU8, PcmS16le, PcmS24le, PcmS32le, Flac, RawVideo}
+use Rattle.ff_frame.specs.Codecs.{codec_name}
 use Rattle.ff_frame.specs.declared.head.StreamHead.{StreamHead}
 use Rattle.ff_frame.specs.declared.head.StreamHead.TheVariants.{Audio, Video}
-
-abbrev pub codec_name : Codec → List ℕ
-codec_name PcmU8 = codes "pcm_u8"
-codec_name PcmS16le = codes "pcm_s16le"
-codec_name PcmS24le = codes "pcm_s24le"
-codec_name PcmS32le = codes "pcm_s32le"
-codec_name Flac = codes "flac"
-codec_name RawVideo = codes "rawvideo"
 
 abbrev pub layout_name : ℕ → List ℕ
 layout_name channels =

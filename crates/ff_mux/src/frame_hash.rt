@@ -1,7 +1,7 @@
 // The text of a framehash file, in the pieces in which it is written.
 ghost use Rattle.std.specs.Prelude.{◌≡◌, ℕ, ◌<◌, ◌^◌, ◌++◌, IfOk, OnOk, decimal, length, string_bytes};
 ghost use Rattle.std.specs.Fmt.{signed_decimal};
-ghost use Rattle.ff_mux.specs.FrameHash.{base_name, codec_name, layout_name, size_name, aspect_name, about, stream_lines, column};
+ghost use Rattle.ff_mux.specs.FrameHash.{base_name, layout_name, size_name, aspect_name, about, stream_lines, column};
 ghost use Rattle.ff_mux.specs.HashTexts.{digest_by, first_by, streams_from, text_before, line_by};
 
 use crate::digest::digest_text;
@@ -23,19 +23,6 @@ fn first_lines(kind: HashKind) -> &'static [u8]
     match kind {
         HashKind::Sha256 => b"#format: frame checksums\n#version: 2\n#hash: SHA256\n",
         HashKind::Md5 => b"#format: frame checksums\n#version: 2\n#hash: MD5\n",
-    }
-}
-
-fn name_of_codec(codec: Codec) -> &'static str
-    ensures { result.now ≡ codec_name codec }
-{
-    match codec {
-        Codec::PcmU8 => "pcm_u8",
-        Codec::PcmS16le => "pcm_s16le",
-        Codec::PcmS24le => "pcm_s24le",
-        Codec::PcmS32le => "pcm_s32le",
-        Codec::Flac => "flac",
-        Codec::RawVideo => "rawvideo",
     }
 }
 
@@ -95,7 +82,7 @@ fn push_audio(
     let layout = name_of_layout(alloc, channels)?;
     push_about(alloc, out, "tb", stream, base.as_str())?;
     push_about(alloc, out, "media_type", stream, "audio")?;
-    push_about(alloc, out, "codec_id", stream, name_of_codec(codec))?;
+    push_about(alloc, out, "codec_id", stream, codec.name())?;
     push_about(alloc, out, "sample_rate", stream, rate.as_str())?;
     push_about(alloc, out, "channel_layout_name", stream, layout.as_str())?;
     Ok(())

@@ -2,7 +2,7 @@
 use Rattle.std.specs.Prelude.{◌≤◌, List, [], ◌∷◌, length, None}
 use Rattle.ff_frame.specs.declared.hash.HashKind.{HashKind}
 use Rattle.ff_frame.specs.declared.head.StreamHead.{StreamHead}
-use Rattle.ff_frame.specs.Heads.{IsPcmCoded}
+use Rattle.ff_wav.specs.Codecs.{IsWavCoded}
 use Rattle.ff_words.specs.declared.job.FileFormat.{FileFormat}
 use Rattle.ff_words.specs.declared.job.FileFormat.TheVariants.{Wav, Flac, Y4m, FrameHash}
 use Rattle.ff_y4m.specs.Header.{IsVideoHead}
@@ -16,10 +16,10 @@ IsAlone Takes [] = ⊥
 IsAlone Takes (head ∷ []) = Takes head
 IsAlone Takes (head ∷ other ∷ heads) = ⊥
 
--- The format takes packets of streams of these heads: WAV linear PCM, FLAC what is coded so and STREAMINFO has room for, YUV4MPEG2
+-- The format takes packets of streams of these heads: WAV linear PCM as it has it, FLAC what is coded so and STREAMINFO has room for, YUV4MPEG2
 -- pictures, each of one stream; framehash any, of 1 to 16 streams.
 abbrev pub CanWrite : FileFormat → List StreamHead → Type 0
-CanWrite Wav heads = IsAlone IsPcmCoded heads
+CanWrite Wav heads = IsAlone IsWavCoded heads
 CanWrite Flac heads = IsAlone CanHold heads
 CanWrite Y4m heads = IsAlone IsVideoHead heads
 CanWrite FrameHash heads = (1 ≤ length heads) × (length heads ≤ 16)

@@ -1,7 +1,14 @@
 -- Which streams an output has, and what becomes of each: taken as it is, through a simple graph, or refused.
-use Rattle.std.specs.Prelude.{ℕ, ◌+◌, ◌==◌, ◌&&◌, ◌||◌, nat_le, nat_lt, Bool, true, false, not, if◌then◌else◌, List, [], ◌∷◌, ◌++◌, codes, length, map, Option}
+use Rattle.std.specs.Prelude.{ℕ, ◌+◌, ◌*◌, ◌==◌, ◌&&◌, ◌||◌, nat_le, nat_lt, Bool, true, false, not, if◌then◌else◌, List, [], ◌∷◌, ◌++◌, codes, length, map, Option}
 use Rattle.std.specs.Prelude.{Some, None, Result, Ok, Err}
 use Rattle.std.specs.List.{filter, list_any, cons_option}
+use Rattle.ff_frame.specs.Codecs.{coding_of, depth_bytes}
+use Rattle.ff_frame.specs.declared.coding.ByteOrder.{ByteOrder}
+use Rattle.ff_frame.specs.declared.coding.ByteOrder.TheVariants.{LittleEndian, BigEndian}
+use Rattle.ff_frame.specs.declared.coding.Coding.{Coding}
+use Rattle.ff_frame.specs.declared.coding.Coding.TheVariants as coding
+use Rattle.ff_frame.specs.declared.coding.PcmDepth.{PcmDepth}
+use Rattle.ff_frame.specs.declared.coding.PcmDepth.TheVariants.{Bits8, Bits16, Bits24, Bits32}
 use Rattle.ff_frame.specs.declared.head.Codec.{Codec}
 use Rattle.ff_frame.specs.declared.head.Codec.TheVariants as codec
 use Rattle.ff_frame.specs.declared.head.StreamHead.{StreamHead}
@@ -110,32 +117,53 @@ codec_or default None = default
 codec_or default (Some c) = c
 
 abbrev pub audio_codec : OutputJob → FileFormat → Codec
+audio_codec out format.Wav = codec_or codec.PcmS16le out.audio
 audio_codec out format.Flac = codec_or codec.Flac out.audio
-audio_codec out other = codec_or codec.PcmS16le out.audio
+audio_codec out format.Y4m = codec_or codec.PcmS16le out.audio
+audio_codec out format.FrameHash = codec_or codec.PcmS16le out.audio
+
+-- the bits of samples of so many, as they are coded: PCM has its own, and FLAC 24 where it can't have as many
+abbrev pub coded_bits : Coding → ℕ → ℕ
+coded_bits (coding.Pcm form) bits = 8 * depth_bytes form.depth
+coded_bits coding.Flac bits = if nat_le 4 bits && nat_le bits 24 then bits else 24
+coded_bits coding.RawVideo bits = bits
 
 abbrev pub packed_bits : Codec → ℕ → ℕ
-packed_bits codec.PcmU8 bits = 8
-packed_bits codec.PcmS16le bits = 16
-packed_bits codec.PcmS24le bits = 24
-packed_bits codec.PcmS32le bits = 32
-packed_bits codec.Flac bits = if nat_le 4 bits && nat_le bits 24 then bits else 24
-packed_bits codec.RawVideo bits = bits
+packed_bits codec bits = coded_bits (coding_of codec) bits
 
 abbrev pub packed_as : OutputJob → StreamHead → StreamHead
 packed_as out (stream_head.Audio tb rate bits channels c) = stream_head.Audio tb rate (packed_bits (audio_codec out out.format) bits) channels
     (audio_codec out out.format)
 packed_as out (stream_head.Video tb f width height sar_num sar_den) = stream_head.Video tb f width height sar_num sar_den
 
-abbrev pub is_pcm : Codec → Bool
-is_pcm codec.Flac = false
-is_pcm codec.RawVideo = false
-is_pcm other = true
+-- WAV's linear PCM has the lowest byte first, and is signed but for 8 bits
+abbrev pub is_wav_sign : PcmDepth → Bool → Bool
+is_wav_sign Bits8 sign = not sign
+is_wav_sign Bits16 sign = sign
+is_wav_sign Bits24 sign = sign
+is_wav_sign Bits32 sign = sign
 
--- whether the format takes such sound
+abbrev pub is_wav_form : PcmDepth → Bool → ByteOrder → Bool
+is_wav_form depth sign LittleEndian = is_wav_sign depth sign
+is_wav_form depth sign BigEndian = false
+
+-- whether the format takes sound that is coded so, of this rate: WAV its own linear PCM, FLAC what is coded so, framehash any linear PCM
+abbrev pub takes_coding : FileFormat → Coding → ℕ → Bool
+takes_coding format.Wav (coding.Pcm form) rate = is_wav_form form.depth form.signed form.order
+takes_coding format.Wav coding.Flac rate = false
+takes_coding format.Wav coding.RawVideo rate = false
+takes_coding format.Flac (coding.Pcm form) rate = false
+takes_coding format.Flac coding.Flac rate = nat_le rate 1048575
+takes_coding format.Flac coding.RawVideo rate = false
+takes_coding format.Y4m (coding.Pcm form) rate = false
+takes_coding format.Y4m coding.Flac rate = false
+takes_coding format.Y4m coding.RawVideo rate = false
+takes_coding format.FrameHash (coding.Pcm form) rate = true
+takes_coding format.FrameHash coding.Flac rate = false
+takes_coding format.FrameHash coding.RawVideo rate = false
+
 abbrev pub takes_sound : FileFormat → Codec → ℕ → Bool
-takes_sound format.Flac codec.Flac rate = nat_le rate 1048575
-takes_sound format.Flac other rate = false
-takes_sound other c rate = is_pcm c
+takes_sound f codec rate = takes_coding f (coding_of codec) rate
 
 abbrev pub takes_head : OutputJob → StreamHead → Bool
 takes_head out (stream_head.Audio tb rate bits channels c) = takes_kind out.format kind.Audio && takes_sound out.format (audio_codec out out.format) rate

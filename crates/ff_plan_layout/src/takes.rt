@@ -5,13 +5,13 @@ ghost use Rattle.ff_map.specs.Choice.{has_kind};
 ghost use Rattle.ff_plan_layout.specs.declared.layout.InPad.{InPad};
 ghost use Rattle.ff_plan_layout.specs.Choice.{kind_of as kind_in};
 ghost use Rattle.ff_plan_layout.specs.Streams.{takes_kind as kind_taken, audio_codec as codec_of_sound, codec_or, packed_bits as bits_packed, packed_as as head_packed};
-ghost use Rattle.ff_plan_layout.specs.Streams.{is_pcm as of_pcm, takes_sound as sound_taken, takes_head as head_taken};
+ghost use Rattle.ff_plan_layout.specs.Streams.{is_wav_form as form_of_wav, takes_sound as sound_taken, takes_head as head_taken};
 ghost use Rattle.ff_plan_layout.specs.Streams.{drops as is_dropped, simple_of, is_graph, is_pad as shows_pad, takes as is_taken, is_wanted};
 ghost use Rattle.ff_plan_layout.specs.Streams.{most_streams as most_of};
 
 use crate::layout::{InPad, Origin};
 use crate::wanting::is_kind;
-use ff_frame::{Codec, StreamHead};
+use ff_frame::{ByteOrder, Codec, Coding, PcmDepth, PcmForm, StreamHead};
 use ff_map::Kind;
 use ff_words::{FileFormat, OutputJob};
 
@@ -89,13 +89,10 @@ fn audio_codec(out: &OutputJob) -> Codec
 fn packed_bits(codec: Codec, bits: u8) -> u8
     ensures { result ≡ bits_packed codec bits }
 {
-    match codec {
-        Codec::PcmU8 => 8,
-        Codec::PcmS16le => 16,
-        Codec::PcmS24le => 24,
-        Codec::PcmS32le => 32,
-        Codec::Flac => { if 4 <= bits && bits <= 24 { bits } else { 24 } }
-        Codec::RawVideo => bits,
+    match codec.coding() {
+        Coding::Pcm(form) => form.depth.bits(),
+        Coding::Flac => { if 4 <= bits && bits <= 24 { bits } else { 24 } }
+        Coding::RawVideo => bits,
     }
 }
 
@@ -124,29 +121,15 @@ pub(crate) fn packed_as(out: &OutputJob, head: StreamHead) -> StreamHead
     }
 }
 
-fn is_pcm(codec: Codec) -> bool
-    ensures { result ≡ of_pcm codec }
+// Whether WAV has linear PCM of this form.
+fn is_wav_form(form: PcmForm) -> bool
+    ensures { result ≡ form_of_wav form.depth form.signed form.order }
 {
-    match codec {
-        Codec::Flac => false,
-        Codec::RawVideo => false,
-        Codec::PcmU8 => true,
-        Codec::PcmS16le => true,
-        Codec::PcmS24le => true,
-        Codec::PcmS32le => true,
-    }
-}
-
-fn is_flac(codec: Codec) -> bool
-    ensures { result ≡ sound_taken FileFormat.Flac codec 0 }
-{
-    match codec {
-        Codec::Flac => true,
-        Codec::RawVideo => false,
-        Codec::PcmU8 => false,
-        Codec::PcmS16le => false,
-        Codec::PcmS24le => false,
-        Codec::PcmS32le => false,
+    match (form.order, form.depth) {
+        (ByteOrder::LittleEndian, PcmDepth::Bits8) => !form.signed,
+        (ByteOrder::LittleEndian, PcmDepth::Bits16 | PcmDepth::Bits24 | PcmDepth::Bits32) =>
+            form.signed,
+        (ByteOrder::BigEndian, _) => false,
     }
 }
 
@@ -154,11 +137,14 @@ fn is_flac(codec: Codec) -> bool
 fn takes_sound(format: FileFormat, codec: Codec, rate: u32) -> bool
     ensures { result ≡ sound_taken format codec rate }
 {
-    match format {
-        FileFormat::Flac => is_flac(codec) && rate <= 1_048_575,
-        FileFormat::Wav => is_pcm(codec),
-        FileFormat::Y4m => is_pcm(codec),
-        FileFormat::FrameHash => is_pcm(codec),
+    match (format, codec.coding()) {
+        (FileFormat::Wav, Coding::Pcm(form)) => is_wav_form(form),
+        (FileFormat::Flac, Coding::Flac) => rate <= 1_048_575,
+        (FileFormat::FrameHash, Coding::Pcm(_)) => true,
+        (FileFormat::Wav, Coding::Flac | Coding::RawVideo) => false,
+        (FileFormat::Flac, Coding::Pcm(_) | Coding::RawVideo) => false,
+        (FileFormat::Y4m, _) => false,
+        (FileFormat::FrameHash, Coding::Flac | Coding::RawVideo) => false,
     }
 }
 

@@ -1,5 +1,4 @@
 // What the words of a command line ask for, or what is wrong with them.
-use crate::heads::name_of;
 use crate::lang::show;
 use crate::maps::show_map;
 use crate::table::{Stop, text_of};
@@ -56,7 +55,7 @@ fn add_input(alloc: Global, out: &mut String, input: &InputJob) -> Result<(), Al
 fn add_codec(out: &mut String, kind: &str, codec: Option<Codec>) -> Result<(), AllocError> {
     if let Some(codec) = codec {
         add_word(out, kind)?;
-        add_word(out, name_of(codec))?;
+        add_word(out, codec.name())?;
     }
     Ok(())
 }

@@ -1,6 +1,7 @@
 // Calls of the framehash muxer: the lines before those of the packets, and the line of a packet.
+use crate::heads::codec_named;
 use crate::table::{Stop, bytes_of, text_of};
-use ff_frame::{Bytes, Codec, Format, HashKind, Pkt, StreamHead};
+use ff_frame::{Bytes, Format, HashKind, Pkt, StreamHead};
 use ff_mux::HashPut;
 use ff_time::Rational;
 use std::alloc::Global;
@@ -13,17 +14,6 @@ fn base(ticks: u32) -> Result<Rational, Stop> {
     match Rational::new(1, i64::from(ticks)) {
         Ok(base) => Ok(base),
         Err(_) => Err(Stop::Unreadable),
-    }
-}
-
-fn codec(word: &str) -> Result<Codec, Stop> {
-    match word {
-        "pcm_u8" => Ok(Codec::PcmU8),
-        "pcm_s16le" => Ok(Codec::PcmS16le),
-        "pcm_s24le" => Ok(Codec::PcmS24le),
-        "pcm_s32le" => Ok(Codec::PcmS32le),
-        "flac" => Ok(Codec::Flac),
-        _ => Err(Stop::Unreadable),
     }
 }
 
@@ -45,7 +35,7 @@ fn sound_head(words: &[String]) -> Result<StreamHead, Stop> {
         rate,
         bits: 8,
         channels: channels.parse::<u8>()?,
-        codec: codec(name)?,
+        codec: codec_named(name)?,
     })
 }
 

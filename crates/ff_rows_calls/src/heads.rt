@@ -6,18 +6,18 @@ use ff_frame::{Codec, Format, HeadEnd, StreamHead};
 use ff_lists::front;
 use ff_time::Rational;
 use ff_wav::WavHead;
+use ff_words::AUDIO_CODECS;
 use ff_y4m::Y4mHead;
 use std::alloc::Global;
 
-pub fn name_of(codec: Codec) -> &'static str {
-    match codec {
-        Codec::PcmU8 => "pcm_u8",
-        Codec::PcmS16le => "pcm_s16le",
-        Codec::PcmS24le => "pcm_s24le",
-        Codec::PcmS32le => "pcm_s32le",
-        Codec::Flac => "flac",
-        Codec::RawVideo => "rawvideo",
+/// The codec of sound of this name.
+pub fn codec_named(name: &str) -> Result<Codec, Stop> {
+    for codec in AUDIO_CODECS.iter() {
+        if codec.name() == name {
+            return Ok(*codec);
+        }
     }
+    Err(Stop::Unreadable)
 }
 
 pub fn name_of_format(format: Format) -> &'static str {
@@ -45,7 +45,7 @@ pub fn show_stream(alloc: Global, head: &StreamHead) -> Result<String, Stop> {
             codec,
         } => {
             let base = show_base(alloc, tb)?;
-            let codec = name_of(codec);
+            let codec = codec.name();
             format!(in alloc;
                 "audio base {base} rate {rate} bits {bits} channels {channels} codec {codec}"
             )?

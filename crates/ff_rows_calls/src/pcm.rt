@@ -3,9 +3,10 @@ ghost use Rattle.ff_frame.specs.Audio.{IsAudio};
 ghost use Rattle.ff_frame.specs.Codecs.{IsPcmCodec};
 ghost use Rattle.ff_pcm.specs.Frames.{IsPcmHead};
 
+use crate::heads::codec_named;
 use crate::table::Stop;
 use crate::words::Words;
-use ff_frame::{AFrame, Bytes, Codec, Pkt, Samples, StreamHead};
+use ff_frame::{AFrame, Bytes, Codec, Coding, Pkt, Samples, StreamHead};
 use ff_pcm::{depth_change, depth_of, has_blocks, is_audio, pcm_decode, pcm_encode};
 use ff_time::Rational;
 use std::alloc::Global;
@@ -14,12 +15,10 @@ use std::alloc::Global;
 pub fn codec_of(name: &str) -> Result<Codec, Stop>
     ensures { IfOk result IsPcmCodec }
 {
-    match name {
-        "pcm_u8" => Ok(Codec::PcmU8),
-        "pcm_s16le" => Ok(Codec::PcmS16le),
-        "pcm_s24le" => Ok(Codec::PcmS24le),
-        "pcm_s32le" => Ok(Codec::PcmS32le),
-        _ => Err(Stop::Unreadable),
+    let codec = codec_named(name)?;
+    match codec.coding() {
+        Coding::Pcm(_) => Ok(codec),
+        Coding::Flac | Coding::RawVideo => Err(Stop::Unreadable),
     }
 }
 

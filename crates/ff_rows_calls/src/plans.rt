@@ -1,5 +1,4 @@
 // The plan of a command over inputs with these streams.
-use crate::heads::name_of;
 use crate::maps::streams;
 use crate::table::Stop;
 use crate::words::Words;
@@ -31,7 +30,7 @@ fn show_lane(alloc: Global, lane: &Lane) -> Result<String, AllocError> {
     match lane {
         Lane::Frames(_) => format!(in alloc; "frames"),
         Lane::Packets(StreamHead::Audio { codec, .. }) => {
-            let codec = name_of(*codec);
+            let codec = codec.name();
             format!(in alloc; "{codec}")
         }
         Lane::Packets(StreamHead::Video { .. }) => format!(in alloc; "rawvideo"),

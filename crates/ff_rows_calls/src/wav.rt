@@ -1,19 +1,34 @@
 ghost use Rattle.std.specs.Prelude.{IfOk};
-ghost use Rattle.ff_frame.specs.Heads.{IsPcmCoded};
+ghost use Rattle.ff_frame.specs.Codecs.{IsPcmCodec};
+ghost use Rattle.ff_wav.specs.Codecs.{IsWavCodec, IsWavCoded};
 
-use crate::pcm::codec_of;
+use crate::heads::codec_named;
 use crate::table::Stop;
 use crate::words::Words;
-use ff_frame::StreamHead;
+use ff_frame::{Codec, StreamHead};
 use ff_pcm::depth_of;
 use ff_time::Rational;
 use ff_wav::WavPut;
 
+// The codec of WAV of this name.
+fn wav_codec(name: &str) -> Result<Codec, Stop>
+    ensures wav { IfOk result IsWavCodec }
+    ensures pcm { IfOk result IsPcmCodec }
+{
+    match codec_named(name)? {
+        Codec::PcmU8 => Ok(Codec::PcmU8),
+        Codec::PcmS16le => Ok(Codec::PcmS16le),
+        Codec::PcmS24le => Ok(Codec::PcmS24le),
+        Codec::PcmS32le => Ok(Codec::PcmS32le),
+        _ => Err(Stop::Unreadable),
+    }
+}
+
 /// The head of `CODEC CHANNELS`, at 44,100 sample frames a second.
 pub fn head_of(words: Words) -> Result<StreamHead, Stop>
-    ensures { IfOk result IsPcmCoded }
+    ensures { IfOk result IsWavCoded }
 {
-    let codec = codec_of(words.text(0)?)?;
+    let codec = wav_codec(words.text(0)?)?;
     let channels = words.number(1)?;
     let Ok(tb) = Rational::new(1, 44100) else {
         return Err(Stop::Unreadable);

@@ -31,26 +31,22 @@ pub fn name_of_format(format: Format) -> &'static str {
     }
 }
 
-fn read_codec(text: &str) -> Result<Codec, Stop> {
-    match text {
-        "pcm_u8" => Ok(Codec::PcmU8),
-        "pcm_s16le" => Ok(Codec::PcmS16le),
-        "pcm_s24le" => Ok(Codec::PcmS24le),
-        "pcm_s32le" => Ok(Codec::PcmS32le),
-        "flac" => Ok(Codec::Flac),
-        _ => Err(Stop::Unreadable),
-    }
-}
+/// The codecs of sound.
+const SOUND: [Codec; 5] = [
+    Codec::PcmU8,
+    Codec::PcmS16le,
+    Codec::PcmS24le,
+    Codec::PcmS32le,
+    Codec::Flac,
+];
 
-fn name_of_codec(codec: Codec) -> &'static str {
-    match codec {
-        Codec::PcmU8 => "pcm_u8",
-        Codec::PcmS16le => "pcm_s16le",
-        Codec::PcmS24le => "pcm_s24le",
-        Codec::PcmS32le => "pcm_s32le",
-        Codec::Flac => "flac",
-        Codec::RawVideo => "rawvideo",
+fn read_codec(text: &str) -> Result<Codec, Stop> {
+    for codec in SOUND.iter() {
+        if codec.name() == text {
+            return Ok(*codec);
+        }
     }
+    Err(Stop::Unreadable)
 }
 
 fn read_pictures(text: &str) -> Result<StreamHead, Stop> {
@@ -113,7 +109,7 @@ pub fn show_head(alloc: Global, head: &StreamHead) -> Result<String, AllocError>
             channels,
             codec,
         } => {
-            let (num, den, name) = (tb.num(), tb.den(), name_of_codec(codec));
+            let (num, den, name) = (tb.num(), tb.den(), codec.name());
             format!(in alloc; "sound {num}/{den} {rate} {bits} {channels} {name}")
         }
     }

@@ -1,14 +1,15 @@
 -- What is written is read again.
-use Rattle.std.proofs.Common.{◌≡◌, ℕ, suc, ◌+◌, ◌-◌, ◌*◌, ◌/◌, ◌%◌, ◌^◌, ◌<◌, ◌≤◌, Bool, true, false, cond, List, [], ◌∷◌, ◌++◌, take, drop, length, Some, None, Ok, refl, sym, ap, ◌∙◌, subst, arith, append_assoc, append-nil, length-append, inl, inr, ◌⊎◌, min, map}
+use Rattle.std.proofs.Common.{◌≡◌, ℕ, zero, suc, suc, ◌+◌, ◌-◌, ◌*◌, ◌/◌, ◌%◌, ◌^◌, ◌<◌, ◌≤◌, Bool, true, false, cond, List, [], ◌∷◌, ◌++◌, take, drop, length, Some, None, Ok, refl, sym, ap, ◌∙◌, subst, arith, append_assoc, append-nil, length-append, inl, inr, ◌⊎◌, min, map}
 use Rattle.std.specs.Option.{option_map}
 use Rattle.std.specs.Prelude.{◌==◌, ◌&&◌, ◌||◌, not, nat_le, nat_lt, codes, if◌then◌else◌}
 use Rattle.std.specs.Str.{bytes_eq}
 use Rattle.std.proofs.lemmas.Bool.Decides.{nat_tests}
 use Rattle.std.proofs.lemmas.Nat.{mul-le}
 use Rattle.ff_time.specs.Fraction.{Fraction}
-use Rattle.ff_frame.specs.Codecs.{IsPcmCodec, sample_bytes}
+use Rattle.ff_frame.specs.Codecs.{sample_bytes}
+use Rattle.ff_frame.specs.PcmLaws.{few_sample_bytes}
 use Rattle.ff_frame.specs.declared.head.Codec.{Codec}
-use Rattle.ff_frame.specs.declared.head.Codec.TheVariants.{PcmU8, PcmS16le, PcmS24le, PcmS32le, Flac, RawVideo}
+use Rattle.ff_frame.specs.declared.head.Codec.TheVariants.{PcmU8, PcmS16le, PcmS24le, PcmS32le}
 use Rattle.ff_frame.specs.declared.head.StreamHead.{StreamHead}
 use Rattle.ff_frame.specs.declared.head.StreamHead.TheVariants.{Audio, Video}
 use Rattle.ff_reader.specs.declared.step.Step.TheVariants.{Decide}
@@ -23,9 +24,10 @@ use Rattle.ff_wav.specs.Chunks.{passed, number_16, number_32, codec_of, stream_o
 use Rattle.ff_wav.specs.Header.{le_16, le_32, is_plain, fields_of, pcm_guid, extension, riff, wave_format, data_id, plain_format, long_format, header, header_len, header_of, longest}
 use Rattle.std.proofs.Math.Seq.{drop-append_seam}
 use Rattle.std.specs.List.{range_with_len}
-use Rattle.std.proofs.Math.Nat.{div-mul-le_self, mul-div_cancel, mul-le-mul_right, zero-mul}
+use Rattle.std.proofs.Math.Nat.{one-le-mul, div-mul-le_self, mul-div_cancel, mul-le-mul_right, zero-mul}
 use Rattle.std.proofs.lemmas.List.{length-take, take-append-le, take_all, take-take}
 use Rattle.ff_pcm_cut.specs.declared.head.PcmHead.{PcmHead as WavHead}
+use Rattle.ff_wav.specs.Codecs.{IsWavCodec, IsWavCoded}
 use Rattle.ff_wav.specs.Heads.{magic, grammar, reading}
 use Rattle.ff_pcm_cut.specs.Packets.{IsPcmSound, IsStream, block_of, body, frames, packet_at, packet_count, packets_of, demuxed}
 use Rattle.ff_wav.specs.Written.{pad_of, says, HeadersAreRead, FilesAreRead, BodiesAreRead}
@@ -77,37 +79,33 @@ fields_are at size channels rate block bits bs s es ec er ek eb ok = let f = ap 
 
 -- ---- the fields of a stream that is written
 
-codec_back : (codec : Codec) → IsPcmCodec codec → codec_of (8 * sample_bytes codec) ≡ codec
+-- sound as WAV codes it
+abbrev IsWavSound : (base : Fraction) (rate bits channels : ℕ) (codec : Codec) → Type 0
+IsWavSound base rate bits channels codec = IsPcmSound base rate bits channels codec × IsWavCodec codec
+
+codec_back : (codec : Codec) → IsWavCodec codec → codec_of (8 * sample_bytes codec) ≡ codec
 codec_back PcmU8 h = refl
 codec_back PcmS16le h = refl
 codec_back PcmS24le h = refl
 codec_back PcmS32le h = refl
-codec_back Flac h = absurd h
-codec_back RawVideo h = absurd h
+codec_back other h = absurd h
+
+bytes_known : (n : ℕ) → 1 ≤ n → n ≤ 4 → not (8 * n == 8 || 8 * n == 16 || 8 * n == 24 || 8 * n == 32) ≡ false
+bytes_known zero some few = absurd (omega arith)
+bytes_known (suc zero) some few = refl
+bytes_known (suc (suc zero)) some few = refl
+bytes_known (suc (suc (suc zero))) some few = refl
+bytes_known (suc (suc (suc (suc zero)))) some few = refl
+bytes_known (suc (suc (suc (suc (suc n))))) some few = absurd (omega arith)
 
 depth_known : (codec : Codec) → not (8 * sample_bytes codec == 8 || 8 * sample_bytes codec == 16 || 8 * sample_bytes codec == 24 || 8 * sample_bytes codec == 32) ≡ false
-depth_known PcmU8 = refl
-depth_known PcmS16le = refl
-depth_known PcmS24le = refl
-depth_known PcmS32le = refl
-depth_known Flac = refl
-depth_known RawVideo = refl
+depth_known codec = let few = few_sample_bytes codec in bytes_known (sample_bytes codec) few.0 few.1
 
 depth_bytes : (codec : Codec) → 8 * sample_bytes codec / 8 ≡ sample_bytes codec
-depth_bytes PcmU8 = refl
-depth_bytes PcmS16le = refl
-depth_bytes PcmS24le = refl
-depth_bytes PcmS32le = refl
-depth_bytes Flac = refl
-depth_bytes RawVideo = refl
+depth_bytes codec = omega arith
 
 depth_small : (codec : Codec) → sample_bytes codec ≤ 4
-depth_small PcmU8 = omega arith
-depth_small PcmS16le = omega arith
-depth_small PcmS24le = omega arith
-depth_small PcmS32le = omega arith
-depth_small Flac = omega arith
-depth_small RawVideo = omega arith
+depth_small codec = (few_sample_bytes codec).1
 
 channels_known : (n : ℕ) → 1 ≤ n → n ≤ 8 → not (nat_le 1 n && nat_le n 8) ≡ false
 channels_known n some few = grind (arith, nat_tests)
@@ -124,46 +122,46 @@ format_at_depth at channels rate codec sc fc sr fr =
     ∙ (cond_is (not (8 * sample_bytes codec == 8 || 8 * sample_bytes codec == 16 || 8 * sample_bytes codec == 24 || 8 * sample_bytes codec == 32)) false _ _ (depth_known codec)
     ∙ cond_is (not (channels * sample_bytes codec == channels * (8 * sample_bytes codec / 8))) false _ _ (ap not (same_number (channels * sample_bytes codec) (channels * (8 * sample_bytes codec / 8)) (ap (λ n. channels * n) (sym (depth_bytes codec)))))))
 
-stream_back : (base : Fraction) (rate bits channels : ℕ) (codec : Codec) → IsPcmSound base rate bits channels codec → stream_of channels rate (8 * sample_bytes codec) ≡ Audio base rate bits channels codec
+stream_back : (base : Fraction) (rate bits channels : ℕ) (codec : Codec) → IsWavSound base rate bits channels codec → stream_of channels rate (8 * sample_bytes codec) ≡ Audio base rate bits channels codec
 stream_back base rate bits channels codec h =
-    ap (λ (c : Codec). Audio (record { num = 1; den = rate }) rate (8 * sample_bytes codec) channels c) (codec_back codec h.coded)
-    ∙ (ap (λ (b : Fraction). Audio b rate (8 * sample_bytes codec) channels codec) (sym h.ticks) ∙ ap (λ n. Audio base rate n channels codec) (sym h.depth))
+    ap (λ (c : Codec). Audio (record { num = 1; den = rate }) rate (8 * sample_bytes codec) channels c) (codec_back codec h.1)
+    ∙ (ap (λ (b : Fraction). Audio b rate (8 * sample_bytes codec) channels codec) (sym h.0.ticks) ∙ ap (λ n. Audio base rate n channels codec) (sym h.0.depth))
 
-format_back : (at : ℕ) (base : Fraction) (rate bits channels : ℕ) (codec : Codec) → IsPcmSound base rate bits channels codec → format_of at channels rate (channels * sample_bytes codec) bits ≡ Ok (Audio base rate bits channels codec)
+format_back : (at : ℕ) (base : Fraction) (rate bits channels : ℕ) (codec : Codec) → IsWavSound base rate bits channels codec → format_of at channels rate (channels * sample_bytes codec) bits ≡ Ok (Audio base rate bits channels codec)
 format_back at base rate bits channels codec h =
-    ap (λ n. format_of at channels rate (channels * sample_bytes codec) n) h.depth
-    ∙ (format_at_depth at channels rate codec h.some_channels h.few_channels h.some_rate h.small_rate ∙ ap Ok (stream_back base rate bits channels codec h))
+    ap (λ n. format_of at channels rate (channels * sample_bytes codec) n) h.0.depth
+    ∙ (format_at_depth at channels rate codec h.0.some_channels h.0.few_channels h.0.some_rate h.0.small_rate ∙ ap Ok (stream_back base rate bits channels codec h))
 
-plain_step : (at : ℕ) (base : Fraction) (rate bits channels : ℕ) (codec : Codec) (more : List ℕ) → IsPcmSound base rate bits channels codec
+plain_step : (at : ℕ) (base : Fraction) (rate bits channels : ℕ) (codec : Codec) (more : List ℕ) → IsWavSound base rate bits channels codec
     → chunk None at (plain_chunk channels rate (channels * sample_bytes codec) bits ++ more) ≡ passed 16 (Some (Audio base rate bits channels codec))
 plain_step at base rate bits channels codec more h =
     let block = channels * sample_bytes codec in
     let bs = plain_chunk channels rate block bits ++ more in
-    let few : block ≤ 32 = mul-le channels (sample_bytes codec) 8 4 h.few_channels (depth_small codec) in
-    let low : bits < 2 ^ 16 = omega (arith, h.depth, depth_small codec) in
+    let few : block ≤ 32 = mul-le channels (sample_bytes codec) 8 4 h.0.few_channels (depth_small codec) in
+    let low : bits < 2 ^ 16 = omega (arith, h.0.depth, depth_small codec) in
     let many : 24 ≤ length bs = omega (arith, length-append (plain_chunk channels rate block bits) more, plain_length channels rate block bits) in
     let size = plain_size channels rate block bits more in
     chunk_is_format at bs (omega (arith, many)) (plain_other channels rate block bits more) (plain_named channels rate block bits more)
     ∙ (format_is_tagged at bs (omega (arith, many)) (omega (arith, size))
     ∙ (tagged_plain at bs (plain_tag channels rate block bits more)
     ∙ fields_are at 16 channels rate block bits bs (Audio base rate bits channels codec) size
-    (plain_channels channels rate block bits more (omega (arith, h.few_channels))) (plain_rate channels rate block bits more (omega (arith, h.small_rate)))
+    (plain_channels channels rate block bits more (omega (arith, h.0.few_channels))) (plain_rate channels rate block bits more (omega (arith, h.0.small_rate)))
     (plain_block channels rate block bits more (omega (arith, few))) (plain_bits channels rate block bits more low) (format_back at base rate bits channels codec h)))
 
-long_step : (at : ℕ) (base : Fraction) (rate bits channels : ℕ) (codec : Codec) (more : List ℕ) → IsPcmSound base rate bits channels codec
+long_step : (at : ℕ) (base : Fraction) (rate bits channels : ℕ) (codec : Codec) (more : List ℕ) → IsWavSound base rate bits channels codec
     → chunk None at (long_chunk channels rate (channels * sample_bytes codec) bits ++ more) ≡ passed 40 (Some (Audio base rate bits channels codec))
 long_step at base rate bits channels codec more h =
     let block = channels * sample_bytes codec in
     let bs = long_chunk channels rate block bits ++ more in
-    let few : block ≤ 32 = mul-le channels (sample_bytes codec) 8 4 h.few_channels (depth_small codec) in
-    let low : bits < 2 ^ 16 = omega (arith, h.depth, depth_small codec) in
+    let few : block ≤ 32 = mul-le channels (sample_bytes codec) 8 4 h.0.few_channels (depth_small codec) in
+    let low : bits < 2 ^ 16 = omega (arith, h.0.depth, depth_small codec) in
     let many : 48 ≤ length bs = omega (arith, length-append (long_chunk channels rate block bits) more, long_length channels rate block bits) in
     let size = long_size channels rate block bits more in
     chunk_is_format at bs (omega (arith, many)) (long_other channels rate block bits more) (long_named channels rate block bits more)
     ∙ (format_is_tagged at bs (omega (arith, many)) (omega (arith, size))
     ∙ (tagged_long at bs (long_tag channels rate block bits more) (omega (arith, size)) many (long_kind channels rate block bits more)
     ∙ fields_are at 40 channels rate block bits bs (Audio base rate bits channels codec) size
-    (long_channels channels rate block bits more (omega (arith, h.few_channels))) (long_rate channels rate block bits more (omega (arith, h.small_rate)))
+    (long_channels channels rate block bits more (omega (arith, h.0.few_channels))) (long_rate channels rate block bits more (omega (arith, h.0.small_rate)))
     (long_block channels rate block bits more (omega (arith, few))) (long_bits channels rate block bits more low) (format_back at base rate bits channels codec h)))
 
 -- ---- the chunk of the body
@@ -235,7 +233,7 @@ joined : (size body_size : ℕ) (format : List ℕ) → riff ++ le_32 size ++ wa
 unfolding first_bytes data_bytes riff wave_format data_id
 joined size body_size format = simp append_assoc
 
-plain_read : (base : Fraction) (rate bits channels : ℕ) (codec : Codec) (size body_size : ℕ) → IsPcmSound base rate bits channels codec → body_size < 2 ^ 32
+plain_read : (base : Fraction) (rate bits channels : ℕ) (codec : Codec) (size body_size : ℕ) → IsWavSound base rate bits channels codec → body_size < 2 ^ 32
     → reading (riff ++ le_32 size ++ wave_format ++ form true channels rate (channels * sample_bytes codec) bits ++ data_id ++ le_32 body_size)
     ≡ Some (Ok (record { head = Audio base rate bits channels codec; start = 44; len = body_len body_size }))
 unfolding plain_chunk
@@ -252,7 +250,7 @@ plain_read base rate bits channels codec size body_size h lt =
     ∙ reading_walk head_limit whole w few (first_agree size (fmt ++ data_bytes body_size))
     (walk_file (first_bytes size) fmt (data_bytes body_size) 16 stream w (first_length size) lf refl (omega (arith, data_length body_size)) (plain_step 12 base rate bits channels codec (data_bytes body_size) h) found)
 
-long_read : (base : Fraction) (rate bits channels : ℕ) (codec : Codec) (size body_size : ℕ) → IsPcmSound base rate bits channels codec → body_size < 2 ^ 32
+long_read : (base : Fraction) (rate bits channels : ℕ) (codec : Codec) (size body_size : ℕ) → IsWavSound base rate bits channels codec → body_size < 2 ^ 32
     → reading (riff ++ le_32 size ++ wave_format ++ form false channels rate (channels * sample_bytes codec) bits ++ data_id ++ le_32 body_size)
     ≡ Some (Ok (record { head = Audio base rate bits channels codec; start = 68; len = body_len body_size }))
 unfolding long_chunk
@@ -269,19 +267,19 @@ long_read base rate bits channels codec size body_size h lt =
     ∙ reading_walk head_limit whole w few (first_agree size (fmt ++ data_bytes body_size))
     (walk_file (first_bytes size) fmt (data_bytes body_size) 40 stream w (first_length size) lf refl (omega (arith, data_length body_size)) (long_step 12 base rate bits channels codec (data_bytes body_size) h) found)
 
-form_read : (plain : Bool) (base : Fraction) (rate bits channels : ℕ) (codec : Codec) (size body_size : ℕ) → IsPcmSound base rate bits channels codec → body_size < 2 ^ 32
+form_read : (plain : Bool) (base : Fraction) (rate bits channels : ℕ) (codec : Codec) (size body_size : ℕ) → IsWavSound base rate bits channels codec → body_size < 2 ^ 32
     → reading (riff ++ le_32 size ++ wave_format ++ form plain channels rate (channels * sample_bytes codec) bits ++ data_id ++ le_32 body_size)
     ≡ Some (Ok (record { head = Audio base rate bits channels codec; start = if plain then 44 else 68; len = body_len body_size }))
 form_read true = plain_read
 form_read false = long_read
 
-header_read : (head : StreamHead) (size body_size : ℕ) → IsStream head → body_size < 2 ^ 32 → reading (header head size body_size) ≡ Some (Ok (says head body_size))
-header_read (Audio base rate bits channels codec) size body_size h lt = form_read (is_plain channels bits) base rate bits channels codec size body_size h lt
-header_read (Video tb format width height sar_num sar_den) size body_size h lt = absurd h
+header_read : (head : StreamHead) (size body_size : ℕ) → IsStream head → IsWavCoded head → body_size < 2 ^ 32 → reading (header head size body_size) ≡ Some (Ok (says head body_size))
+header_read (Audio base rate bits channels codec) size body_size h w lt = form_read (is_plain channels bits) base rate bits channels codec size body_size (h, w) lt
+header_read (Video tb format width height sar_num sar_den) size body_size h w lt = absurd h
 
 pub headers : HeadersAreRead
-headers head size body_size rest h fits lt =
-    let is = header_read head size body_size h lt in
+headers head size body_size rest h w fits lt =
+    let is = header_read head size body_size h w lt in
     head_some (read_within grammar head_limit) (early 12) (header head size body_size ++ rest) (Ok (says head body_size))
     (reading_stays grammar is_lawful (header head size body_size) rest (Ok (says head body_size)) is)
 
@@ -296,9 +294,9 @@ few_before (Audio base rate bits channels codec) = few_at (is_plain channels bit
 few_before (Video tb format width height sar_num sar_den) = omega arith
 
 pub files : FilesAreRead
-files head body h le =
+files head body h w le =
     let few = few_before head in
-    headers head (header_len head - 8 + length body + length body % 2) (length body) (body ++ pad_of (length body)) h (omega (arith, le, few)) (omega (arith, le))
+    headers head (header_len head - 8 + length body + length body % 2) (length body) (body ++ pad_of (length body)) h w (omega (arith, le, few)) (omega (arith, le))
 
 form_length : (plain : Bool) (channels rate block bits size body_size : ℕ) → length (riff ++ le_32 size ++ wave_format ++ form plain channels rate block bits ++ data_id ++ le_32 body_size) ≡ cond plain 44 68
 unfolding riff le_32 le_16 wave_format plain_format long_format fields_of extension pcm_guid data_id
@@ -310,12 +308,7 @@ header_length (Audio base rate bits channels codec) size body_size = form_length
 header_length (Video tb format width height sar_num sar_den) size body_size = refl
 
 some_bytes : (channels : ℕ) (codec : Codec) → 1 ≤ channels → 0 < channels * sample_bytes codec
-some_bytes channels PcmU8 some = omega arith
-some_bytes channels PcmS16le some = omega arith
-some_bytes channels PcmS24le some = omega arith
-some_bytes channels PcmS32le some = omega arith
-some_bytes channels Flac some = omega arith
-some_bytes channels RawVideo some = omega arith
+some_bytes channels codec some = one-le-mul some (few_sample_bytes codec).0
 
 some_block : (head : StreamHead) → IsStream head → 0 < block_of head
 some_block (Audio base rate bits channels codec) h = some_bytes channels codec h.some_channels

@@ -3,6 +3,7 @@ use Rattle.std.specs.Prelude.{◌≡◌, ℕ, ◌%◌, ◌==◌, ◌^◌, ◌<�
 use Rattle.ff_frame.specs.declared.head.StreamHead.{StreamHead}
 use Rattle.ff_pcm_cut.specs.declared.head.PcmHead.{PcmHead as WavHead}
 use Rattle.ff_wav.specs.Chunks.{body_len}
+use Rattle.ff_wav.specs.Codecs.{IsWavCoded}
 use Rattle.ff_wav.specs.Heads.{head as head_read}
 use Rattle.ff_wav.specs.Header.{header, header_of, header_len, longest}
 use Rattle.ff_pcm_cut.specs.Packets.{IsStream, block_of, packets_of, demuxed}
@@ -21,12 +22,12 @@ says head size = record { head = head; start = header_len head; len = body_len s
 
 -- A header with any two sizes of 32 bits says its stream and the size of its body, whatever follows.
 abbrev pub HeadersAreRead : Type 0
-HeadersAreRead = (head : StreamHead) (riff_size size : ℕ) (rest : List ℕ) → IsStream head → riff_size < 2 ^ 32 → size < 2 ^ 32
+HeadersAreRead = (head : StreamHead) (riff_size size : ℕ) (rest : List ℕ) → IsStream head → IsWavCoded head → riff_size < 2 ^ 32 → size < 2 ^ 32
     → head_read (header head riff_size size ++ rest) ≡ Ok (says head size)
 
 -- So does a whole file,
 abbrev pub FilesAreRead : Type 0
-FilesAreRead = (head : StreamHead) (body : List ℕ) → IsStream head → length body ≤ longest
+FilesAreRead = (head : StreamHead) (body : List ℕ) → IsStream head → IsWavCoded head → length body ≤ longest
     → head_read (file_of head body) ≡ Ok (says head (length body))
 
 -- and the packets of what follows its header are those of the body.

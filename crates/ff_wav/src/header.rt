@@ -1,7 +1,7 @@
 // The bytes of a header.
 ghost use Rattle.std.specs.Prelude.{◌≡◌, ◌+◌, ◌*◌, ◌%◌, ◌^◌, ◌<◌, ◌≤◌, ◌++◌, [], IfOk, OnOk};
-ghost use Rattle.ff_frame.specs.Heads.{IsPcmCoded};
 ghost use Rattle.ff_frame.specs.Codecs.{sample_bytes};
+ghost use Rattle.ff_wav.specs.Codecs.{IsWavCoded};
 ghost use Rattle.ff_wav.specs.Header.{le_16, le_32, is_plain, mask_of, fields_of, pcm_guid, extension, riff, wave_format, data_id, plain_format, long_format, format_bytes, header, header_len};
 
 use ff_pcm_cut::size_of_sample;
@@ -140,7 +140,7 @@ pub(crate) fn header_bytes(
     riff_size: u32,
     data_size: u32,
 ) -> Result<Vec<u8>, AllocError>
-    requires { IsPcmCoded head.now }
+    requires { IsWavCoded head.now }
     ensures { IfOk result (λ bytes. bytes.items ≡ header head.now riff_size data_size) }
 {
     let StreamHead::Audio {
@@ -166,7 +166,7 @@ pub(crate) fn header_bytes(
 
 /// How long the header is.
 pub(crate) fn len_of_header(head: &StreamHead) -> u32
-    requires { IsPcmCoded head.now }
+    requires { IsWavCoded head.now }
     ensures value { result ≡ header_len head.now }
     ensures long { 44 ≤ result }
 {

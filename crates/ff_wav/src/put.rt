@@ -1,6 +1,6 @@
 ghost use Rattle.std.specs.Prelude.{◌≡◌, ◌+◌, ◌%◌, ◌<◌, ◌≤◌, ◌↔◌, IsErr, IsTrue, IfOk, OnOk, OnErr};
-ghost use Rattle.ff_frame.specs.Heads.{IsPcmCoded};
-ghost use Rattle.ff_wav.specs.Sound.{IsPcmCoded-prop};
+ghost use Rattle.ff_wav.specs.Codecs.{IsWavCoded};
+ghost use Rattle.ff_wav.specs.Sound.{IsWavCoded-prop};
 
 use crate::header::{header_bytes, len_of_header};
 use ff_frame::StreamHead;
@@ -21,15 +21,15 @@ pub struct WavPut {
     /// The body's bytes so far.
     size: u64,
     ghost small: { size ≤ 4294967200 },
-    ghost coded: { IsPcmCoded head } by { IsPcmCoded-prop head },
+    ghost coded: { IsWavCoded head } by { IsWavCoded-prop head },
 }
 
 impl WavPut {
     ghost use Rattle.ff_wav.specs.Header.{header, header_of, longest, written_head, body_size};
 
-    /// For a stream of linear PCM, with no byte of its body counted.
+    /// For a stream of linear PCM as WAV has it, with no byte of its body counted.
     pub fn new(alloc: Global, head: &StreamHead) -> WavPut
-        requires { IsPcmCoded head.now }
+        requires { IsWavCoded head.now }
         ensures head { written_head result ≡ head.now }
         ensures size { body_size result ≡ 0 }
     {

@@ -1,8 +1,10 @@
--- What the codecs of a head make of what its lane carries: a line for each codec.
+-- What the codecs of a head make of what its lane carries: a line for each way of coding.
 use Rattle.std.proofs.Common.{sym, subst}
 use Rattle.ff_frame.specs.declared.packet.Pkt.{Pkt}
+use Rattle.ff_frame.specs.Codecs.{coding_of}
+use Rattle.ff_frame.specs.declared.coding.Coding.{Coding}
+use Rattle.ff_frame.specs.declared.coding.Coding.TheVariants.{Pcm, Flac, RawVideo}
 use Rattle.ff_frame.specs.declared.head.Codec.{Codec}
-use Rattle.ff_frame.specs.declared.head.Codec.TheVariants.{PcmU8, PcmS16le, PcmS24le, PcmS32le, Flac, RawVideo}
 use Rattle.ff_frame.specs.declared.head.StreamHead.{StreamHead}
 use Rattle.ff_frame.specs.declared.head.StreamHead.TheVariants.{Audio as AudioHead, Video as VideoHead}
 use Rattle.ff_stream.specs.declared.item.Item.{Item}
@@ -12,18 +14,18 @@ use Rattle.ff_pcm.specs.Frames.{HasBlocks}
 use Rattle.ff_pcm.specs.Raw.{HasFrame}
 use Rattle.ff_node_codec.specs.codecs.Made.{HasSameTimes, IsDecoded, IsEncoded}
 use Rattle.ff_node_codec.specs.codecs.Encoding.{IsSound, IsPicture}
-use Rattle.ff_node_codec.specs.codecs.Choices.{CanDecode, CanDecodeSound, CanEncode, frame_made, sound_made, packet_made}
+use Rattle.ff_node_codec.specs.codecs.Choices.{CanDecode, CanDecodeCoded, CanEncode, frame_made, coded_made, packet_made}
 use Rattle.ff_node_codec.specs.codecs.PcmLaws.{pcm_decoded, pcm_encoded, pcm_times}
 use Rattle.ff_node_codec.specs.codecs.RawLaws.{raw_decoded, raw_encoded, raw_times}
 use Rattle.ff_node_codec.specs.codecs.FlacLaws.{flac_decoded}
 
+abbrev pub IsCodedTaken : StreamHead → Coding → Pkt → Type 0
+IsCodedTaken head (Pcm form) p = HasBlocks head p.bytes
+IsCodedTaken head Flac p = Unit {0}
+IsCodedTaken head RawVideo p = ⊥
+
 abbrev pub IsSoundTaken : StreamHead → Codec → Pkt → Type 0
-IsSoundTaken head PcmU8 p = HasBlocks head p.bytes
-IsSoundTaken head PcmS16le p = HasBlocks head p.bytes
-IsSoundTaken head PcmS24le p = HasBlocks head p.bytes
-IsSoundTaken head PcmS32le p = HasBlocks head p.bytes
-IsSoundTaken head Flac p = Unit {0}
-IsSoundTaken head RawVideo p = ⊥
+IsSoundTaken head codec p = IsCodedTaken head (coding_of codec) p
 
 -- what packets of this head are decoded
 abbrev pub IsTakenOf : StreamHead → Pkt → Type 0
@@ -35,18 +37,15 @@ abbrev pub IsTakenFor : StreamHead → Item → Type 0
 IsTakenFor (AudioHead tb rate bits channels codec) x = IsSound x
 IsTakenFor (VideoHead tb format width height sar_num sar_den) x = IsPicture x
 
-sound_decoded : (head : StreamHead) (codec : Codec) (p : Pkt) → CanDecodeSound head codec → FitsPackets head (Packet p)
-    → IsDecoded head p (IsSoundTaken head codec p) (sound_made head codec p)
-sound_decoded head PcmU8 p c fits = pcm_decoded head p c fits
-sound_decoded head PcmS16le p c fits = pcm_decoded head p c fits
-sound_decoded head PcmS24le p c fits = pcm_decoded head p c fits
-sound_decoded head PcmS32le p c fits = pcm_decoded head p c fits
-sound_decoded head Flac p c fits = flac_decoded head p c fits
-sound_decoded head RawVideo p c fits = absurd c
+coded_decoded : (head : StreamHead) (coding : Coding) (p : Pkt) → CanDecodeCoded head coding → FitsPackets head (Packet p)
+    → IsDecoded head p (IsCodedTaken head coding p) (coded_made head coding p)
+coded_decoded head (Pcm form) p c fits = pcm_decoded head p c fits
+coded_decoded head Flac p c fits = flac_decoded head p c fits
+coded_decoded head RawVideo p c fits = absurd c
 
 pub choice_decoded : (head : StreamHead) (p : Pkt) → CanDecode head → FitsPackets head (Packet p)
     → IsDecoded head p (IsTakenOf head p) (frame_made head p)
-choice_decoded (AudioHead tb rate bits channels codec) p c fits = sound_decoded (AudioHead tb rate bits channels codec) codec p c fits
+choice_decoded (AudioHead tb rate bits channels codec) p c fits = coded_decoded (AudioHead tb rate bits channels codec) (coding_of codec) p c fits
 choice_decoded (VideoHead tb format width height sar_num sar_den) p c fits = raw_decoded (VideoHead tb format width height sar_num sar_den) p c fits
 
 pub choice_encoded : (head coded : StreamHead) (x : Item) → CanEncode head coded → FitsFrames head x

@@ -1,11 +1,12 @@
--- Which codecs serve a head, and what they make: a line for each codec.
+-- Which codecs serve a head, and what they make: a line for each way of coding.
 use Rattle.std.specs.Prelude.{◌≡◌, Option, None}
 use Rattle.ff_frame.specs.declared.packet.Pkt.{Pkt}
 use Rattle.ff_frame.specs.declared.head.StreamHead.{StreamHead}
 use Rattle.ff_frame.specs.declared.head.StreamHead.TheVariants.{Audio as AudioHead, Video as VideoHead}
+use Rattle.ff_frame.specs.declared.coding.Coding.{Coding}
+use Rattle.ff_frame.specs.declared.coding.Coding.TheVariants.{Pcm, Flac, RawVideo}
 use Rattle.ff_frame.specs.declared.head.Codec.{Codec}
-use Rattle.ff_frame.specs.declared.head.Codec.TheVariants.{PcmU8, PcmS16le, PcmS24le, PcmS32le, Flac, RawVideo}
-use Rattle.ff_frame.specs.Codecs.{IsPcmCodec}
+use Rattle.ff_frame.specs.Codecs.{coding_of, IsPcmCodec}
 use Rattle.ff_flac_frame.specs.Frame.{IsStream}
 use Rattle.ff_flac_dec.specs.Streams.{stream_of}
 use Rattle.ff_stream.specs.declared.item.Item.{Item}
@@ -13,28 +14,28 @@ use Rattle.ff_pcm.specs.Frames.{IsPcmHead}
 use Rattle.ff_node_codec.specs.codecs.Decoding.{pcm_frame, raw_frame, flac_frame, IsPictureHead}
 use Rattle.ff_node_codec.specs.codecs.Encoding.{coded_head, pcm_packet_of, raw_packet_of}
 
--- sound in this codec is decoded: FLAC of 4 to 24 bits, 1 to 8 channels and a rate of 1 to 1,048,575, or linear PCM at its codec's
+-- sound that is coded so is decoded: FLAC of 4 to 24 bits, 1 to 8 channels and a rate of 1 to 1,048,575, or linear PCM at its codec's
 -- depth
+abbrev pub CanDecodeCoded : StreamHead → Coding → Type 0
+CanDecodeCoded head (Pcm form) = IsPcmHead head
+CanDecodeCoded head Flac = IsStream (stream_of head)
+CanDecodeCoded head RawVideo = ⊥
+
 abbrev pub CanDecodeSound : StreamHead → Codec → Type 0
-CanDecodeSound head PcmU8 = IsPcmHead head
-CanDecodeSound head PcmS16le = IsPcmHead head
-CanDecodeSound head PcmS24le = IsPcmHead head
-CanDecodeSound head PcmS32le = IsPcmHead head
-CanDecodeSound head Flac = IsStream (stream_of head)
-CanDecodeSound head RawVideo = ⊥
+CanDecodeSound head codec = CanDecodeCoded head (coding_of codec)
 
 -- packets of this head are decoded: sound, or pictures of 1 to 16,384 columns and rows
 abbrev pub CanDecode : StreamHead → Type 0
 CanDecode (AudioHead tb rate bits channels codec) = CanDecodeSound (AudioHead tb rate bits channels codec) codec
 CanDecode (VideoHead tb format width height sar_num sar_den) = IsPictureHead (VideoHead tb format width height sar_num sar_den)
 
+abbrev pub coded_made : StreamHead → Coding → Pkt → Option Item
+coded_made head (Pcm form) packet = pcm_frame head packet
+coded_made head Flac packet = flac_frame head packet
+coded_made head RawVideo packet = None
+
 abbrev pub sound_made : StreamHead → Codec → Pkt → Option Item
-sound_made head PcmU8 packet = pcm_frame head packet
-sound_made head PcmS16le packet = pcm_frame head packet
-sound_made head PcmS24le packet = pcm_frame head packet
-sound_made head PcmS32le packet = pcm_frame head packet
-sound_made head Flac packet = flac_frame head packet
-sound_made head RawVideo packet = None
+sound_made head codec packet = coded_made head (coding_of codec) packet
 
 -- the frame of a packet of a stream of this head
 abbrev pub frame_made : StreamHead → Pkt → Option Item

@@ -7,7 +7,7 @@ use crate::codecs::any::{AnyDecoder, AnyEncoder};
 use crate::codecs::flac::FlacDecoder;
 use crate::codecs::pcm::{PcmDecoder, PcmEncoder};
 use crate::codecs::raw::{RawDecoder, RawEncoder};
-use ff_frame::{Codec, StreamHead};
+use ff_frame::{Codec, Coding, StreamHead};
 use std::alloc::Global;
 
 // The decoder of packets of sound of this head, in this codec.
@@ -16,12 +16,10 @@ fn sound_decoder_of(alloc: Global, head: &StreamHead, codec: Codec) -> AnyDecode
     ensures head { any_head result ≡ head.now }
     ensures frame { any_frame result ≡ sound_made head.now codec }
 {
-    match codec {
-        Codec::PcmU8 | Codec::PcmS16le | Codec::PcmS24le | Codec::PcmS32le => AnyDecoder::Pcm(
-            PcmDecoder::new(alloc, *head),
-        ),
-        Codec::Flac => AnyDecoder::Flac(FlacDecoder::new(alloc, *head)),
-        Codec::RawVideo => unreachable!(),
+    match codec.coding() {
+        Coding::Pcm(_) => AnyDecoder::Pcm(PcmDecoder::new(alloc, *head)),
+        Coding::Flac => AnyDecoder::Flac(FlacDecoder::new(alloc, *head)),
+        Coding::RawVideo => unreachable!(),
     }
 }
 

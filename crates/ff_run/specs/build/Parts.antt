@@ -2,8 +2,10 @@
 use Rattle.std.specs.Prelude.{◌≡◌, ℕ, ◌≤◌, Bool, true, false, List, length, map}
 use Rattle.ff_time.specs.declared.cut.TimeCut.{TimeCut}
 use Rattle.ff_frame.specs.Heads.{base_of_head}
+use Rattle.ff_frame.specs.Codecs.{coding_of}
+use Rattle.ff_frame.specs.declared.coding.Coding.{Coding}
+use Rattle.ff_frame.specs.declared.coding.Coding.TheVariants as coding
 use Rattle.ff_frame.specs.declared.head.Codec.{Codec}
-use Rattle.ff_frame.specs.declared.head.Codec.TheVariants as codec
 use Rattle.ff_frame.specs.declared.head.StreamHead.{StreamHead}
 use Rattle.ff_frame.specs.declared.head.StreamHead.TheVariants.{Audio, Video}
 use Rattle.ff_node_filter.specs.best.Bests.{best_events}
@@ -28,9 +30,13 @@ use Rattle.ff_run_plan.specs.Kinds.{KindsOf}
 use Rattle.ff_node_sync.specs.JointTask.{joint_task}
 use Rattle.ff_words.specs.declared.job.OutputJob.{OutputJob}
 
+abbrev pub is_flac_coding : Coding → Bool
+is_flac_coding (coding.Pcm form) = false
+is_flac_coding coding.Flac = true
+is_flac_coding coding.RawVideo = false
+
 abbrev pub is_flac : Codec → Bool
-is_flac codec.Flac = true
-is_flac other = false
+is_flac codec = is_flac_coding (coding_of codec)
 
 -- packets of this head are FLAC
 abbrev pub is_flac_coded : StreamHead → Bool

@@ -5,12 +5,18 @@ use Rattle.std.proofs.Common.{arith, inl, inr, subst, sym}
 use Rattle.std.proofs.lemmas.Bool.Decides.{nat_tests}
 use Rattle.std.proofs.lemmas.List.{length-map}
 use Rattle.ff_time.specs.Fraction.{Fraction, IsBase, IsBase-unit}
-use Rattle.ff_frame.specs.Codecs.{IsPcmCodec}
+use Rattle.ff_frame.specs.Codecs.{coding_of, IsPcmCoding}
+use Rattle.ff_frame.specs.declared.coding.ByteOrder.{ByteOrder}
+use Rattle.ff_frame.specs.declared.coding.ByteOrder.TheVariants.{LittleEndian, BigEndian}
+use Rattle.ff_frame.specs.declared.coding.Coding.{Coding}
+use Rattle.ff_frame.specs.declared.coding.Coding.TheVariants as coding
+use Rattle.ff_frame.specs.declared.coding.PcmDepth.{PcmDepth}
+use Rattle.ff_frame.specs.declared.coding.PcmDepth.TheVariants.{Bits8, Bits16, Bits24, Bits32}
 use Rattle.ff_frame.specs.declared.head.Codec.{Codec}
 use Rattle.ff_frame.specs.declared.head.Codec.TheVariants as codec
 use Rattle.ff_frame.specs.declared.head.StreamHead.{StreamHead}
 use Rattle.ff_frame.specs.declared.head.StreamHead.TheVariants.{Audio, Video}
-use Rattle.ff_node_codec.specs.codecs.Choices.{CanDecode, CanDecodeSound}
+use Rattle.ff_node_codec.specs.codecs.Choices.{CanDecode, CanDecodeCoded, CanDecodeSound}
 use Rattle.ff_flac_dec.specs.Streams.{IsFlacHead, stream_of}
 use Rattle.ff_flac_frame.specs.Frame.{IsStream}
 use Rattle.ff_plan_rules.specs.Kept.{IsFitHead}
@@ -20,24 +26,22 @@ use Rattle.ff_map.specs.declared.map.Kind.TheVariants as kind
 use Rattle.ff_mux.specs.FlacHead.{HasRoom}
 use Rattle.ff_node_mux.specs.Outputs.{CanWrite}
 use Rattle.ff_pcm.specs.Frames.{IsPcmHead}
-use Rattle.ff_plan_layout.specs.Streams.{audio_codec, is_pcm, most_streams, packed_as, packed_bits, takes_head, takes_kind, takes_sound}
+use Rattle.ff_plan_layout.specs.Streams.{audio_codec, is_wav_form, is_wav_sign, most_streams, packed_as, packed_bits, takes_coding, takes_head, takes_kind, takes_sound}
 use Rattle.ff_pcm_cut.specs.Packets as pcm
+use Rattle.ff_wav.specs.Codecs.{IsWavCoding, IsWavForm, IsWavSign}
 use Rattle.ff_words.specs.declared.job.FileFormat.{FileFormat}
 use Rattle.ff_words.specs.declared.job.FileFormat.TheVariants as format
 use Rattle.ff_words.specs.declared.job.OutputJob.{OutputJob}
 use Rattle.ff_run.specs.build.Parts.{CanEncodeTo, is_flac, is_flac_coded}
 
-pcm_decodes : (head : StreamHead) (c : Codec) → IsPcmCodec c → IsPcmHead head → CanDecodeSound head c
-pcm_decodes head codec.PcmU8 p h = h
-pcm_decodes head codec.PcmS16le p h = h
-pcm_decodes head codec.PcmS24le p h = h
-pcm_decodes head codec.PcmS32le p h = h
-pcm_decodes head codec.Flac p h = absurd p
-pcm_decodes head codec.RawVideo p h = absurd p
+pcm_decodes : (head : StreamHead) (k : Coding) → IsPcmCoding k → IsPcmHead head → CanDecodeCoded head k
+pcm_decodes head (coding.Pcm form) p h = h
+pcm_decodes head coding.Flac p h = absurd p
+pcm_decodes head coding.RawVideo p h = absurd p
 
 sound_decodes : (head : StreamHead) → pcm.IsStream head → CanDecode head
 sound_decodes (Audio base rate bits channels coded) h =
-    pcm_decodes (Audio base rate bits channels coded) coded h.coded
+    pcm_decodes (Audio base rate bits channels coded) (coding_of coded) h.coded
     (record { sound = tt; coded = h.coded; depth_is = h.depth; some_channels = h.some_channels; few_channels = h.few_channels })
 sound_decodes (Video tb format width height sar_num sar_den) h = absurd h
 
@@ -99,25 +103,34 @@ no_pictures format.FrameHash rate e = cc
 encode_sound : (f : FileFormat) (c : Codec) (tb : Fraction) (rate bits channels : ℕ) (from : Codec) → IsBase tb
     → (takes_kind f kind.Audio && takes_sound f c rate) ≡ true
     → CanEncodeTo (is_flac c) (Audio tb rate bits channels from) (Audio tb rate (packed_bits c bits) channels c)
-encode_sound f codec.PcmU8 tb rate bits channels from base e = (tt, refl)
-encode_sound f codec.PcmS16le tb rate bits channels from base e = (tt, refl)
-encode_sound f codec.PcmS24le tb rate bits channels from base e = (tt, refl)
-encode_sound f codec.PcmS32le tb rate bits channels from base e = (tt, refl)
 encode_sound f codec.Flac tb rate bits channels from base e = ((base, flac_rate f rate e), refl)
 encode_sound f codec.RawVideo tb rate bits channels from base e = absurd (no_pictures f rate e)
+encode_sound f pcm tb rate bits channels from base e = (tt, refl)
 
 pub heads_encode : (head : StreamHead) (out : OutputJob) → IsFitHead head → takes_head out head ≡ true
     → CanEncodeTo (is_flac_coded (packed_as out head)) head (packed_as out head)
 heads_encode (Audio tb rate bits channels from) out fit t = encode_sound out.format (audio_codec out out.format) tb rate bits channels from fit.base t
 heads_encode (Video tb format width height sar_num sar_den) out fit t = refl
 
-pcm_of : (c : Codec) → is_pcm c ≡ true → IsPcmCodec c
-pcm_of codec.PcmU8 e = tt
-pcm_of codec.PcmS16le e = tt
-pcm_of codec.PcmS24le e = tt
-pcm_of codec.PcmS32le e = tt
-pcm_of codec.Flac e = absurd cc
-pcm_of codec.RawVideo e = absurd cc
+-- what WAV takes is linear PCM as it has it
+wav_sign : (depth : PcmDepth) (sign : Bool) → is_wav_sign depth sign ≡ true → IsWavSign depth sign
+wav_sign Bits8 true e = absurd cc
+wav_sign Bits8 false e = tt
+wav_sign Bits16 true e = tt
+wav_sign Bits16 false e = absurd cc
+wav_sign Bits24 true e = tt
+wav_sign Bits24 false e = absurd cc
+wav_sign Bits32 true e = tt
+wav_sign Bits32 false e = absurd cc
+
+wav_form : (depth : PcmDepth) (sign : Bool) (order : ByteOrder) → is_wav_form depth sign order ≡ true → IsWavForm depth sign order
+wav_form depth sign LittleEndian e = wav_sign depth sign e
+wav_form depth sign BigEndian e = absurd cc
+
+wav_coding : (k : Coding) (rate : ℕ) → takes_coding format.Wav k rate ≡ true → IsWavCoding k
+wav_coding (coding.Pcm form) rate e = wav_form form.depth form.signed form.order e
+wav_coding coding.Flac rate e = absurd cc
+wav_coding coding.RawVideo rate e = absurd cc
 
 -- FLAC has 4 to 24 bits
 some_bits : (bits : ℕ) (low high : Bool) → nat_le 4 bits ≡ low → nat_le bits 24 ≡ high → 4 ≤ (if low && high then bits else 24)
@@ -141,16 +154,12 @@ has_room rate bits channels small some few = record {
 
 write_flac : (c : Codec) (tb : Fraction) (rate bits channels : ℕ) → 1 ≤ channels → channels ≤ 8 → takes_sound format.Flac c rate ≡ true
     → CanWrite format.Flac (Audio tb rate (packed_bits c bits) channels c ∷ [])
-write_flac codec.PcmU8 tb rate bits channels some few e = absurd cc
-write_flac codec.PcmS16le tb rate bits channels some few e = absurd cc
-write_flac codec.PcmS24le tb rate bits channels some few e = absurd cc
-write_flac codec.PcmS32le tb rate bits channels some few e = absurd cc
 write_flac codec.Flac tb rate bits channels some few e = (tt, has_room rate bits channels (flac_rate format.Flac rate e) some few)
-write_flac codec.RawVideo tb rate bits channels some few e = absurd cc
+write_flac other tb rate bits channels some few e = absurd cc
 
 write_sound : (f : FileFormat) (c : Codec) (tb : Fraction) (rate bits channels : ℕ) → 1 ≤ channels → channels ≤ 8
     → (takes_kind f kind.Audio && takes_sound f c rate) ≡ true → CanWrite f (Audio tb rate (packed_bits c bits) channels c ∷ [])
-write_sound format.Wav c tb rate bits channels some few e = pcm_of c e
+write_sound format.Wav c tb rate bits channels some few e = wav_coding (coding_of c) rate e
 write_sound format.Flac c tb rate bits channels some few e = write_flac c tb rate bits channels some few e
 write_sound format.Y4m c tb rate bits channels some few e = absurd cc
 write_sound format.FrameHash c tb rate bits channels some few e = (omega arith, omega arith)

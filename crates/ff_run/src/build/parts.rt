@@ -5,7 +5,7 @@ ghost use Rattle.ff_run.specs.build.Parts.{is_flac as flac_is, is_flac_coded as 
 use crate::build::part::Part;
 use crate::build::through::Through;
 use ff_flac_dec::frame_channel;
-use ff_frame::{Codec, StreamHead};
+use ff_frame::{Codec, Coding, StreamHead};
 use ff_graph::graph_machine;
 use ff_host::{Sink, Source};
 use ff_input::{AnyCut, InputHead};
@@ -27,10 +27,9 @@ use std::alloc::{AllocError, Global};
 fn is_flac(codec: Codec) -> bool
     ensures { result ≡ flac_is codec }
 {
-    match codec {
-        Codec::Flac => true,
-        Codec::PcmU8 | Codec::PcmS16le | Codec::PcmS24le | Codec::PcmS32le | Codec::RawVideo =>
-            false,
+    match codec.coding() {
+        Coding::Flac => true,
+        Coding::Pcm(_) | Coding::RawVideo => false,
     }
 }
 

@@ -1,5 +1,5 @@
 ghost use Rattle.std.specs.Prelude.{IfSome};
-ghost use Rattle.ff_frame.specs.Heads.{IsPcmCoded};
+ghost use Rattle.ff_wav.specs.Codecs.{IsWavCoded};
 ghost use Rattle.ff_mux.specs.FlacHead.{CanHold};
 ghost use Rattle.ff_y4m.specs.Header.{IsVideoHead};
 
@@ -49,7 +49,7 @@ const FLAC_TOLD: &str =
 const CODED: &str = "fff8640200026a126100092050";
 
 fn sound() -> Option<StreamHead>
-    ensures { IfSome result (λ head. IsPcmCoded head) }
+    ensures { IfSome result (λ head. IsWavCoded head) }
 {
     let tb = Rational::new(1, 44100).ok()?;
     Some(StreamHead::Audio {

@@ -11,7 +11,7 @@ returns c = λ bits. simp (
   c.as_str.ensures.value,
   c.as_str-2.ensures.value,
   c.as_str-3.ensures.value,
-  c.name_of_codec.ensures,
+  c.name.ensures,
   c.in_ok-base.ensures,
   c.in_ok-rate.ensures.ok,
   c.in_ok-layout.ensures,
