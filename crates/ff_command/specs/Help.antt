@@ -3,12 +3,13 @@ use Rattle.std.specs.Prelude.{ℕ, ◌-◌, Bool, true, false, List, [], ◌∷�
 use Rattle.ff_lists.specs.Text.{line}
 use Rattle.ff_frame.specs.Codecs.{codec_name}
 use Rattle.ff_frame.specs.declared.head.Codec.{Codec}
-use Rattle.ff_words.specs.declared.job.FileFormat.{FileFormat}
+use Rattle.ff_format.specs.declared.format.FileFormat.{FileFormat}
 use Rattle.ff_words.specs.declared.table.Concern.{Concern}
 use Rattle.ff_words.specs.declared.table.Concern.TheVariants as concern
 use Rattle.ff_words.specs.declared.table.Kind.{Kind}
 use Rattle.ff_words.specs.declared.table.Kind.TheVariants as kind
-use Rattle.ff_words.specs.Options.{options, file_formats, audio_codecs, video_codecs}
+use Rattle.ff_format.specs.Formats.{file_formats}
+use Rattle.ff_words.specs.Options.{options, audio_codecs, video_codecs}
 use Rattle.ff_command.specs.declared.help.TheConstants.{USAGE, ENDS, PROGRAM}
 
 -- a text at the left of so many places, before blanks

@@ -6,7 +6,8 @@ ghost use Rattle.ff_command.specs.Help.{left, all_lines, concerned, taken, effec
 ghost use Rattle.ff_command.specs.Help.{codec_lines, help_text, version_text};
 
 use ff_frame::Codec;
-use ff_words::{AUDIO_CODECS, Concern, FORMATS, FileFormat, Kind, OPTIONS, VIDEO_CODECS};
+use ff_format::{FORMATS, FileFormat};
+use ff_words::{AUDIO_CODECS, Concern, Kind, OPTIONS, VIDEO_CODECS};
 use std::alloc::{AllocError, Global};
 
 /// What stands before the options.

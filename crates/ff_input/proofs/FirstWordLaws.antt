@@ -8,7 +8,7 @@ use Rattle.std.proofs.lemmas.Bool.Decides.{nat_tests}
 use Rattle.ff_reader.specs.Heads.{Found}
 use Rattle.ff_reader.specs.Walks.{agrees}
 use Rattle.ff_reader.proofs.AgreeLaws.{bool_cases, agrees-append, agrees_long, agrees_complete, filled, filled_bytes, length_filled}
-use Rattle.ff_words.specs.declared.job.FileFormat.{FileFormat}
+use Rattle.ff_format.specs.declared.format.FileFormat.{FileFormat}
 use Rattle.ff_input.specs.declared.first_word.FirstWord.{FirstWord}
 use Rattle.ff_input.specs.declared.first_word.FirstWord.TheVariants.{Named, Open, Other}
 use Rattle.ff_input.specs.FirstWords.{Word, begins_with, named_in, told, told_by, or_else, differ, differs_from, are_apart, IsFirstWord}

@@ -7,7 +7,7 @@ use Rattle.ff_frame.specs.declared.cut.HeadEnd.TheVariants as end
 use Rattle.ff_reader.specs.declared.fault.HeadFault.TheVariants.{Unsupported}
 use Rattle.ff_reader.specs.Heads.{IsOpen, answered}
 use Rattle.ff_reader.specs.Walks.{head_limit}
-use Rattle.ff_words.specs.declared.job.FileFormat.{FileFormat}
+use Rattle.ff_format.specs.declared.format.FileFormat.{FileFormat}
 use Rattle.ff_input.specs.declared.first_word.FirstWord.TheVariants.{Named, Open, Other as OtherWord}
 use Rattle.ff_input.specs.declared.walk.InputWalk.{InputWalk}
 use Rattle.ff_input.specs.declared.walk.InputWalk.TheVariants.{Start, Other, In}

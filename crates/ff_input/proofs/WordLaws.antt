@@ -10,7 +10,7 @@ use Rattle.ff_reader.specs.Walks.{Grammar, agrees, walk, walked, within, reading
 use Rattle.ff_reader.proofs.AnswerLaws.{head_none, head_some, early_long}
 use Rattle.ff_reader.proofs.WalkLaws.{walk-drop}
 use Rattle.ff_reader.proofs.ReadingLaws.{reading_at, within_short}
-use Rattle.ff_words.specs.declared.job.FileFormat.TheVariants as format
+use Rattle.ff_format.specs.declared.format.FileFormat.TheVariants as format
 use Rattle.ff_y4m.specs.declared.head.Y4mHead.{Y4mHead}
 use Rattle.ff_flac_dec.specs.declared.head.FlacHead.{FlacHead}
 use Rattle.ff_wav.specs.HeadLaws as wav_laws

@@ -4,7 +4,7 @@ use Rattle.std.specs.Option.{option_map}
 use Rattle.ff_reader.specs.Heads.{Found}
 use Rattle.ff_reader.specs.Walks.{agrees, AreBytes, head_limit}
 use Rattle.ff_reader.specs.declared.fault.HeadFault.TheVariants.{Unsupported}
-use Rattle.ff_words.specs.declared.job.FileFormat.{FileFormat}
+use Rattle.ff_format.specs.declared.format.FileFormat.{FileFormat}
 use Rattle.ff_input.specs.declared.first_word.FirstWord.{FirstWord}
 use Rattle.ff_input.specs.declared.first_word.FirstWord.TheVariants.{Named, Open, Other}
 

@@ -6,8 +6,8 @@ use Rattle.ff_reader.specs.Cutters.{Cutter}
 use Rattle.ff_reader.specs.Heads as heads
 use Rattle.ff_reader.specs.declared.walk.HeadWalk.{HeadWalk}
 use Rattle.ff_reader.specs.declared.fault.HeadFault.TheVariants.{Unsupported}
-use Rattle.ff_words.specs.declared.job.FileFormat.{FileFormat}
-use Rattle.ff_words.specs.declared.job.FileFormat.TheVariants as format
+use Rattle.ff_format.specs.declared.format.FileFormat.{FileFormat}
+use Rattle.ff_format.specs.declared.format.FileFormat.TheVariants as format
 use Rattle.ff_pcm_cut.specs.declared.head.PcmHead.{PcmHead}
 use Rattle.ff_pcm_cut.specs.declared.cut.PcmCut.{PcmCut}
 use Rattle.ff_pcm_cut.specs.Cuts.{pcm_cutter}

@@ -1,7 +1,7 @@
 -- How far a walk has read the head of an input.
 use Rattle.std.specs.Prelude.{◌≡◌, ℕ, List, ◌++◌, Option, None, Err}
 use Rattle.ff_reader.specs.declared.fault.HeadFault.TheVariants.{Unsupported}
-use Rattle.ff_words.specs.declared.job.FileFormat.{FileFormat}
+use Rattle.ff_format.specs.declared.format.FileFormat.{FileFormat}
 use Rattle.ff_input.specs.Answers.{IsBehind}
 use Rattle.ff_input.specs.Formats.{Found, input_head, any_head, any_reached}
 use Rattle.ff_input.specs.declared.walk.InputWalk.{InputWalk}

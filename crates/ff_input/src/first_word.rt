@@ -2,7 +2,7 @@ ghost use Rattle.std.specs.Prelude.{◌≡◌, [], ◌∷◌};
 ghost use Rattle.ff_reader.specs.Walks.{agrees};
 ghost use Rattle.ff_input.specs.FirstWords.{or_else, told_by};
 
-use ff_words::FileFormat;
+use ff_format::FileFormat;
 
 /// What the first bytes of an input tell of its format.
 #[derive(Clone, Copy, PartialEq, Eq, Debug)]

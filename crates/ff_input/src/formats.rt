@@ -12,7 +12,7 @@ use ff_flac_dec::{Flac, FlacCut, FlacHead, FlacWalk};
 use ff_frame::HeadEnd;
 use ff_reader::HeadFormat;
 use ff_wav::{Wav, WavCut, WavHead, WavWalk};
-use ff_words::FileFormat;
+use ff_format::FileFormat;
 use ff_y4m::{Y4mCut, Y4mHead, read_head};
 
 /// The head of an input: what comes before its packets, in the format that it has. WAV (RIFF WAVE), YUV4MPEG2 (yuv4mpeg(5)), FLAC

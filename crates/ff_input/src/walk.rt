@@ -10,7 +10,7 @@ use crate::first_word::FirstWord;
 use crate::formats::{AnyWalk, InputHead, start_of, told_by_words};
 use crate::head_reader::HeadReader;
 use ff_frame::HeadEnd;
-use ff_words::FileFormat;
+use ff_format::FileFormat;
 
 /// How far the head of an input was read.
 #[derive(Drop)]

@@ -1,9 +1,4 @@
-pub mod Layouts
-pub mod Patches
-pub mod Pictures
-pub mod Flac
-pub mod Formats
+pub mod FlacFile
+pub mod HashFile
 pub mod Writers
-pub mod Finished
-pub mod InsideLaws
 pub mod AnyWriters

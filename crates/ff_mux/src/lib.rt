@@ -3,7 +3,7 @@
 //! [`HashPut`] gives the text of a framehash file, in the pieces in which it is written: the lines before the packets, and a line for
 //! each packet. `specs/HashTexts` has them, for any number of streams and either digest.
 //!
-//! `writers` has what an output's format writes: its bytes around the packets and of each, as pure state.
+//! `writers` has what an output's format writes: its bytes around the packets and of each, as pure state, in any format.
 #![tactic(auto)]
 
 mod digest;
@@ -17,6 +17,6 @@ pub use flac::{flac_first, flac_last};
 pub use laws::stream_info_is_its_fields;
 pub use put::HashPut;
 pub use writers::{
-    AnyWriter, FlacWriter, HashWriter, Patch, Writer, Y4mWriter, finished_flacs_are_streams,
-    finished_hashes_are_texts, finished_pictures_are_yuv4mpeg2, finished_wavs_are_riff,
+    AnyWriter, FlacWriter, HashWriter, finished_flacs_are_streams, finished_hashes_are_texts,
+    writer_of,
 };

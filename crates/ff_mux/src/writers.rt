@@ -1,28 +1,15 @@
-//! What an output's format writes: its bytes around the packets and of each, as pure state.
+//! What each output format writes, as pure state: the writers of FLAC and framehash, and the sum over all formats.
 //!
-//! ```text
-//! first ──► header │ text of packet, text of packet, ..  │ pad        the text as a whole
-//!           last ──► takes the place of as many bytes of it, once every stream is whole
-//! ```
-//!
-//! `specs/writers/Layouts` says what a format is to whoever writes files: a `Layout`, and by it the text as a whole, and the finished file,
-//! which is defined once for all formats. `Writer` is what gives the pieces. A format has a file here and a variant of `AnyWriter`;
-//! `specs/writers/Formats` has their layouts, and the laws say that the finished files are those of the formats' own definitions.
+//! A format's writer stands in a crate of its own, with a record of what the format is to whoever writes files (`OutputFormat` of ff_format).
+//! `specs/writers/AnyWriters` has a line for each format: its record, and its writer as a variant of `AnyWriter`. Whoever writes files takes
+//! all else from there.
 
 mod any;
 mod flac;
 mod frame_hash;
 mod laws;
-mod wav;
-mod writer;
-mod y4m;
 
-pub use any::AnyWriter;
+pub use any::{AnyWriter, writer_of};
 pub use flac::FlacWriter;
 pub use frame_hash::HashWriter;
-pub use laws::{
-    finished_flacs_are_streams, finished_hashes_are_texts, finished_pictures_are_yuv4mpeg2,
-    finished_wavs_are_riff,
-};
-pub use writer::{Patch, Writer};
-pub use y4m::Y4mWriter;
+pub use laws::{finished_flacs_are_streams, finished_hashes_are_texts};

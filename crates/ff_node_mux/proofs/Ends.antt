@@ -5,8 +5,8 @@ use Rattle.std.specs.Io.KnownBytes.{Appends, Keeps}
 use Rattle.std.proofs.lemmas.Bool.Decides.{nat_tests}
 use Rattle.ff_lists.specs.Appends.{AppendsPrefix}
 use Rattle.ff_frame.specs.declared.totals.Totals.{Totals}
-use Rattle.ff_mux.specs.writers.Layouts.{Layout}
-use Rattle.ff_mux.specs.writers.Patches.{StandsIn, IsInside}
+use Rattle.ff_format.specs.Layouts.{Layout}
+use Rattle.ff_format.specs.Patches.{StandsIn, IsInside}
 use Rattle.ff_node_mux.specs.Writing.{text_before}
 
 -- they gained all, and stay so

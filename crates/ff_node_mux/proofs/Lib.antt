@@ -2,6 +2,7 @@ pub mod Ends
 pub mod Joining
 pub mod MuxSteps
 pub mod Ones
+pub mod Sizes
 pub mod StreamTells
 pub mod TellSteps
 pub mod Texts

@@ -23,7 +23,7 @@ use Rattle.ff_net.specs.Ways.{Flow, lane_at, IsValidOn, AreValid, with_item_at}
 use Rattle.ff_net.specs.Pasts.{Past, Feed, fed, start, was_told}
 use Rattle.ff_net.specs.Laws.{IsOfInputs}
 use Rattle.ff_net.proofs.Flows.{stream_at-with_item_same, stream_at-with_item_other}
-use Rattle.ff_mux.specs.writers.Layouts.{Layout, body, written, text_of, fits, with_last}
+use Rattle.ff_format.specs.Layouts.{Layout, body, written, text_of, fits, with_last}
 use Rattle.ff_node_mux.specs.Feeding.{feed_of, is_feed_of, feeds_of, feeds_at}
 use Rattle.ff_node_mux.specs.Growing.{causes_grow, held_open, open_text, written_more}
 use Rattle.ff_node_mux.specs.Mixing.{bases_long, lanes_long, mixed_grows, whole_to}

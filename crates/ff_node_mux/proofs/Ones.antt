@@ -13,8 +13,8 @@ use Rattle.ff_node_mux.specs.merge.Queues.{base_at}
 use Rattle.ff_node_mux.specs.merge.Alike.{interleaved_one}
 use Rattle.ff_net.specs.Pasts.{Past}
 use Rattle.ff_net.specs.Ways.{Flow}
-use Rattle.ff_mux.specs.writers.Layouts.{Layout}
-use Rattle.ff_mux.specs.declared.writers.writer.Writer.{Ghosts as WriterGhosts}
+use Rattle.ff_format.specs.Layouts.{Layout}
+use Rattle.ff_format.specs.declared.writer.Writer.{Ghosts as WriterGhosts}
 use Rattle.ff_node_mux.specs.declared.mux.Mux.{Mux}
 use Rattle.ff_node_mux.specs.Growing.{held_open}
 use Rattle.ff_node_mux.specs.Held.{HoldsPart, part_of, part_by}

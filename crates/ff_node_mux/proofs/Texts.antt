@@ -17,7 +17,7 @@ use Rattle.ff_node_mux.specs.merge.Merges.{Placed}
 use Rattle.ff_net.specs.declared.fault.Fault.{Fault}
 use Rattle.ff_net.specs.declared.fault.Fault.TheVariants.{TooLarge}
 use Rattle.ff_net.specs.Ways.{Flow}
-use Rattle.ff_mux.specs.writers.Layouts.{Layout, body, fits, with_last, IsBeyond}
+use Rattle.ff_format.specs.Layouts.{Layout, body, fits, with_last, IsBeyond}
 use Rattle.ff_node_mux.specs.Growing.{body_more}
 use Rattle.ff_node_mux.specs.Muxing.{totals_with, totals_after, totals_of, size_for, cause_for}
 use Rattle.ff_node_mux.specs.Writing.{Replaces, EndsAs}

@@ -11,7 +11,7 @@ use Rattle.ff_net.specs.declared.fault.Fault.{Fault}
 use Rattle.ff_net.specs.declared.fault.Fault.TheVariants.{TooLarge, NoMemory}
 use Rattle.ff_net.specs.Laws.{IsOfInputs}
 use Rattle.ff_frame.specs.declared.totals.Totals.{Totals}
-use Rattle.ff_mux.specs.writers.Layouts.{Layout, body, fits, IsBeyond}
+use Rattle.ff_format.specs.Layouts.{Layout, body, fits, IsBeyond}
 use Rattle.ff_node_mux.specs.Growing.{body_more}
 use Rattle.ff_node_mux.specs.Writing.{text_before, EndsAs, StaysWithin, Wrote, WroteAll, Stuck, WroteOn, StuckOn}
 use Rattle.ff_node_mux.proofs.Texts.{adds_none, front_none, size_then, within_fits, beyond_fits, still_beyond}

@@ -12,7 +12,7 @@ use Rattle.ff_stream.specs.Ports.{AllBelow}
 use Rattle.ff_node_mux.specs.merge.Merges.{Placed}
 use Rattle.ff_net.specs.declared.fault.Fault.{Fault}
 use Rattle.ff_net.specs.Ways.{Flow}
-use Rattle.ff_mux.specs.writers.Layouts.{Layout, body, written, fits}
+use Rattle.ff_format.specs.Layouts.{Layout, body, written, fits}
 use Rattle.ff_node_mux.specs.Muxing.{mixed, text_by, text_for, file_for, file_by, size_for, cause_for, mux_cause, HoldsOf, HoldsSmall}
 use Rattle.ff_node_mux.specs.Mixing.{mixed_grows}
 

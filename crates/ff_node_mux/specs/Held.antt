@@ -9,7 +9,7 @@ use Rattle.ff_stream.specs.Order.{below_self}
 use Rattle.ff_stream.specs.Ports.{nothing, AllBelow}
 use Rattle.ff_node_mux.specs.merge.Merges.{Placed}
 use Rattle.ff_net.specs.Ways.{Flow}
-use Rattle.ff_mux.specs.writers.Layouts.{Layout}
+use Rattle.ff_format.specs.Layouts.{Layout}
 use Rattle.ff_node_mux.specs.Growing.{held_grows, held_open}
 use Rattle.ff_node_mux.specs.Mixing.{mixed_grows, mixed_opened, same_whole, totals_alike, totals_opened}
 use Rattle.ff_node_mux.specs.Muxing.{unpatched, file, text_for, file_for, totals_in, mixed, are_whole, whole_if, HoldsOf}

@@ -4,7 +4,7 @@ use Rattle.std.proofs.Common.{arith}
 use Rattle.ff_net.specs.Laws.{Laws}
 use Rattle.ff_net.specs.Views.{View}
 use Rattle.ff_host.specs.declared.sink.Sink.{Ghosts as SinkGhosts}
-use Rattle.ff_mux.specs.declared.writers.writer.Writer.{Ghosts as WriterGhosts}
+use Rattle.ff_format.specs.declared.writer.Writer.{Ghosts as WriterGhosts}
 use Rattle.ff_node_mux.specs.declared.mux.Mux.{Mux}
 use Rattle.ff_node_mux.specs.Muxers.{mux_sink, mux_stands, mux_in_lanes, mux_fault, mux_spent, mux_first, mux_bases}
 use Rattle.ff_node_mux.specs.Telling.{told_front}

@@ -6,9 +6,9 @@ pub mod Mixing
 pub mod Muxers
 pub mod Muxing
 pub mod MuxLaws
-pub mod Outputs
 pub mod StreamEvents
 pub mod TaskLaws
 pub mod Telling
 pub mod Writing
 pub mod merge
+pub mod Sizes

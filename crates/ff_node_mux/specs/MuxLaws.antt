@@ -14,8 +14,8 @@ use Rattle.ff_net.specs.Pasts.{Past, Task, due}
 use Rattle.ff_net.specs.Laws.{CauseStays, IsOfInputs, MaySpend}
 use Rattle.ff_net.proofs.Flows.{due_meant}
 use Rattle.ff_host.specs.declared.sink.Sink.{Ghosts as SinkGhosts}
-use Rattle.ff_mux.specs.writers.Layouts.{Layout}
-use Rattle.ff_mux.specs.declared.writers.writer.Writer.{Ghosts as WriterGhosts}
+use Rattle.ff_format.specs.Layouts.{Layout}
+use Rattle.ff_format.specs.declared.writer.Writer.{Ghosts as WriterGhosts}
 use Rattle.ff_node_mux.specs.declared.mux.Mux.{Mux}
 use Rattle.ff_node_mux.specs.Growing.{causes_grow, small_held}
 use Rattle.ff_node_mux.specs.Held.{HoldsPart, part_of, part_by, there_is}

@@ -6,8 +6,8 @@ use Rattle.ff_node_mux.specs.merge.Queues.{Merging, merging}
 use Rattle.ff_net.specs.declared.fault.Fault.{Fault}
 use Rattle.ff_net.specs.Pasts.{Past}
 use Rattle.ff_host.specs.declared.sink.Sink.{Ghosts as SinkGhosts}
-use Rattle.ff_mux.specs.writers.Layouts.{Layout}
-use Rattle.ff_mux.specs.declared.writers.writer.Writer.{Ghosts as WriterGhosts}
+use Rattle.ff_format.specs.Layouts.{Layout}
+use Rattle.ff_format.specs.declared.writer.Writer.{Ghosts as WriterGhosts}
 use Rattle.ff_node_mux.specs.Muxing.{MuxStands, head_bases, head_lanes}
 use Rattle.ff_node_mux.specs.Telling.{TellsFed}
 use Rattle.ff_node_mux.specs.declared.mux.Mux.{Mux}

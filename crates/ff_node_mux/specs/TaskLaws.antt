@@ -12,7 +12,7 @@ use Rattle.ff_stream.specs.Order.{below_self, stream_at-opened}
 use Rattle.ff_stream.specs.Ports.{nothing, stream_at, IsMonotone, IsCalm}
 use Rattle.ff_net.specs.Pasts.{Task, Feed}
 use Rattle.ff_net.specs.Ways.{Flow, AreValid}
-use Rattle.ff_mux.specs.writers.Layouts.{Layout}
+use Rattle.ff_format.specs.Layouts.{Layout}
 use Rattle.ff_node_mux.specs.Muxing.{head_bases, head_lanes, mixed, totals_in, text_for, file_for, unpatched, file, mux_answer, mux_cause, mux_means, mux_task_of, shown_file}
 use Rattle.ff_node_mux.specs.Mixing.{mixed_alike, totals_alike, valid_behind}
 

@@ -11,7 +11,7 @@ use Rattle.ff_lists.specs.Appends.{AppendsPrefix}
 use Rattle.ff_net.specs.declared.fault.Fault.{Fault}
 use Rattle.ff_net.specs.declared.fault.Fault.TheVariants.{TooLarge}
 use Rattle.ff_frame.specs.declared.totals.Totals.{Totals}
-use Rattle.ff_mux.specs.writers.Layouts.{Layout, body, fits}
+use Rattle.ff_format.specs.Layouts.{Layout, body, fits}
 
 -- what stands before the packets, where nothing was written yet
 abbrev pub text_before : Bool → Layout → List ℕ

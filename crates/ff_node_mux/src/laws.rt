@@ -1,6 +1,7 @@
 // What follows of the definitions alone.
 ghost use Rattle.ff_node_mux.specs.Held.{HeldPartsStay};
 ghost use Rattle.ff_node_mux.specs.Muxing.{MixedOne};
+ghost use Rattle.ff_node_mux.specs.Sizes.{PcmIsShort, PcmFits};
 ghost use Rattle.ff_node_mux.specs.StreamEvents.{ToldOfStreams, ToldOfOne};
 ghost use Rattle.ff_node_mux.specs.Telling.{AllOfStreams, SentTimes};
 
@@ -23,4 +24,11 @@ pub fn events_of_a_stream()
 /// Of one stream all packets are written, in their own order, and it is whole just where they are all.
 pub fn one_stream_is_written_as_it_is()
     ensures { MixedOne }
+{}
+
+/// Of a valid stream of linear PCM fewer than 2^62 bytes are written, where a packet is written as it stands; a format that holds so
+/// many is never too small for it.
+pub fn sound_is_short()
+    ensures short { PcmIsShort }
+    ensures fits { PcmFits }
 {}

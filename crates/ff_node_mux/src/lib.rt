@@ -10,16 +10,16 @@
 mod laws;
 mod merge;
 mod mux;
-mod output;
 mod telling;
 mod totals;
 mod write;
 mod writing;
 
-pub use laws::{events_of_a_stream, held_parts_stay, one_stream_is_written_as_it_is};
+pub use laws::{
+    events_of_a_stream, held_parts_stay, one_stream_is_written_as_it_is, sound_is_short,
+};
 pub use merge::{
     Interleave, PacketQueue, a_merge_has_each_stream, a_merge_is_in_order,
     one_stream_is_its_packets, what_is_decided_stays, whole_streams_are_merged_whole,
 };
 pub use mux::Mux;
-pub use output::writer_of;

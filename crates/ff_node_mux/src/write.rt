@@ -4,12 +4,12 @@ ghost use Rattle.std.specs.Io.KnownBytes.{Appends, Keeps};
 ghost use Rattle.ff_lists.specs.Appends.{AppendsPrefix};
 ghost use Rattle.ff_net.specs.declared.fault.Fault.TheVariants.{TooLarge};
 ghost use Rattle.ff_net.specs.Laws.{Rose, IsOfInputs};
-ghost use Rattle.ff_mux.specs.writers.Layouts.{IsBeyond};
-ghost use Rattle.ff_mux.specs.writers.Patches.{replacing, StandsIn};
+ghost use Rattle.ff_format.specs.Layouts.{IsBeyond};
+ghost use Rattle.ff_format.specs.Patches.{replacing, StandsIn};
 ghost use Rattle.ff_node_mux.specs.Writing.{text_before, Replaces, EndsAs};
 
 use ff_host::{Sink, SinkError};
-use ff_mux::{Patch, Writer};
+use ff_format::{Patch, Writer};
 use ff_net::Fault;
 use std::alloc::{AllocError, Global};
 

@@ -12,7 +12,7 @@ use crate::write::{text_before, write, write_end, write_packet};
 use ff_filter::discard;
 use ff_frame::Totals;
 use ff_host::Sink;
-use ff_mux::Writer;
+use ff_format::Writer;
 use ff_net::Fault;
 use ff_stream::{Item, Refused};
 use std::alloc::Global;

@@ -10,7 +10,7 @@ use Rattle.ff_frame.specs.declared.head.StreamHead.TheVariants as stream_head
 use Rattle.ff_frame.specs.declared.video.Format.TheVariants as picture
 use Rattle.ff_stream.specs.declared.item.Lane.TheVariants.{Frames, Packets}
 use Rattle.ff_lang.specs.declared.graph.Graph.{Graph}
-use Rattle.ff_words.specs.declared.job.FileFormat.{FileFormat}
+use Rattle.ff_format.specs.declared.format.FileFormat.{FileFormat}
 use Rattle.ff_words.specs.declared.job.Job.{Job}
 use Rattle.ff_map.specs.declared.map.Kind.{Kind}
 use Rattle.ff_map.specs.declared.map.Kind.TheVariants as kind

@@ -1,7 +1,7 @@
 // Plans of some commands, by computation.
 ghost use Rattle.std.specs.Prelude.{◌≡◌, true, false, [], ◌∷◌, codes, Some, None, Ok, Err};
 ghost use Rattle.ff_time.specs.Fraction.{Fraction};
-ghost use Rattle.ff_words.specs.declared.job.FileFormat.TheVariants as format;
+ghost use Rattle.ff_format.specs.declared.format.FileFormat.TheVariants as format;
 ghost use Rattle.ff_map.specs.declared.map.Kind.TheVariants as kind;
 ghost use Rattle.ff_plan_layout.specs.declared.error.PlanError.TheVariants as fault;
 ghost use Rattle.ff_plan.specs.Examples.{example_rules, example_job, sound, pictures, map_in, map_nth, map_label, pictures_plan, two_plan};

@@ -14,8 +14,8 @@ use Rattle.ff_frame.specs.declared.head.Codec.TheVariants as codec
 use Rattle.ff_frame.specs.declared.head.StreamHead.{StreamHead}
 use Rattle.ff_frame.specs.declared.head.StreamHead.TheVariants as stream_head
 use Rattle.ff_lang.specs.declared.graph.Graph.{Graph}
-use Rattle.ff_words.specs.declared.job.FileFormat.{FileFormat}
-use Rattle.ff_words.specs.declared.job.FileFormat.TheVariants as format
+use Rattle.ff_format.specs.declared.format.FileFormat.{FileFormat}
+use Rattle.ff_format.specs.Formats.{is_some_sound, taken_by, takes_sound as sound_taken}
 use Rattle.ff_map.specs.declared.map.Kind.{Kind}
 use Rattle.ff_map.specs.declared.map.Kind.TheVariants as kind
 use Rattle.ff_map.specs.declared.map.MapFrom.{MapFrom}
@@ -86,10 +86,8 @@ all_mapped inside out o m used (spec ∷ specs) =
     behind (mapped inside out o m used spec.optional spec.from) (λ pads. front_with pads (all_mapped inside out o (m + 1) (label_in spec.from ++ used) specs))
 
 abbrev pub takes_kind : FileFormat → Kind → Bool
-takes_kind format.Wav k = same_kind kind.Audio k
-takes_kind format.Flac k = same_kind kind.Audio k
-takes_kind format.Y4m k = same_kind kind.Video k
-takes_kind format.FrameHash k = true
+takes_kind f kind.Audio = is_some_sound (taken_by f).sound
+takes_kind f kind.Video = (taken_by f).pictures
 
 -- whether the automatic choice looks for this kind, beside these streams
 abbrev pub is_wanted : OutputJob → List InPad → Kind → Bool
@@ -117,10 +115,7 @@ codec_or default None = default
 codec_or default (Some c) = c
 
 abbrev pub audio_codec : OutputJob → FileFormat → Codec
-audio_codec out format.Wav = codec_or codec.PcmS16le out.audio
-audio_codec out format.Flac = codec_or codec.Flac out.audio
-audio_codec out format.Y4m = codec_or codec.PcmS16le out.audio
-audio_codec out format.FrameHash = codec_or codec.PcmS16le out.audio
+audio_codec out f = codec_or (taken_by f).codec out.audio
 
 -- the bits of samples of so many, as they are coded: PCM has its own, and FLAC 24 where it can't have as many
 abbrev pub coded_bits : Coding → ℕ → ℕ
@@ -136,34 +131,9 @@ packed_as out (stream_head.Audio tb rate bits channels c) = stream_head.Audio tb
     (audio_codec out out.format)
 packed_as out (stream_head.Video tb f width height sar_num sar_den) = stream_head.Video tb f width height sar_num sar_den
 
--- WAV's linear PCM has the lowest byte first, and is signed but for 8 bits
-abbrev pub is_wav_sign : PcmDepth → Bool → Bool
-is_wav_sign Bits8 sign = not sign
-is_wav_sign Bits16 sign = sign
-is_wav_sign Bits24 sign = sign
-is_wav_sign Bits32 sign = sign
-
-abbrev pub is_wav_form : PcmDepth → Bool → ByteOrder → Bool
-is_wav_form depth sign LittleEndian = is_wav_sign depth sign
-is_wav_form depth sign BigEndian = false
-
--- whether the format takes sound that is coded so, of this rate: WAV its own linear PCM, FLAC what is coded so, framehash any linear PCM
-abbrev pub takes_coding : FileFormat → Coding → ℕ → Bool
-takes_coding format.Wav (coding.Pcm form) rate = is_wav_form form.depth form.signed form.order
-takes_coding format.Wav coding.Flac rate = false
-takes_coding format.Wav coding.RawVideo rate = false
-takes_coding format.Flac (coding.Pcm form) rate = false
-takes_coding format.Flac coding.Flac rate = nat_le rate 1048575
-takes_coding format.Flac coding.RawVideo rate = false
-takes_coding format.Y4m (coding.Pcm form) rate = false
-takes_coding format.Y4m coding.Flac rate = false
-takes_coding format.Y4m coding.RawVideo rate = false
-takes_coding format.FrameHash (coding.Pcm form) rate = true
-takes_coding format.FrameHash coding.Flac rate = false
-takes_coding format.FrameHash coding.RawVideo rate = false
-
+-- whether the format takes such sound
 abbrev pub takes_sound : FileFormat → Codec → ℕ → Bool
-takes_sound f codec rate = takes_coding f (coding_of codec) rate
+takes_sound f c rate = sound_taken (taken_by f).sound c rate
 
 abbrev pub takes_head : OutputJob → StreamHead → Bool
 takes_head out (stream_head.Audio tb rate bits channels c) = takes_kind out.format kind.Audio && takes_sound out.format (audio_codec out out.format) rate
@@ -171,8 +141,7 @@ takes_head out (stream_head.Video tb f width height sar_num sar_den) = takes_kin
 
 -- how many streams a format can hold
 abbrev pub most_streams : FileFormat → ℕ
-most_streams format.FrameHash = 16
-most_streams other = 1
+most_streams f = (taken_by f).streams
 
 -- the simple graph that was given for a kind
 abbrev pub simple_of : OutputJob → Kind → Option Graph

@@ -5,15 +5,16 @@ ghost use Rattle.ff_map.specs.Choice.{has_kind};
 ghost use Rattle.ff_plan_layout.specs.declared.layout.InPad.{InPad};
 ghost use Rattle.ff_plan_layout.specs.Choice.{kind_of as kind_in};
 ghost use Rattle.ff_plan_layout.specs.Streams.{takes_kind as kind_taken, audio_codec as codec_of_sound, codec_or, packed_bits as bits_packed, packed_as as head_packed};
-ghost use Rattle.ff_plan_layout.specs.Streams.{is_wav_form as form_of_wav, takes_sound as sound_taken, takes_head as head_taken};
+ghost use Rattle.ff_plan_layout.specs.Streams.{takes_sound as sound_taken, takes_head as head_taken};
 ghost use Rattle.ff_plan_layout.specs.Streams.{drops as is_dropped, simple_of, is_graph, is_pad as shows_pad, takes as is_taken, is_wanted};
 ghost use Rattle.ff_plan_layout.specs.Streams.{most_streams as most_of};
 
 use crate::layout::{InPad, Origin};
 use crate::wanting::is_kind;
-use ff_frame::{ByteOrder, Codec, Coding, PcmDepth, PcmForm, StreamHead};
+use ff_format::FileFormat;
+use ff_frame::{Codec, Coding, StreamHead};
 use ff_map::Kind;
-use ff_words::{FileFormat, OutputJob};
+use ff_words::OutputJob;
 
 pub(crate) fn kind_of(head: StreamHead) -> Kind
     ensures { result ≡ kind_in head }
@@ -27,12 +28,10 @@ pub(crate) fn kind_of(head: StreamHead) -> Kind
 fn takes_kind(format: FileFormat, kind: Kind) -> bool
     ensures { result ≡ kind_taken format kind }
 {
-    match (format, kind) {
-        (FileFormat::Wav | FileFormat::Flac, Kind::Audio) => true,
-        (FileFormat::Wav | FileFormat::Flac, Kind::Video) => false,
-        (FileFormat::Y4m, Kind::Audio) => false,
-        (FileFormat::Y4m, Kind::Video) => true,
-        (FileFormat::FrameHash, _) => true,
+    let taken = format.taken();
+    match kind {
+        Kind::Audio => taken.sound.is_some(),
+        Kind::Video => taken.pictures,
     }
 }
 
@@ -78,12 +77,7 @@ fn codec_given(default: Codec, given: Option<Codec>) -> Codec
 fn audio_codec(out: &OutputJob) -> Codec
     ensures { result ≡ codec_of_sound out.now out.now.format }
 {
-    match out.format {
-        FileFormat::Flac => codec_given(Codec::Flac, out.audio),
-        FileFormat::Wav => codec_given(Codec::PcmS16le, out.audio),
-        FileFormat::Y4m => codec_given(Codec::PcmS16le, out.audio),
-        FileFormat::FrameHash => codec_given(Codec::PcmS16le, out.audio),
-    }
+    codec_given(out.format.taken().codec, out.audio)
 }
 
 fn packed_bits(codec: Codec, bits: u8) -> u8
@@ -121,31 +115,11 @@ pub(crate) fn packed_as(out: &OutputJob, head: StreamHead) -> StreamHead
     }
 }
 
-// Whether WAV has linear PCM of this form.
-fn is_wav_form(form: PcmForm) -> bool
-    ensures { result ≡ form_of_wav form.depth form.signed form.order }
-{
-    match (form.order, form.depth) {
-        (ByteOrder::LittleEndian, PcmDepth::Bits8) => !form.signed,
-        (ByteOrder::LittleEndian, PcmDepth::Bits16 | PcmDepth::Bits24 | PcmDepth::Bits32) =>
-            form.signed,
-        (ByteOrder::BigEndian, _) => false,
-    }
-}
-
 // Whether a format takes such sound.
 fn takes_sound(format: FileFormat, codec: Codec, rate: u32) -> bool
     ensures { result ≡ sound_taken format codec rate }
 {
-    match (format, codec.coding()) {
-        (FileFormat::Wav, Coding::Pcm(form)) => is_wav_form(form),
-        (FileFormat::Flac, Coding::Flac) => rate <= 1_048_575,
-        (FileFormat::FrameHash, Coding::Pcm(_)) => true,
-        (FileFormat::Wav, Coding::Flac | Coding::RawVideo) => false,
-        (FileFormat::Flac, Coding::Pcm(_) | Coding::RawVideo) => false,
-        (FileFormat::Y4m, _) => false,
-        (FileFormat::FrameHash, Coding::Flac | Coding::RawVideo) => false,
-    }
+    format.taken().sound.takes(codec, rate)
 }
 
 fn takes_head(out: &OutputJob, head: StreamHead) -> bool
@@ -183,10 +157,7 @@ fn most(format: FileFormat) -> usize
     ensures most { result ≡ most_of format }
     ensures few { result ≤ 16 }
 {
-    match format {
-        FileFormat::FrameHash => 16,
-        _ => 1,
-    }
+    format.taken().streams
 }
 
 /// Whether an output takes this as its n-th stream.

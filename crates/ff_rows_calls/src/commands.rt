@@ -6,18 +6,19 @@ use crate::words::{Words, read_number};
 use ff_frame::{Codec, HashKind};
 use ff_lang::Graph;
 use ff_time::TimeCut;
+use ff_format::{FORMATS, FileFormat};
 use ff_words::{
-    Command, FileFormat, InputJob, Job, OutputJob, Solo, WordError, WordKind, read_words,
+    Command, InputJob, Job, OutputJob, Solo, WordError, WordKind, read_words,
 };
 use std::alloc::{AllocError, Global};
 
 fn name_of_format(format: FileFormat) -> &'static str {
-    match format {
-        FileFormat::Wav => "wav",
-        FileFormat::Flac => "flac",
-        FileFormat::Y4m => "yuv4mpegpipe",
-        FileFormat::FrameHash => "framehash",
+    for (name, _ending, listed, _read, _written) in FORMATS.iter() {
+        if *listed == format {
+            return *name;
+        }
     }
+    "unknown"
 }
 
 fn add_word(out: &mut String, word: &str) -> Result<(), AllocError> {

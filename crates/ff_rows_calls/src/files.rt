@@ -5,10 +5,12 @@ ghost use Rattle.ff_mux.specs.FlacHead.{CanHold};
 use crate::table::Stop;
 use crate::wav::head_of;
 use crate::words::Words;
+use ff_format::Writer;
 use ff_frame::{Bytes, Codec, Format, HashKind, Pkt, StreamHead, Totals};
-use ff_mux::{AnyWriter, FlacWriter, HashWriter, Writer, Y4mWriter};
+use ff_mux::{AnyWriter, FlacWriter, HashWriter};
 use ff_time::Rational;
 use ff_wav::WavPut;
+use ff_y4m::Y4mWriter;
 use std::alloc::Global;
 
 // The packet of this number, a tick long, of the bytes that the word at this place says.

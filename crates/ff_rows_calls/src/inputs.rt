@@ -6,7 +6,7 @@ use crate::words::Words;
 use ff_frame::HeadEnd;
 use ff_input::{InputHead, InputWalk, OneOf, read_input_head};
 use ff_lists::front;
-use ff_words::FileFormat;
+use ff_format::FileFormat;
 use std::alloc::Global;
 
 fn format_of(word: &str) -> Result<Option<FileFormat>, Stop> {

@@ -1,4 +1,5 @@
 // What follows of the definitions alone.
+ghost use Rattle.ff_wav.specs.Layout.{WavsAreFiles};
 ghost use Rattle.ff_wav.specs.Written.{HeadersAreRead, FilesAreRead, BodiesAreRead};
 
 /// What is written around a body is read again: a header with any sizes as its stream and its body's size, and a whole
@@ -7,4 +8,9 @@ pub fn what_is_written_is_read_again()
     ensures headers { HeadersAreRead }
     ensures files { FilesAreRead }
     ensures bodies { BodiesAreRead }
+{}
+
+/// The finished file is its header with both sizes, the packets' bytes, and a pad byte where they are odd.
+pub fn finished_wavs_are_riff()
+    ensures { WavsAreFiles }
 {}

@@ -3,6 +3,7 @@
 //! A file is `RIFF`, a size, `WAVE`, and chunks: an id of 4 bytes, a size of 32 bits, the bytes, and a pad byte where
 //! the size is odd. `specs/Chunks` says what one chunk does to the reading of a head, and `specs/Heads` what the head of
 //! a whole input is and which first bytes decide it. The body is linear PCM, and its packets are those of ff_pcm_cut.
+//! `specs/Layout` says how a file is written.
 #![tactic(auto)]
 
 mod chunk;
@@ -11,8 +12,9 @@ mod header;
 mod laws;
 mod put;
 mod walk;
+mod writer;
 
 pub use head::WavHead;
-pub use laws::what_is_written_is_read_again;
-pub use put::{TooLarge, WavPut};
+pub use laws::{finished_wavs_are_riff, what_is_written_is_read_again};
+pub use put::WavPut;
 pub use walk::{Wav, WavCut, WavWalk, read_head};

@@ -3,12 +3,9 @@ ghost use Rattle.ff_wav.specs.Codecs.{IsWavCoded};
 ghost use Rattle.ff_wav.specs.Sound.{IsWavCoded-prop};
 
 use crate::header::{header_bytes, len_of_header};
+use ff_format::TooLarge;
 use ff_frame::StreamHead;
 use std::alloc::{AllocError, Global};
-
-/// The body would be longer than a WAV holds.
-#[derive(Clone, Copy, Debug, PartialEq, Eq)]
-pub struct TooLarge;
 
 /// The longest body, in bytes.
 const LONGEST: u64 = 4294967200;

@@ -10,8 +10,8 @@ use Rattle.ff_frame.specs.declared.hash.HashKind.TheVariants.{Sha256, Md5}
 use Rattle.ff_words.specs.declared.error.Fault.{Fault}
 use Rattle.ff_words.specs.declared.error.WordKind.{WordKind}
 use Rattle.ff_words.specs.declared.error.WordKind.TheVariants.{TooMany, BadValue, NoInput, NoOutput, SameName}
-use Rattle.ff_words.specs.declared.job.FileFormat.{FileFormat}
-use Rattle.ff_words.specs.declared.job.FileFormat.TheVariants.{FrameHash}
+use Rattle.ff_format.specs.declared.format.FileFormat.{FileFormat}
+use Rattle.ff_format.specs.declared.format.FileFormat.TheVariants.{FrameHash}
 use Rattle.ff_words.specs.declared.job.InputJob.{InputJob}
 use Rattle.ff_words.specs.declared.job.OutputJob.{OutputJob}
 use Rattle.ff_words.specs.declared.job.Job.{Job}

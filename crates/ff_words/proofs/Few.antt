@@ -9,7 +9,7 @@ use Rattle.ff_words.specs.declared.job.InputJob.{InputJob}
 use Rattle.ff_words.specs.declared.job.OutputJob.{OutputJob}
 use Rattle.ff_words.specs.declared.job.Job.{Job}
 use Rattle.ff_frame.specs.Codecs.{codec_name}
-use Rattle.ff_words.specs.Options.{format_name}
+use Rattle.ff_format.specs.Formats.{format_name}
 use Rattle.ff_words.specs.Writing.{given, micros_text, where_some, where_true, format_words, start_words, length_words, input_words, map_words, audio_words, video_words, vf_words, af_words, hash_words, output_words, graph_words, trace_words, queue_words, job_words, IsFineOutput, IsFineJob}
 
 abbrev Words : Type 0

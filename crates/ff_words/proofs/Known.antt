@@ -13,8 +13,8 @@ use Rattle.ff_frame.specs.declared.head.Codec.{Codec}
 use Rattle.ff_frame.specs.declared.head.Codec.TheVariants as codec
 use Rattle.ff_frame.specs.declared.hash.HashKind.{HashKind}
 use Rattle.ff_frame.specs.declared.hash.HashKind.TheVariants.{Sha256, Md5}
-use Rattle.ff_words.specs.declared.job.FileFormat.{FileFormat}
-use Rattle.ff_words.specs.declared.job.FileFormat.TheVariants as format
+use Rattle.ff_format.specs.declared.format.FileFormat.{FileFormat}
+use Rattle.ff_format.specs.declared.format.FileFormat.TheVariants as format
 use Rattle.ff_words.specs.declared.table.Concern.{Concern}
 use Rattle.ff_words.specs.declared.table.Concern.TheVariants.{All, Alone, File, Output, Itself}
 use Rattle.ff_words.specs.declared.table.Kind.{Kind}
@@ -23,10 +23,11 @@ use Rattle.ff_words.specs.declared.table.Named.{Named}
 use Rattle.ff_words.specs.declared.table.Rule.{Rule}
 use Rattle.ff_words.specs.declared.value.Micros.{Micros}
 use Rattle.ff_words.specs.declared.value.Value.TheVariants as value
-use Rattle.ff_words.specs.Table.{rule_in, option_named, format_named, audio_codec, video_codec}
+use Rattle.ff_format.specs.Formats.{file_formats, format_name, found, is_read, line_named}
+use Rattle.ff_words.specs.Table.{rule_in, option_named, format_in, format_named, named, audio_codec, video_codec}
 use Rattle.ff_words.specs.Values.{Reads, or_bad, format_value, codec_value, hash_value}
 use Rattle.ff_words.specs.Words.{is_dashed}
-use Rattle.ff_words.specs.Options.{options, format_name, hash_name}
+use Rattle.ff_words.specs.Options.{options, hash_name}
 use Rattle.ff_words.specs.Writing.{micros_text, map_text, IsFineMap, IsFineGraph, IsSoundCodec}
 use Rattle.ff_words.proofs.Spellings.{is-duration, is-map}
 
@@ -142,23 +143,28 @@ no-option word d = none-in options word refl d
 
 -- ---- values
 
-abbrev pub readable : FileFormat → Bool
-readable format.Wav = true
-readable format.Flac = true
-readable format.Y4m = true
-readable format.FrameHash = false
+-- a line that is found by its name is what that name says
+line-is : (list : List (List ℕ × List ℕ × FileFormat × Bool × Bool)) (word : List ℕ) (line : List ℕ × List ℕ × FileFormat × Bool × Bool)
+    → line_named list word ≡ Some line → format_in list word ≡ Some (named line)
+line-is [] word line e = cc
+line-is (l ∷ list) word line e = pick (bytes_eq l.0 word) refl
+  where
+    pick : (b : Bool) → bytes_eq l.0 word ≡ b → format_in (l ∷ list) word ≡ Some (named line)
+    pick true t =
+        let same : l ≡ line = (let here : line_named (l ∷ list) word ≡ Some l = ap (λ b. if b then Some l else line_named list word) t in cc) in
+        ap (λ b. if b then Some (named l) else format_in list word) t ∙ ap (λ x. Some (named x)) same
+    pick false f =
+        let there : line_named list word ≡ Some line = sym (ap (λ b. if b then Some l else line_named list word) f) ∙ e in
+        ap (λ b. if b then Some (named l) else format_in list word) f ∙ line-is list word line there
 
 abbrev named_as : FileFormat → Named
-named_as f = record { format = f; read = readable f; written = true }
+named_as f = record { format = f; read = is_read f; written = true }
 
 format-is : (f : FileFormat) → format_named (format_name f) ≡ Some (named_as f)
 unfolding format_named
-format-is format.Wav = refl
-format-is format.Flac = refl
-format-is format.Y4m = refl
-format-is format.FrameHash = refl
+format-is f = line-is file_formats (format_name f) (format_name f, (found f).0, f, is_read f, true) (found f).1
 
-pub reads-format : (f : FileFormat) → Reads kind.Format (format_name f) (Ok (value.Format f (readable f) true))
+pub reads-format : (f : FileFormat) → Reads kind.Format (format_name f) (Ok (value.Format f (is_read f) true))
 reads-format f = sym (ap (λ o. or_bad (format_value o)) (format-is f))
 
 audio-is : (c : Codec) → IsSoundCodec c → audio_codec (codec_name c) ≡ Some c

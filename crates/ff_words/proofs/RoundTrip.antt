@@ -17,8 +17,8 @@ use Rattle.ff_frame.specs.declared.head.Codec.TheVariants as codec
 use Rattle.ff_frame.specs.declared.hash.HashKind.{HashKind}
 use Rattle.ff_frame.specs.declared.hash.HashKind.TheVariants.{Sha256, Md5}
 use Rattle.ff_words.specs.declared.error.WordKind.TheVariants.{TooMany, BadValue, NoInput, NoOutput, SameName}
-use Rattle.ff_words.specs.declared.job.FileFormat.{FileFormat}
-use Rattle.ff_words.specs.declared.job.FileFormat.TheVariants as format
+use Rattle.ff_format.specs.declared.format.FileFormat.{FileFormat}
+use Rattle.ff_format.specs.declared.format.FileFormat.TheVariants as format
 use Rattle.ff_words.specs.declared.job.InputJob.{InputJob}
 use Rattle.ff_words.specs.declared.job.OutputJob.{OutputJob}
 use Rattle.ff_words.specs.declared.job.Job.{Job}
@@ -34,10 +34,11 @@ use Rattle.ff_words.specs.declared.value.Micros.{Micros}
 use Rattle.ff_words.specs.declared.value.Value.TheVariants as value
 use Rattle.ff_words.specs.Reading.{pending, reader, place_unless, end_wrong}
 use Rattle.ff_words.specs.Words.{IsAnswer, or_else, cut_of, length_of, fault, bad_at, same_name}
-use Rattle.ff_words.specs.Options.{format_name, hash_name}
+use Rattle.ff_format.specs.Formats.{format_name, is_read, short_name}
+use Rattle.ff_words.specs.Options.{hash_name}
 use Rattle.ff_words.specs.Writing.{given, micros_text, map_text, format_words, start_words, length_words, input_words, map_words, audio_words, video_words, vf_words, af_words, hash_words, where_some, where_true, output_words, graph_words, trace_words, queue_words, job_words, IsFineText, IsFineGraph, IsFineMap, IsReadFormat, IsSoundCodec, WhereSome, IsFineInput, IsFineOutput, IsFineJob, IsFineSolo, IsFineCommand, solo_words, command_words}
 use Rattle.ff_words.proofs.Spellings.{is-number, number-short, micros-short, map-short}
-use Rattle.ff_words.proofs.Known.{readable, line-queue, line-help, line-version, line-self_run, line-trace, line-complex, line-format, line-start, line-length, line-input, line-map, line-audio, line-video, line-vf, line-af, line-no_audio, line-no_video, line-shortest, line-hash, reads-format, reads-audio, reads-video, reads-hash, reads-map, reads-complex, reads-vf, reads-af, reads-start, reads-length}
+use Rattle.ff_words.proofs.Known.{line-queue, line-help, line-version, line-self_run, line-trace, line-complex, line-format, line-start, line-length, line-input, line-map, line-audio, line-video, line-vf, line-af, line-no_audio, line-no_video, line-shortest, line-hash, reads-format, reads-audio, reads-video, reads-hash, reads-map, reads-complex, reads-vf, reads-af, reads-start, reads-length}
 use Rattle.ff_words.proofs.Goes.{Goes, goes-start, goes-by, goes-option, goes-input, goes-switch, goes-output}
 use Rattle.ff_words.proofs.Tokens.{ended}
 use Rattle.ff_words.proofs.Few.{few}
@@ -109,10 +110,7 @@ codec-short codec.RawVideo = omega arith
 codec-short other = omega arith
 
 format-short : (f : FileFormat) → IsFineText (format_name f)
-format-short format.Wav = omega arith
-format-short format.Flac = omega arith
-format-short format.Y4m = omega arith
-format-short format.FrameHash = omega arith
+format-short f = let short = short_name f in omega (arith, short)
 
 hash-short : (h : HashKind) → IsFineText (hash_name h)
 hash-short Sha256 = omega arith
@@ -283,9 +281,9 @@ format-read : (ws : List Text) (few : length ws ≤ 1024) (y rest : List Text) (
     → Out ws ((format_words o ++ y) ++ rest) r w → Out ws (y ++ rest) r (record w { format = Some o })
 format-read ws few y rest r w o h = (
   or_else h.0 None,
-  place_unless (readable o) h.3.at,
+  place_unless (is_read o) h.3.at,
   or_else h.2 (Some h.3.at),
-  goes-option ws few (codes "-f") (format_name o) (y ++ rest) (in_hand r (held h.0 h.1 h.2 w)) File kind.Format (value.Format o (readable o) true) h.3 refl line-format refl (omega arith) (format-short o) refl refl
+  goes-option ws few (codes "-f") (format_name o) (y ++ rest) (in_hand r (held h.0 h.1 h.2 w)) File kind.Format (value.Format o (is_read o) true) h.3 refl line-format refl (omega arith) (format-short o) refl refl
       (reads-format o),
 )
 
@@ -360,19 +358,13 @@ outputs-read ws few rest (o ∷ os) r fine room g =
 
 -- ---- an input
 
-is-readable : (f : FileFormat) → IsReadFormat f → readable f ≡ true
-is-readable format.Wav h = refl
-is-readable format.Flac h = refl
-is-readable format.Y4m h = refl
-is-readable format.FrameHash h = absurd h
-
 in-format : (ws : List Text) (few : length ws ≤ 1024) (y rest : List Text) (r : Reader) (w : Own) (o : Option FileFormat) → WhereSome IsReadFormat o
     → In ws ((where_some format_words o ++ y) ++ rest) r (record w { format = None }) → In ws (y ++ rest) r (record w { format = o })
 in-format ws few y rest r w None fine h = h
 in-format ws few y rest r w (Some f) fine h = (
   or_else h.0 (Some h.1.at),
-  subst (λ b. Goes ws (y ++ rest) (in_hand r (held None (place_unless b h.1.at) (or_else h.0 (Some h.1.at)) (record w { format = Some f })))) (is-readable f fine)
-      (goes-option ws few (codes "-f") (format_name f) (y ++ rest) (in_hand r (held None None h.0 (record w { format = None }))) File kind.Format (value.Format f (readable f) true) h.1 refl line-format refl (omega arith)
+  subst (λ b. Goes ws (y ++ rest) (in_hand r (held None (place_unless b h.1.at) (or_else h.0 (Some h.1.at)) (record w { format = Some f })))) (fine)
+      (goes-option ws few (codes "-f") (format_name f) (y ++ rest) (in_hand r (held None None h.0 (record w { format = None }))) File kind.Format (value.Format f (is_read f) true) h.1 refl line-format refl (omega arith)
       (format-short f) refl refl (reads-format f)),
 )
 

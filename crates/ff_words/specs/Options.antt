@@ -4,8 +4,6 @@ use Rattle.ff_frame.specs.declared.head.Codec.{Codec}
 use Rattle.ff_frame.specs.declared.head.Codec.TheVariants as codec
 use Rattle.ff_frame.specs.declared.hash.HashKind.{HashKind}
 use Rattle.ff_frame.specs.declared.hash.HashKind.TheVariants.{Sha256, Md5}
-use Rattle.ff_words.specs.declared.job.FileFormat.{FileFormat}
-use Rattle.ff_words.specs.declared.job.FileFormat.TheVariants as format
 use Rattle.ff_words.specs.declared.table.Concern.{Concern}
 use Rattle.ff_words.specs.declared.table.Concern.TheVariants.{All, Alone, File, Output, Itself}
 use Rattle.ff_words.specs.declared.table.Kind.{Kind}
@@ -46,22 +44,6 @@ options =
     (codes "-an", Output, kind.NoAudio) ∷
     (codes "-shortest", Output, kind.Shortest) ∷
     (codes "-hash", Output, kind.Hash) ∷
-    []
-
-abbrev pub format_name : FileFormat → List ℕ
-format_name format.Wav = codes "wav"
-format_name format.Flac = codes "flac"
-format_name format.Y4m = codes "yuv4mpegpipe"
-format_name format.FrameHash = codes "framehash"
-
--- each format with its name, how the names of its files end (empty where no ending tells it), and whether an input and an
--- output may have it
-abbrev pub file_formats : List (List ℕ × List ℕ × FileFormat × Bool × Bool)
-file_formats =
-    (format_name format.Wav, codes ".wav", format.Wav, true, true) ∷
-    (format_name format.Flac, codes ".flac", format.Flac, true, true) ∷
-    (format_name format.Y4m, codes ".y4m", format.Y4m, true, true) ∷
-    (format_name format.FrameHash, [], format.FrameHash, false, true) ∷
     []
 
 -- the codecs of sound, in the order in which `-h` tells them

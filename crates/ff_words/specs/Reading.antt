@@ -1,7 +1,7 @@
 -- What one pass keeps of the entries it has read, and what one more entry makes of it.
 use Rattle.std.specs.Prelude.{◌≡◌, ℕ, ◌+◌, Bool, true, false, Option, Some, None, unwrap_or, List, ◌∷◌, [], ◌++◌, if◌then◌else◌}
 use Rattle.ff_words.specs.declared.table.Concern.{Concern}
-use Rattle.ff_words.specs.declared.job.FileFormat.{FileFormat}
+use Rattle.ff_format.specs.declared.format.FileFormat.{FileFormat}
 use Rattle.ff_words.specs.declared.value.Value.{Value}
 use Rattle.ff_words.specs.declared.value.Value.TheVariants as value
 use Rattle.ff_words.specs.declared.reader.Pending.{Pending}

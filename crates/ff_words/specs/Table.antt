@@ -5,12 +5,13 @@ use Rattle.std.specs.Borrow.{Bor}
 use Rattle.std.specs.Str.{bytes_eq}
 use Rattle.ff_frame.specs.Codecs.{codec_name}
 use Rattle.ff_frame.specs.declared.head.Codec.{Codec}
-use Rattle.ff_words.specs.declared.job.FileFormat.{FileFormat}
+use Rattle.ff_format.specs.declared.format.FileFormat.{FileFormat}
 use Rattle.ff_words.specs.declared.table.Concern.{Concern}
 use Rattle.ff_words.specs.declared.table.Kind.{Kind}
 use Rattle.ff_words.specs.declared.table.Rule.{Rule}
 use Rattle.ff_words.specs.declared.table.Named.{Named}
-use Rattle.ff_words.specs.Options.{options, file_formats, audio_codecs, video_codecs, log_levels}
+use Rattle.ff_format.specs.Formats.{file_formats}
+use Rattle.ff_words.specs.Options.{options, audio_codecs, video_codecs, log_levels}
 
 -- the option of this name
 abbrev pub rule_in : List (List ℕ × Concern × Kind) → List ℕ → Option Rule

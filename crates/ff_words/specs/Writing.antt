@@ -17,8 +17,7 @@ use Rattle.ff_map.specs.declared.map.MapFrom.{MapFrom}
 use Rattle.ff_map.specs.declared.map.MapFrom.TheVariants.{Input, Label}
 use Rattle.ff_map.specs.declared.map.MapSpec.{MapSpec}
 use Rattle.ff_map.specs.Grammar.{letter, mark}
-use Rattle.ff_words.specs.declared.job.FileFormat.{FileFormat}
-use Rattle.ff_words.specs.declared.job.FileFormat.TheVariants as format
+use Rattle.ff_format.specs.declared.format.FileFormat.{FileFormat}
 use Rattle.ff_words.specs.declared.job.InputJob.{InputJob}
 use Rattle.ff_words.specs.declared.job.OutputJob.{OutputJob}
 use Rattle.ff_words.specs.declared.job.Job.{Job}
@@ -26,7 +25,8 @@ use Rattle.ff_words.specs.declared.job.Command.{Command}
 use Rattle.ff_words.specs.declared.job.Command.TheVariants as asked
 use Rattle.ff_words.specs.declared.job.Solo.{Solo}
 use Rattle.ff_words.specs.declared.job.Solo.TheVariants.{Help, Version, SelfRun}
-use Rattle.ff_words.specs.Options.{format_name, hash_name}
+use Rattle.ff_format.specs.Formats.{format_name, is_read}
+use Rattle.ff_words.specs.Options.{hash_name}
 use Rattle.ff_words.specs.Words.{is_dashed, same_name}
 
 -- ---- values
@@ -169,10 +169,7 @@ abbrev pub IsFineMap : MapSpec → Type 0
 IsFineMap m = IsFineFrom m.from m.optional
 
 abbrev pub IsReadFormat : FileFormat → Type 0
-IsReadFormat format.Wav = Unit {0}
-IsReadFormat format.Flac = Unit {0}
-IsReadFormat format.Y4m = Unit {0}
-IsReadFormat format.FrameHash = ⊥
+IsReadFormat f = is_read f ≡ true
 
 abbrev pub IsSoundCoding : Coding → Type 0
 IsSoundCoding (Pcm form) = Unit {0}

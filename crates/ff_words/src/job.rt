@@ -1,18 +1,8 @@
+use ff_format::FileFormat;
 use ff_frame::{Codec, HashKind};
 use ff_lang::{Graph, Sequence, Text};
 use ff_map::MapSpec;
 use ff_time::TimeCut;
-
-/// A format of files.
-#[derive(Clone, Copy, Debug, PartialEq, Eq)]
-pub enum FileFormat {
-    Wav,
-    Flac,
-    /// YUV4MPEG2.
-    Y4m,
-    /// Digests of packets, for outputs alone.
-    FrameHash,
-}
 
 /// An input with its options.
 #[derive(Debug, Drop)]

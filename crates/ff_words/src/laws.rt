@@ -1,7 +1,7 @@
 //! Laws of the definition of the words. Each is a function that does nothing: its clauses hold of all values.
 ghost use Rattle.std.specs.Prelude.{◌≡◌, ◌++◌, ℕ, List, Result, Ok, Err, map};
-ghost use Rattle.ff_words.specs.declared.table.TheConstants.{OPTIONS, FORMATS, AUDIO_CODECS, VIDEO_CODECS, LEVELS};
-ghost use Rattle.ff_words.specs.Options.{options, file_formats, audio_codecs, video_codecs, log_levels};
+ghost use Rattle.ff_words.specs.declared.table.TheConstants.{OPTIONS, AUDIO_CODECS, VIDEO_CODECS, LEVELS};
+ghost use Rattle.ff_words.specs.Options.{options, audio_codecs, video_codecs, log_levels};
 ghost use Rattle.ff_words.specs.Words.{IsAnswer, EndsBetween, FaultOfFront};
 ghost use Rattle.ff_words.specs.declared.error.Fault.{Fault};
 ghost use Rattle.ff_words.specs.Writing.{IsFineCommand, command_words};
@@ -10,7 +10,6 @@ ghost use Rattle.ff_words.specs.declared.job.Command.{Command};
 /// The lists of the code are those of the definition, line by line.
 pub fn the_lists_are_as_defined()
     ensures of_options { map (λ line. (line.0.now, line.1, line.2)) OPTIONS ≡ options }
-    ensures of_formats { map (λ line. (line.0.now, line.1.now, line.2, line.3, line.4)) FORMATS ≡ file_formats }
     ensures of_sound { AUDIO_CODECS ≡ audio_codecs }
     ensures of_pictures { VIDEO_CODECS ≡ video_codecs }
     ensures of_levels { map (λ name. name.now) LEVELS ≡ log_levels }

@@ -25,9 +25,9 @@ mod table;
 mod value;
 
 pub use error::{WordError, WordKind};
-pub use job::{Command, FileFormat, InputJob, Job, OutputJob, Solo};
+pub use job::{Command, InputJob, Job, OutputJob, Solo};
 pub use laws::{
     a_fault_stays, the_lists_are_as_defined, words_have_one_answer, written_commands_are_read,
 };
 pub use read::read_words;
-pub use table::{AUDIO_CODECS, Concern, FORMATS, Kind, OPTIONS, VIDEO_CODECS};
+pub use table::{AUDIO_CODECS, Concern, Kind, OPTIONS, VIDEO_CODECS};

@@ -14,10 +14,11 @@ ghost use Rattle.ff_words.specs.declared.job.OutputJob.{OutputJob};
 
 use crate::cuts::cut;
 use crate::error::{Fault, WordError, WordKind};
-use crate::job::{Command, FileFormat, InputJob, Job, OutputJob, Solo};
+use crate::job::{Command, InputJob, Job, OutputJob, Solo};
 use crate::read_value::{read_value, text_of};
 use crate::table::{Concern, Kind, Rule, find_option, format_ending};
 use crate::value::{Micros, Value};
+use ff_format::FileFormat;
 use ff_frame::{Codec, HashKind};
 use ff_lang::{Graph, Sequence, Text};
 use ff_map::MapSpec;

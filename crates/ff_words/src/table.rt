@@ -5,7 +5,7 @@ ghost use Rattle.ff_words.specs.Table.{lines, formats, names, rule_in, option_na
 ghost use Rattle.ff_words.specs.Table.{format_named, ending_in, format_ending as named_by_ending, codec_in, audio_codec as audio_codec_named};
 ghost use Rattle.ff_words.specs.Table.{video_codec as video_codec_named, level_in, is_level as level_named};
 
-use crate::job::FileFormat;
+use ff_format::{FORMATS, FileFormat};
 use ff_frame::Codec;
 
 /// Whom an option concerns.
@@ -111,15 +111,6 @@ pub static OPTIONS: [(&'static str, Concern, Kind); 32] = [
     ("-an", Concern::Output, Kind::NoAudio),
     ("-shortest", Concern::Output, Kind::Shortest),
     ("-hash", Concern::Output, Kind::Hash),
-];
-
-/// The values of `-f`, each with how the names of such files end (empty where no ending tells), and whether an input and an
-/// output may have it.
-pub static FORMATS: [(&'static str, &'static str, FileFormat, bool, bool); 4] = [
-    ("wav", ".wav", FileFormat::Wav, true, true),
-    ("flac", ".flac", FileFormat::Flac, true, true),
-    ("yuv4mpegpipe", ".y4m", FileFormat::Y4m, true, true),
-    ("framehash", "", FileFormat::FrameHash, false, true),
 ];
 
 /// The codecs of sound.

@@ -1,6 +1,7 @@
 ghost use Rattle.std.specs.Prelude.{◌≤◌, ◌^◌};
 
-use crate::job::{FileFormat, Solo};
+use crate::job::Solo;
+use ff_format::FileFormat;
 use ff_frame::{Codec, HashKind};
 use ff_lang::{Graph, Text};
 use ff_map::MapSpec;

@@ -8,3 +8,4 @@ pub mod FrameLaws
 pub mod DecidedLaws
 pub mod TextLaws
 pub mod WrittenLaws
+pub mod FinishedLaws

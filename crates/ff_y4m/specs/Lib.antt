@@ -5,5 +5,7 @@ pub mod Packets
 pub mod Units
 pub mod Cuts
 pub mod Header
+pub mod Layout
 pub mod Heads
+pub mod Writers
 pub mod Written

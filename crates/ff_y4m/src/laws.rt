@@ -3,6 +3,7 @@ ghost use Rattle.std.specs.Prelude.{◌≡◌, ℕ, List, None, All, length};
 ghost use Rattle.ff_frame.specs.declared.packet.Pkt.{Pkt};
 ghost use Rattle.ff_time.specs.Fraction.{Fraction};
 ghost use Rattle.ff_y4m.specs.Header.{frames, planes_of};
+ghost use Rattle.ff_y4m.specs.Layout.{PicturesAreFiles};
 ghost use Rattle.ff_y4m.specs.Numbers.{IsBaseOf};
 ghost use Rattle.ff_y4m.specs.Packets.{packets_from, broken_from};
 ghost use Rattle.ff_y4m.specs.Units.{IsDecided};
@@ -32,4 +33,9 @@ pub fn frames_are_decided()
 /// no time base.
 pub fn rates_are_in_lowest_terms()
     ensures { (num den : ℕ) (f : Fraction) → IsBaseOf num den f }
+{}
+
+/// The finished file of pictures is its first line and the frames of the packets.
+pub fn finished_pictures_are_yuv4mpeg2()
+    ensures { PicturesAreFiles }
 {}

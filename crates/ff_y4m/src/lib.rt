@@ -3,8 +3,8 @@
 //! A file is a line of parameters, and then frames: each a line that begins with `FRAME`, and the planes Y, Cb and Cr.
 //! `specs/Lines` says where a line ends, `specs/Parameters` what a parameter says, `specs/Heads` what the head of a
 //! whole input is and which first bytes decide it, `specs/Packets` which frames follow the head and where they break off,
-//! `specs/Units` what may still come of some bytes, and
-//! `specs/Cuts` how a cut's state is tied to what it was fed and gave.
+//! `specs/Units` what may still come of some bytes,
+//! `specs/Cuts` how a cut's state is tied to what it was fed and gave, and `specs/Layout` how a file is written.
 #![tactic(auto)]
 
 mod cut;
@@ -16,12 +16,14 @@ mod line;
 mod number;
 mod parameters;
 mod read;
+mod writer;
 
 pub use cut::Y4mCut;
 pub use head::Y4mHead;
 pub use header::y4m_header;
 pub use laws::{
-    frames_are_decided, rates_are_in_lowest_terms, what_is_written_is_read_again,
-    written_frames_are_read_again,
+    finished_pictures_are_yuv4mpeg2, frames_are_decided, rates_are_in_lowest_terms,
+    what_is_written_is_read_again, written_frames_are_read_again,
 };
 pub use read::read_head;
+pub use writer::Y4mWriter;

@@ -1,14 +1,39 @@
--- A writer of any format: a line for each.
-use Rattle.std.specs.Prelude.{◌≡◌, ⊤, ℕ, Option}
+-- The formats that are written, and a writer of any: a line for each.
+use Rattle.std.specs.Prelude.{◌≡◌, ⊤, ℕ, List, Option}
+use Rattle.ff_format.specs.Formats.{taken_by}
+use Rattle.ff_format.specs.Layouts.{Layout}
+use Rattle.ff_format.specs.Outputs.{OutputFormat}
+use Rattle.ff_format.specs.Patches.{IsInside}
+use Rattle.ff_format.specs.declared.format.FileFormat.{FileFormat}
+use Rattle.ff_format.specs.declared.format.FileFormat.TheVariants as format
+use Rattle.ff_format.specs.declared.format.OutputOptions.{OutputOptions}
+use Rattle.ff_frame.specs.declared.head.StreamHead.{StreamHead}
 use Rattle.ff_frame.specs.declared.totals.Totals.{Totals}
-use Rattle.ff_wav.specs.Header.{written_head, body_size}
 use Rattle.ff_mux.specs.declared.writers.any.AnyWriter.{AnyWriter}
 use Rattle.ff_mux.specs.declared.writers.any.AnyWriter.TheVariants.{Wav, Flac, Y4m, Hash}
-use Rattle.ff_mux.specs.writers.Layouts.{Layout}
-use Rattle.ff_mux.specs.writers.Patches.{IsInside}
-use Rattle.ff_mux.specs.writers.Formats.{wav_layout, flac_layout, y4m_layout, hash_layout}
-use Rattle.ff_mux.specs.writers.Writers.{flac_head, y4m_head, hash_kind, hash_heads}
-use Rattle.ff_mux.specs.writers.InsideLaws.{wav_inside, flac_inside}
+use Rattle.ff_mux.specs.writers.FlacFile.{flac_format, flac_inside, flac_layout}
+use Rattle.ff_mux.specs.writers.HashFile.{hash_format, hash_layout}
+use Rattle.ff_mux.specs.writers.Writers.{flac_head, hash_kind, hash_heads}
+use Rattle.ff_wav.specs.Header.{written_head, body_size}
+use Rattle.ff_wav.specs.Layout.{wav_format, wav_inside, wav_layout}
+use Rattle.ff_y4m.specs.Layout.{y4m_format, y4m_layout}
+use Rattle.ff_y4m.specs.Writers.{y4m_head}
+
+abbrev pub format_of : (f : FileFormat) → OutputFormat (taken_by f)
+format_of format.Wav = wav_format
+format_of format.Flac = flac_format
+format_of format.Y4m = y4m_format
+format_of format.FrameHash = hash_format
+
+-- the format takes packets of streams of these heads
+abbrev pub CanWrite : FileFormat → List StreamHead → Type 0
+CanWrite f heads = (format_of f).CanWrite heads
+
+-- how the format is written, for streams of these heads
+abbrev pub layout_of : FileFormat → OutputOptions → List StreamHead → Layout
+layout_of f options heads = (format_of f).layout options heads
+
+-- ---- a writer of any
 
 abbrev pub any_layout : AnyWriter → Layout
 any_layout (Wav put) = wav_layout (written_head put)

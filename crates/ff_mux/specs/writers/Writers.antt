@@ -4,16 +4,11 @@ use Rattle.ff_frame.specs.declared.hash.HashKind.{HashKind}
 use Rattle.ff_frame.specs.declared.head.StreamHead.{StreamHead}
 use Rattle.ff_mux.specs.Puts.{put_kind, put_heads}
 use Rattle.ff_mux.specs.declared.writers.flac.FlacWriter.{FlacWriter}
-use Rattle.ff_mux.specs.declared.writers.y4m.Y4mWriter.{Y4mWriter}
 use Rattle.ff_mux.specs.declared.writers.frame_hash.HashWriter.{HashWriter}
 
 -- the head of the stream of sound
 abbrev pub flac_head : FlacWriter → StreamHead
 flac_head w = w.head
-
--- the head of the stream of pictures
-abbrev pub y4m_head : Y4mWriter → StreamHead
-y4m_head w = w.head
 
 -- the digest, and the heads of the streams
 abbrev pub hash_kind : HashWriter → HashKind

@@ -1,12 +1,14 @@
-ghost use Rattle.ff_mux.specs.writers.AnyWriters.{any_layout, any_counts, any_inside};
+//! A writer of any format: a line for each format in each match.
+ghost use Rattle.std.specs.Prelude.{◌≡◌, IfOk};
+ghost use Rattle.ff_mux.specs.writers.AnyWriters.{CanWrite, layout_of, any_layout, any_counts, any_inside};
 
 use crate::writers::flac::FlacWriter;
 use crate::writers::frame_hash::HashWriter;
-use crate::writers::writer::{Patch, Writer};
-use crate::writers::y4m::Y4mWriter;
-use ff_frame::{Pkt, Totals};
-use ff_wav::{TooLarge, WavPut};
-use std::alloc::AllocError;
+use ff_format::{FileFormat, OutputOptions, Patch, TooLarge, Writer};
+use ff_frame::{Pkt, StreamHead, Totals};
+use ff_wav::WavPut;
+use ff_y4m::Y4mWriter;
+use std::alloc::{AllocError, Global};
 
 /// The writer of any format that is written.
 #[derive(Drop)]
@@ -19,6 +21,28 @@ pub enum AnyWriter {
     Y4m(Y4mWriter),
     /// Digests.
     Hash(HashWriter),
+}
+
+/// The writer of a format for the packets of streams of these heads, by what an output's options say. No byte of a packet was counted.
+pub fn writer_of(
+    alloc: Global,
+    format: FileFormat,
+    options: OutputOptions,
+    heads: &[StreamHead],
+) -> Result<AnyWriter, AllocError>
+    requires { CanWrite format heads.now }
+    ensures layout { IfOk result (λ writer. any_layout writer ≡ layout_of format options heads.now) }
+    ensures counts { IfOk result (λ writer. any_counts writer 0) }
+{
+    match format {
+        FileFormat::Wav => Ok(AnyWriter::Wav(WavPut::new(alloc, &heads[0]))),
+        FileFormat::Flac => Ok(AnyWriter::Flac(FlacWriter::new(alloc, heads[0]))),
+        FileFormat::Y4m => Ok(AnyWriter::Y4m(Y4mWriter::new(alloc, heads[0]))),
+        FileFormat::FrameHash => {
+            let heads = Vec::from_slice(alloc, heads)?;
+            Ok(AnyWriter::Hash(HashWriter::new(alloc, options.hash, heads)))
+        }
+    }
 }
 
 impl Writer for AnyWriter {

@@ -1,14 +1,11 @@
 // The files of FLAC.
 ghost use Rattle.std.specs.Prelude.{◌≡◌, ◌↔◌, IfOk, OnOk, ⊤};
 ghost use Rattle.ff_mux.specs.FlacHead.{CanHold};
-ghost use Rattle.ff_mux.specs.writers.Flac.{CanHold-prop};
-ghost use Rattle.ff_mux.specs.writers.Formats.{flac_layout};
-ghost use Rattle.ff_mux.specs.writers.InsideLaws.{flac_inside};
+ghost use Rattle.ff_mux.specs.writers.FlacFile.{CanHold-prop, flac_inside, flac_layout};
 
-use crate::writers::writer::{Patch, Writer};
 use crate::{flac_first, flac_last};
+use ff_format::{Patch, TooLarge, Writer};
 use ff_frame::{Pkt, StreamHead, Totals};
-use ff_wav::TooLarge;
 use std::alloc::{AllocError, Global};
 
 /// Where STREAMINFO stands: behind the mark and the head of its block.

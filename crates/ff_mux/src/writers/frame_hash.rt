@@ -1,11 +1,10 @@
 // The files of digests.
 ghost use Rattle.std.specs.Prelude.{◌≡◌, ◌<◌, ◌^◌, ◌↔◌, length, vec_len, ⊤};
-ghost use Rattle.ff_mux.specs.writers.Formats.{hash_layout};
+ghost use Rattle.ff_mux.specs.writers.HashFile.{hash_layout};
 
 use crate::HashPut;
-use crate::writers::writer::{Patch, Writer};
+use ff_format::{Patch, TooLarge, Writer};
 use ff_frame::{HashKind, Pkt, StreamHead, Totals};
-use ff_wav::TooLarge;
 use std::alloc::{AllocError, Global};
 
 /// Gives the text of a framehash file: the lines on its streams, and of each packet a line with the digest of its bytes.

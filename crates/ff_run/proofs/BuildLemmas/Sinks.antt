@@ -13,7 +13,7 @@ use Rattle.ff_node_mux.specs.Muxing.{file, file_for, head_bases, mixed, text_for
 use Rattle.ff_node_mux.specs.StreamEvents.{events_of, is_event_of}
 use Rattle.ff_net.specs.Ways.{Flow}
 use Rattle.ff_run_plan.specs.Kinds.{first_streams, is_of_stream}
-use Rattle.ff_mux.specs.writers.Layouts.{Layout}
+use Rattle.ff_format.specs.Layouts.{Layout}
 
 -- ---- the first so many streams
 

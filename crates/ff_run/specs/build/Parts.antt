@@ -21,7 +21,8 @@ use Rattle.ff_graph.specs.Opens.{open_ins}
 use Rattle.ff_input.specs.Formats.{InputHead, IsHead, any_cutter, stream_in}
 use Rattle.ff_lang.specs.declared.graph.Graph.{Graph}
 use Rattle.ff_node_mux.specs.Muxing.{mux_task, unpatched, file, head_bases}
-use Rattle.ff_node_mux.specs.Outputs.{CanWrite, layout_of}
+use Rattle.ff_mux.specs.writers.AnyWriters.{CanWrite, layout_of}
+use Rattle.ff_format.specs.declared.format.OutputOptions.{OutputOptions}
 use Rattle.ff_node_mux.specs.StreamEvents.{stream_events}
 use Rattle.ff_net.specs.Pasts.{Task}
 use Rattle.ff_plan_rules.specs.Kept.{IsFitHead, AreFitHeads}
@@ -66,6 +67,10 @@ pub record CanFilter (text : Graph) (heads outs : List StreamHead) : Type 0 wher
 abbrev pub told_graph : ℕ → Graph → List StreamHead → List TimeCut → Task
 told_graph g text heads cuts = record (graph_task text heads cuts) { tells = best_events g (bases_of_heads heads) }
 
+-- what the options of an output say to its format
+abbrev pub options_of : OutputJob → OutputOptions
+options_of out = record { hash = out.hash }
+
 -- a demuxer gives an input's packets, a decoder their frames, cut, a graph frames of frames, an encoder packets of frames, and a muxer writes
 -- them in the output's format
 abbrev pub all_kinds : KindsOf InputHead
@@ -84,8 +89,8 @@ all_kinds = record {
   CanEncode = λ head coded. CanEncodeTo (is_flac_coded coded) head coded;
   enc_task = λ head coded. enc_task_to (is_flac_coded coded) coded;
   CanMux = λ out coded. CanWrite out.format coded;
-  mux_task = λ first out coded. mux_task (layout_of out.format out.hash coded) first (head_bases coded);
-  file = λ out coded ss. file (layout_of out.format out.hash coded) (head_bases coded) ss;
-  text = λ out coded ss. unpatched (layout_of out.format out.hash coded) (head_bases coded) ss;
+  mux_task = λ first out coded. mux_task (layout_of out.format (options_of out) coded) first (head_bases coded);
+  file = λ out coded ss. file (layout_of out.format (options_of out) coded) (head_bases coded) ss;
+  text = λ out coded ss. unpatched (layout_of out.format (options_of out) coded) (head_bases coded) ss;
   events = λ number coded s. stream_events number (base_of_head coded) s;
 }

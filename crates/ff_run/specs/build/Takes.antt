@@ -5,13 +5,9 @@ use Rattle.std.proofs.Common.{arith, inl, inr, subst, sym}
 use Rattle.std.proofs.lemmas.Bool.Decides.{nat_tests}
 use Rattle.std.proofs.lemmas.List.{length-map}
 use Rattle.ff_time.specs.Fraction.{Fraction, IsBase, IsBase-unit}
-use Rattle.ff_frame.specs.Codecs.{coding_of, IsPcmCoding}
-use Rattle.ff_frame.specs.declared.coding.ByteOrder.{ByteOrder}
-use Rattle.ff_frame.specs.declared.coding.ByteOrder.TheVariants.{LittleEndian, BigEndian}
+use Rattle.ff_frame.specs.Codecs.{coding_of, IsFlacCoding, IsPcmCoding}
 use Rattle.ff_frame.specs.declared.coding.Coding.{Coding}
 use Rattle.ff_frame.specs.declared.coding.Coding.TheVariants as coding
-use Rattle.ff_frame.specs.declared.coding.PcmDepth.{PcmDepth}
-use Rattle.ff_frame.specs.declared.coding.PcmDepth.TheVariants.{Bits8, Bits16, Bits24, Bits32}
 use Rattle.ff_frame.specs.declared.head.Codec.{Codec}
 use Rattle.ff_frame.specs.declared.head.Codec.TheVariants as codec
 use Rattle.ff_frame.specs.declared.head.StreamHead.{StreamHead}
@@ -23,14 +19,13 @@ use Rattle.ff_plan_rules.specs.Kept.{IsFitHead}
 use Rattle.ff_input.specs.Formats.{InputHead, IsHead, any_streams, stream_in}
 use Rattle.ff_input.specs.Streams.{IsInputStream, IsPictures}
 use Rattle.ff_map.specs.declared.map.Kind.TheVariants as kind
-use Rattle.ff_mux.specs.FlacHead.{HasRoom}
-use Rattle.ff_node_mux.specs.Outputs.{CanWrite}
+use Rattle.ff_format.specs.Formats.{taken_by, takes_sound}
+use Rattle.ff_mux.specs.writers.AnyWriters.{CanWrite, format_of}
 use Rattle.ff_pcm.specs.Frames.{IsPcmHead}
-use Rattle.ff_plan_layout.specs.Streams.{audio_codec, is_wav_form, is_wav_sign, most_streams, packed_as, packed_bits, takes_coding, takes_head, takes_kind, takes_sound}
+use Rattle.ff_plan_layout.specs.Streams.{audio_codec, coded_bits, most_streams, packed_as, packed_bits, takes_head, takes_kind, takes_sound as sound_taken}
 use Rattle.ff_pcm_cut.specs.Packets as pcm
-use Rattle.ff_wav.specs.Codecs.{IsWavCoding, IsWavForm, IsWavSign}
-use Rattle.ff_words.specs.declared.job.FileFormat.{FileFormat}
-use Rattle.ff_words.specs.declared.job.FileFormat.TheVariants as format
+use Rattle.ff_format.specs.declared.format.SoundTaken.{SoundTaken}
+use Rattle.ff_format.specs.declared.format.SoundTaken.TheVariants.{Nothing, Pcm, PcmIn, Flac}
 use Rattle.ff_words.specs.declared.job.OutputJob.{OutputJob}
 use Rattle.ff_run.specs.build.Parts.{CanEncodeTo, is_flac, is_flac_coded}
 
@@ -87,50 +82,40 @@ stream_fits head (inr (inr h)) = pictures_fit head h
 pub heads_fit : (h : InputHead) → IsHead h → IsFitHead (stream_in h)
 heads_fit h is = stream_fits (stream_in h) (any_streams h is)
 
--- FLAC is taken by its own format alone, and with a rate that has 20 bits
-flac_rate : (f : FileFormat) (rate : ℕ) → (takes_kind f kind.Audio && takes_sound f codec.Flac rate) ≡ true → rate < 1048576
-flac_rate format.Wav rate e = absurd cc
-flac_rate format.Flac rate e = grind (arith, nat_tests)
-flac_rate format.Y4m rate e = absurd cc
-flac_rate format.FrameHash rate e = absurd cc
+-- FLAC is taken with a rate that has 20 bits alone
+flac_rate : (s : SoundTaken) (rate : ℕ) → takes_sound s codec.Flac rate ≡ true → rate < 1048576
+flac_rate Nothing rate e = cc
+flac_rate Pcm rate e = cc
+flac_rate (PcmIn order signed_bytes) rate e = cc
+flac_rate Flac rate e = grind (arith, nat_tests)
 
-no_pictures : (f : FileFormat) (rate : ℕ) → (takes_kind f kind.Audio && takes_sound f codec.RawVideo rate) ≡ true → ⊥
-no_pictures format.Wav rate e = cc
-no_pictures format.Flac rate e = cc
-no_pictures format.Y4m rate e = cc
-no_pictures format.FrameHash rate e = cc
+no_pictures : (s : SoundTaken) (rate : ℕ) → takes_sound s codec.RawVideo rate ≡ true → ⊥
+no_pictures Nothing rate e = cc
+no_pictures Pcm rate e = cc
+no_pictures (PcmIn order signed_bytes) rate e = cc
+no_pictures Flac rate e = cc
 
-encode_sound : (f : FileFormat) (c : Codec) (tb : Fraction) (rate bits channels : ℕ) (from : Codec) → IsBase tb
-    → (takes_kind f kind.Audio && takes_sound f c rate) ≡ true
+encode_sound : (s : SoundTaken) (c : Codec) (tb : Fraction) (rate bits channels : ℕ) (from : Codec) → IsBase tb
+    → takes_sound s c rate ≡ true
     → CanEncodeTo (is_flac c) (Audio tb rate bits channels from) (Audio tb rate (packed_bits c bits) channels c)
-encode_sound f codec.Flac tb rate bits channels from base e = ((base, flac_rate f rate e), refl)
-encode_sound f codec.RawVideo tb rate bits channels from base e = absurd (no_pictures f rate e)
-encode_sound f pcm tb rate bits channels from base e = (tt, refl)
+encode_sound s codec.Flac tb rate bits channels from base e = ((base, flac_rate s rate e), refl)
+encode_sound s codec.RawVideo tb rate bits channels from base e = absurd (no_pictures s rate e)
+encode_sound s pcm tb rate bits channels from base e = (tt, refl)
+
+second : (a b : Bool) → (a && b) ≡ true → b ≡ true
+second true b e = e
+second false b e = cc
+
+-- sound that an output takes is among what its format takes
+sound_in : (out : OutputJob) (rate : ℕ) → (takes_kind out.format kind.Audio && sound_taken out.format (audio_codec out out.format) rate) ≡ true
+    → takes_sound (taken_by out.format).sound (audio_codec out out.format) rate ≡ true
+sound_in out rate t = second (takes_kind out.format kind.Audio) (sound_taken out.format (audio_codec out out.format) rate) t
 
 pub heads_encode : (head : StreamHead) (out : OutputJob) → IsFitHead head → takes_head out head ≡ true
     → CanEncodeTo (is_flac_coded (packed_as out head)) head (packed_as out head)
-heads_encode (Audio tb rate bits channels from) out fit t = encode_sound out.format (audio_codec out out.format) tb rate bits channels from fit.base t
+heads_encode (Audio tb rate bits channels from) out fit t =
+    encode_sound (taken_by out.format).sound (audio_codec out out.format) tb rate bits channels from fit.base (sound_in out rate t)
 heads_encode (Video tb format width height sar_num sar_den) out fit t = refl
-
--- what WAV takes is linear PCM as it has it
-wav_sign : (depth : PcmDepth) (sign : Bool) → is_wav_sign depth sign ≡ true → IsWavSign depth sign
-wav_sign Bits8 true e = absurd cc
-wav_sign Bits8 false e = tt
-wav_sign Bits16 true e = tt
-wav_sign Bits16 false e = absurd cc
-wav_sign Bits24 true e = tt
-wav_sign Bits24 false e = absurd cc
-wav_sign Bits32 true e = tt
-wav_sign Bits32 false e = absurd cc
-
-wav_form : (depth : PcmDepth) (sign : Bool) (order : ByteOrder) → is_wav_form depth sign order ≡ true → IsWavForm depth sign order
-wav_form depth sign LittleEndian e = wav_sign depth sign e
-wav_form depth sign BigEndian e = absurd cc
-
-wav_coding : (k : Coding) (rate : ℕ) → takes_coding format.Wav k rate ≡ true → IsWavCoding k
-wav_coding (coding.Pcm form) rate e = wav_form form.depth form.signed form.order e
-wav_coding coding.Flac rate e = absurd cc
-wav_coding coding.RawVideo rate e = absurd cc
 
 -- FLAC has 4 to 24 bits
 some_bits : (bits : ℕ) (low high : Bool) → nat_le 4 bits ≡ low → nat_le bits 24 ≡ high → 4 ≤ (if low && high then bits else 24)
@@ -143,44 +128,17 @@ few_bits bits true true l h = grind (arith, nat_tests)
 few_bits bits true false l h = omega arith
 few_bits bits false high l h = omega arith
 
-has_room : (rate bits channels : ℕ) → rate < 1048576 → 1 ≤ channels → channels ≤ 8 → HasRoom rate (packed_bits codec.Flac bits) channels
-has_room rate bits channels small some few = record {
-  small_rate = omega (arith, small);
-  some_bits = some_bits bits (nat_le 4 bits) (nat_le bits 24) refl refl;
-  few_bits = few_bits bits (nat_le 4 bits) (nat_le bits 24) refl refl;
-  some_channels = some;
-  few_channels = few;
-}
+has_bits : (k : Coding) (bits : ℕ) → IsFlacCoding k → (4 ≤ coded_bits k bits) × (coded_bits k bits ≤ 24)
+has_bits (coding.Pcm form) bits f = absurd f
+has_bits coding.Flac bits f = (some_bits bits (nat_le 4 bits) (nat_le bits 24) refl refl, few_bits bits (nat_le 4 bits) (nat_le bits 24) refl refl)
+has_bits coding.RawVideo bits f = absurd f
 
-write_flac : (c : Codec) (tb : Fraction) (rate bits channels : ℕ) → 1 ≤ channels → channels ≤ 8 → takes_sound format.Flac c rate ≡ true
-    → CanWrite format.Flac (Audio tb rate (packed_bits c bits) channels c ∷ [])
-write_flac codec.Flac tb rate bits channels some few e = (tt, has_room rate bits channels (flac_rate format.Flac rate e) some few)
-write_flac other tb rate bits channels some few e = absurd cc
-
-write_sound : (f : FileFormat) (c : Codec) (tb : Fraction) (rate bits channels : ℕ) → 1 ≤ channels → channels ≤ 8
-    → (takes_kind f kind.Audio && takes_sound f c rate) ≡ true → CanWrite f (Audio tb rate (packed_bits c bits) channels c ∷ [])
-write_sound format.Wav c tb rate bits channels some few e = wav_coding (coding_of c) rate e
-write_sound format.Flac c tb rate bits channels some few e = write_flac c tb rate bits channels some few e
-write_sound format.Y4m c tb rate bits channels some few e = absurd cc
-write_sound format.FrameHash c tb rate bits channels some few e = (omega arith, omega arith)
-
-write_pictures : (f : FileFormat) (tb p w h a b : _) → takes_kind f kind.Video ≡ true → CanWrite f (Video tb p w h a b ∷ [])
-write_pictures format.Wav tb p w h a b e = absurd cc
-write_pictures format.Flac tb p w h a b e = absurd cc
-write_pictures format.Y4m tb p w h a b e = tt
-write_pictures format.FrameHash tb p w h a b e = (omega arith, omega arith)
-
+-- its format can write what an output takes
 written : (head : StreamHead) (out : OutputJob) → IsFitHead head → takes_head out head ≡ true → CanWrite out.format (packed_as out head ∷ [])
 written (Audio tb rate bits channels from) out fit t =
-    write_sound out.format (audio_codec out out.format) tb rate bits channels fit.channels.0 fit.channels.1 t
-written (Video tb p width height sar_num sar_den) out fit t = write_pictures out.format tb p width height sar_num sar_den t
-
--- more than one stream are taken by framehash alone
-many_written : (f : FileFormat) (heads : List StreamHead) → 2 ≤ length heads → length heads ≤ most_streams f → CanWrite f heads
-many_written format.Wav heads some few = absurd (omega (arith, some, few))
-many_written format.Flac heads some few = absurd (omega (arith, some, few))
-many_written format.Y4m heads some few = absurd (omega (arith, some, few))
-many_written format.FrameHash heads some few = (omega (arith, some), few)
+    let c = audio_codec out out.format in
+    (format_of out.format).sound tb rate (packed_bits c bits) channels c fit.channels.0 fit.channels.1 (has_bits (coding_of c) bits) (sound_in out rate t)
+written (Video tb p width height sar_num sar_den) out fit t = (format_of out.format).pictures tb p width height sar_num sar_den t
 
 pub heads_are_written : (hs : List StreamHead) (out : OutputJob) → AllByRecursion (λ h. IsFitHead h × (takes_head out h ≡ true)) hs
     → 1 ≤ length hs → length hs ≤ most_streams out.format → CanWrite out.format (map (λ h. packed_as out h) hs)
@@ -189,4 +147,4 @@ heads_are_written (h ∷ []) out all some few = written h out all.0.0 all.0.1
 heads_are_written (h ∷ g ∷ hs) out all some few =
     let heads = map (λ k. packed_as out k) (h ∷ g ∷ hs) in
     let long : length heads ≡ length (h ∷ g ∷ hs) = length-map (h ∷ g ∷ hs) (λ k. packed_as out k) in
-    many_written out.format heads (omega arith) (subst (λ (n : ℕ). n ≤ most_streams out.format) (sym long) few)
+    (format_of out.format).several heads (omega arith) (subst (λ (n : ℕ). n ≤ most_streams out.format) (sym long) few)

@@ -1,10 +1,11 @@
 // The kinds of node, built.
 ghost use Rattle.std.specs.Prelude.{◌≡◌, false};
-ghost use Rattle.ff_run.specs.build.Parts.{is_flac as flac_is, is_flac_coded as flac_is_coded};
+ghost use Rattle.ff_run.specs.build.Parts.{is_flac as flac_is, is_flac_coded as flac_is_coded, options_of as said_by};
 
 use crate::build::part::Part;
 use crate::build::through::Through;
 use ff_flac_dec::frame_channel;
+use ff_format::OutputOptions;
 use ff_frame::{Codec, Coding, StreamHead};
 use ff_graph::graph_machine;
 use ff_host::{Sink, Source};
@@ -14,7 +15,8 @@ use ff_node_codec::{AnyDecoder, Dec, Enc, decoder_of, encoder_of};
 use ff_node_demux::Demux;
 use ff_node_filter::Leading;
 use ff_node_flac::{FlacEnc, InOrder};
-use ff_node_mux::{Mux, writer_of};
+use ff_mux::writer_of;
+use ff_node_mux::Mux;
 use ff_node_sync::joint_machine;
 use ff_plan::{Plan, plan};
 use ff_plan_layout::PlanError;
@@ -41,6 +43,13 @@ fn is_flac_coded(coded: &StreamHead) -> bool
         StreamHead::Audio { codec, .. } => is_flac(*codec),
         StreamHead::Video { .. } => false,
     }
+}
+
+// What the options of an output say to its format.
+fn options_of(out: &OutputJob) -> OutputOptions
+    ensures { result ≡ said_by out.now }
+{
+    OutputOptions { hash: out.hash }
 }
 
 /// How many packets are on no queue: the one that waits for room on it, and the one that is being decoded.
@@ -162,7 +171,7 @@ impl<Src: Source + Send + Drop, Snk: Sink + Send + Drop> Kinds<Src, Snk, Part<Sr
         coded: &[StreamHead],
         snk: Snk,
     ) -> Result<Part<Src, Snk>, Snk> {
-        let Ok(writer) = writer_of(alloc, out.format, out.hash, coded) else {
+        let Ok(writer) = writer_of(alloc, out.format, options_of(out), coded) else {
             return Err(snk);
         };
         match Mux::new(alloc, first, snk, writer, coded) {

@@ -1,16 +1,16 @@
-ghost use Rattle.std.specs.Prelude.{IfSome};
+ghost use Rattle.std.specs.Prelude.{◌≡◌, IfSome};
 ghost use Rattle.ff_wav.specs.Codecs.{IsWavCoded};
 ghost use Rattle.ff_mux.specs.FlacHead.{CanHold};
 ghost use Rattle.ff_y4m.specs.Header.{IsVideoHead};
 
 use ff_frame::{Bytes, Codec, Event, Format, HashKind, Pkt, StreamHead, Ticket, Totals};
 use ff_host::{FailAt, Host, HostCall, MemHost, MemSink, Sink};
-use ff_mux::{AnyWriter, Writer};
+use ff_mux::{AnyWriter, writer_of};
 use ff_net::{Fault, Machine};
-use ff_node_mux::{Mux, writer_of};
+use ff_node_mux::Mux;
 use ff_stream::Item;
 use ff_time::Rational;
-use ff_words::FileFormat;
+use ff_format::{FileFormat, OutputOptions, Writer};
 use std::alloc::{AllocError, Global};
 
 type OutMux = Mux<MemSink, AnyWriter>;
@@ -106,12 +106,18 @@ fn made(mux: Result<OutMux, MemSink>) -> Result<OutMux, AllocError> {
     }
 }
 
+fn with(hash: HashKind) -> OutputOptions
+    ensures { result.hash ≡ hash }
+{
+    OutputOptions { hash }
+}
+
 fn wav(alloc: Global, snk: MemSink) -> Result<OutMux, AllocError> {
     let Some(head) = sound() else {
         return Err(AllocError);
     };
     let heads = [head];
-    let writer = writer_of(alloc, FileFormat::Wav, HashKind::Sha256, &heads)?;
+    let writer = writer_of(alloc, FileFormat::Wav, with(HashKind::Sha256), &heads)?;
     made(Mux::new(alloc, STREAM, snk, writer, &heads))
 }
 
@@ -120,7 +126,7 @@ fn y4m(alloc: Global, snk: MemSink) -> Result<OutMux, AllocError> {
         return Err(AllocError);
     };
     let heads = [head];
-    let writer = writer_of(alloc, FileFormat::Y4m, HashKind::Sha256, &heads)?;
+    let writer = writer_of(alloc, FileFormat::Y4m, with(HashKind::Sha256), &heads)?;
     made(Mux::new(alloc, STREAM, snk, writer, &heads))
 }
 
@@ -129,7 +135,7 @@ fn flac(alloc: Global, snk: MemSink) -> Result<OutMux, AllocError> {
         return Err(AllocError);
     };
     let heads = [head];
-    let writer = writer_of(alloc, FileFormat::Flac, HashKind::Sha256, &heads)?;
+    let writer = writer_of(alloc, FileFormat::Flac, with(HashKind::Sha256), &heads)?;
     made(Mux::new(alloc, STREAM, snk, writer, &heads))
 }
 
@@ -138,7 +144,7 @@ fn digests(alloc: Global, snk: MemSink) -> Result<OutMux, AllocError> {
         return Err(AllocError);
     };
     let heads = [head];
-    let writer = writer_of(alloc, FileFormat::FrameHash, HashKind::Md5, &heads)?;
+    let writer = writer_of(alloc, FileFormat::FrameHash, with(HashKind::Md5), &heads)?;
     made(Mux::new(alloc, STREAM, snk, writer, &heads))
 }
 
@@ -151,7 +157,7 @@ fn two(alloc: Global, snk: MemSink) -> Result<OutMux, AllocError> {
         return Err(AllocError);
     };
     let heads = [first, second];
-    let writer = writer_of(alloc, FileFormat::FrameHash, HashKind::Md5, &heads)?;
+    let writer = writer_of(alloc, FileFormat::FrameHash, with(HashKind::Md5), &heads)?;
     made(Mux::new(alloc, STREAM, snk, writer, &heads))
 }
 

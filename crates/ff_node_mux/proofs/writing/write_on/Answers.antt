@@ -1,8 +1,8 @@
 use Rattle.std.proofs.Common.{◌≡◌, ◌≤◌, ℕ, [], length, refl, sym, ◌∙◌, subst, arith}
 use Rattle.ff_node_mux.specs.merge.Queues.{merging}
 use Rattle.ff_net.specs.declared.fault.Fault.TheVariants.{NoMemory}
-use Rattle.ff_mux.specs.writers.Layouts.{Layout}
-use Rattle.ff_mux.specs.writers.Patches.{replacing}
+use Rattle.ff_format.specs.Layouts.{Layout}
+use Rattle.ff_format.specs.Patches.{replacing}
 use Rattle.ff_node_mux.specs.Writing.{text_before}
 use Rattle.ff_node_mux.proofs.Ends.{header_stands, replaced_inside}
 use Rattle.ff_node_mux.proofs.Texts.{front_none}

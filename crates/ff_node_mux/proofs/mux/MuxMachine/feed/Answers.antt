@@ -3,7 +3,7 @@ use Rattle.std.specs.Prelude.{option_to_list, Result, Ok, Err, OnErr}
 use Rattle.ff_frame.specs.declared.event.Event.{Event}
 use Rattle.ff_node_mux.specs.merge.Queues.{merging}
 use Rattle.ff_net.specs.Pasts.{Past, fed}
-use Rattle.ff_mux.specs.writers.Layouts.{Layout}
+use Rattle.ff_format.specs.Layouts.{Layout}
 use Rattle.ff_node_mux.specs.Mixing.{lanes_long}
 use Rattle.ff_node_mux.specs.Muxing.{head_bases, MuxStands}
 use Rattle.ff_node_mux.specs.Telling.{TellsFed}

@@ -8,13 +8,13 @@ use Rattle.ff_stream.specs.Ports.{stream_at}
 use Rattle.ff_node_mux.specs.Held.{part_by}
 use Rattle.ff_node_mux.specs.Mixing.{bases_long}
 use Rattle.ff_node_mux.specs.Muxing.{head_bases, head_lanes}
-use Rattle.ff_node_mux.specs.Outputs.{layout_of}
+use Rattle.ff_mux.specs.writers.AnyWriters.{layout_of}
 use Rattle.ff_node_mux.specs.StreamEvents.{stream_events}
 use Rattle.ff_time.specs.Fraction.{Fraction}
 use Rattle.ff_frame.specs.declared.head.StreamHead.{StreamHead}
 use Rattle.ff_run_plan.specs.Kinds.{IsSourceOf, IsSinkOf}
 use Rattle.ff_run.specs.declared.build.part.Part.{Part}
-use Rattle.ff_run.specs.build.Parts.{all_kinds}
+use Rattle.ff_run.specs.build.Parts.{all_kinds, options_of}
 use Rattle.ff_run.specs.build.PartViews.{part_view}
 use Rattle.ff_run.proofs.BuildLemmas.Sinks.{file_first, head_there, same_events, text_first}
 use Rattle.ff_run.proofs.build.parts.PartsKindsPart.into_ends.Goals as goal
@@ -73,17 +73,17 @@ returns g c =
         name = ap K.name sink.sink;
         faults = ap K.faults sink.sink;
         whole = λ past first out coded s is none w.
-            let layout = layout_of out.format out.hash coded in
+            let layout = layout_of out.format (options_of out) coded in
             let same = file_first layout coded past.got in
             let h = sink.whole past first (head_bases coded) layout s is none (λ p lt. w p (below_heads coded p lt)) in
             (subst (λ (o : Option (List ℕ)). IsSome o) same h.0, h.1 ∙ same);
         told = λ past first out coded p head s is at closed.
             let there = head_there coded p head at in
             same_events (first + p) (past.task.tells past.feeds)
-            ∙ (sink.told past first (head_bases coded) (layout_of out.format out.hash coded) p s is there.0 closed
+            ∙ (sink.told past first (head_bases coded) (layout_of out.format (options_of out) coded) p s is there.0 closed
             ∙ ap (λ (b : Fraction). stream_events (first + p) b (stream_at past.got p)) there.1);
         part = λ past first out coded s is.
-            let layout = layout_of out.format out.hash coded in
+            let layout = layout_of out.format (options_of out) coded in
             part_by (K.holds c.into_sink.result) (text_first layout coded past.got) (file_first layout coded past.got)
             (sink.front past first (head_bases coded) layout s is);
       },

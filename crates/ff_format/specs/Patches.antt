@@ -1,8 +1,8 @@
 -- What takes the place of bytes that were written.
 use Rattle.std.specs.Prelude.{ℕ, ◌+◌, ◌≤◌, List, length, Option, Some, None}
 use Rattle.ff_frame.specs.declared.totals.Totals.{Totals}
-use Rattle.ff_mux.specs.declared.writers.writer.Patch.{Patch}
-use Rattle.ff_mux.specs.writers.Layouts.{Layout}
+use Rattle.ff_format.specs.declared.writer.Patch.{Patch}
+use Rattle.ff_format.specs.Layouts.{Layout}
 
 -- from which place on, and which bytes
 abbrev pub replacing : Option Patch → Option (ℕ × List ℕ)

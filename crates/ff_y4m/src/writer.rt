@@ -1,13 +1,11 @@
 // The files of YUV4MPEG2.
 ghost use Rattle.std.specs.Prelude.{◌≡◌, ◌++◌, ◌↔◌, IfOk, IfErr, OnOk, OnErr, ⊤};
 ghost use Rattle.ff_y4m.specs.Header.{IsVideoHead, frame_line};
-ghost use Rattle.ff_mux.specs.writers.Formats.{y4m_layout};
-ghost use Rattle.ff_mux.specs.writers.Pictures.{IsVideoHead-prop};
+ghost use Rattle.ff_y4m.specs.Layout.{y4m_layout, IsVideoHead-prop};
 
-use crate::writers::writer::{Patch, Writer};
+use crate::header::y4m_header;
+use ff_format::{Patch, TooLarge, Writer};
 use ff_frame::{Bytes, Pkt, StreamHead, Totals};
-use ff_wav::TooLarge;
-use ff_y4m::y4m_header;
 use std::alloc::{AllocError, Global};
 
 /// The line of a frame.
@@ -22,7 +20,7 @@ pub struct Y4mWriter {
 }
 
 impl Y4mWriter {
-    ghost use Rattle.ff_mux.specs.writers.Writers.{y4m_head};
+    ghost use Rattle.ff_y4m.specs.Writers.{y4m_head};
 
     /// For the packets of a stream of pictures.
     pub fn new(alloc: Global, head: StreamHead) -> Y4mWriter
@@ -56,7 +54,7 @@ fn framed(planes: Bytes) -> Result<Vec<u8>, Bytes>
 }
 
 impl Writer for Y4mWriter {
-    ghost use Rattle.ff_mux.specs.writers.Writers.{y4m_head};
+    ghost use Rattle.ff_y4m.specs.Writers.{y4m_head};
 
     ghost layout = { λ w. y4m_layout (y4m_head w) };
 

@@ -1,10 +1,9 @@
 ghost use Rattle.std.specs.Prelude.{◌≡◌, ◌+◌, ◌↔◌, ◌≤◌, ℕ, Option, length, IsErr, IfOk, IfErr, IfSome, OnOk, OnErr};
 ghost use Rattle.ff_frame.specs.declared.totals.Totals.{Totals};
-ghost use Rattle.ff_mux.specs.writers.Layouts.{Layout, IsBeyond};
-ghost use Rattle.ff_mux.specs.writers.Patches.{replacing, IsInside};
+ghost use Rattle.ff_format.specs.Layouts.{Layout, IsBeyond};
+ghost use Rattle.ff_format.specs.Patches.{replacing, IsInside};
 
 use ff_frame::{Pkt, Totals};
-use ff_wav::TooLarge;
 use std::alloc::AllocError;
 
 /// Bytes that take the place of as many of what was written.
@@ -14,6 +13,10 @@ pub struct Patch {
     pub at: u64,
     pub bytes: Vec<u8>,
 }
+
+/// The packets would be more bytes than the format holds.
+#[derive(Clone, Copy, Debug, PartialEq, Eq)]
+pub struct TooLarge;
 
 /// Gives the bytes of an output in the pieces in which they are written.
 ///

@@ -1,12 +1,11 @@
 // The files of WAV.
 ghost use Rattle.std.specs.Prelude.{◌≡◌};
 ghost use Rattle.ff_wav.specs.Header.{written_head, body_size};
-ghost use Rattle.ff_mux.specs.writers.Formats.{wav_layout};
-ghost use Rattle.ff_mux.specs.writers.InsideLaws.{wav_inside};
+ghost use Rattle.ff_wav.specs.Layout.{wav_layout, wav_inside};
 
-use crate::writers::writer::{Patch, Writer};
+use crate::put::WavPut;
+use ff_format::{Patch, TooLarge, Writer};
 use ff_frame::{Pkt, Totals};
-use ff_wav::{TooLarge, WavPut};
 use std::alloc::AllocError;
 
 impl Writer for WavPut {

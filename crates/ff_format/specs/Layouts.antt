@@ -28,6 +28,10 @@ IsBeyond (Some most) n = most < n
 abbrev pub body : Layout → List (ℕ × Pkt) → List ℕ
 body layout packets = flat_map (λ p. layout.text p.0 p.1) packets
 
+-- the bytes of packets one after another
+abbrev pub bytes_in : List (ℕ × Pkt) → List ℕ
+bytes_in packets = flat_map (λ p. p.1.bytes) packets
+
 -- what is written of them so far
 abbrev pub written : Layout → List (ℕ × Pkt) → List ℕ
 written layout packets = layout.header ++ body layout packets

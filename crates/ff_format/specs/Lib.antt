@@ -1,0 +1,5 @@
+pub mod Formats
+pub mod Layouts
+pub mod Outputs
+pub mod Patches
+pub mod Patched

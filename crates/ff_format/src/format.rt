@@ -1,0 +1,155 @@
+//! The formats, a row each.
+ghost use Rattle.std.specs.Prelude.{◌≡◌, ◌≤◌};
+ghost use Rattle.ff_format.specs.Formats.{same_order, signed_so};
+
+use ff_frame::{ByteOrder, Codec, Coding, HashKind, PcmDepth, PcmForm};
+
+/// A format of files.
+#[derive(Clone, Copy, Debug, PartialEq, Eq)]
+pub enum FileFormat {
+    Wav,
+    Flac,
+    /// YUV4MPEG2.
+    Y4m,
+    /// Digests of packets, for outputs alone.
+    FrameHash,
+}
+
+/// The values of `-f`, each with how the names of such files end (empty where no ending tells), and whether an input and an
+/// output may have it.
+pub static FORMATS: [(&'static str, &'static str, FileFormat, bool, bool); 4] = [
+    ("wav", ".wav", FileFormat::Wav, true, true),
+    ("flac", ".flac", FileFormat::Flac, true, true),
+    ("yuv4mpegpipe", ".y4m", FileFormat::Y4m, true, true),
+    ("framehash", "", FileFormat::FrameHash, false, true),
+];
+
+/// Which sound an output takes, by how it is coded.
+#[derive(Clone, Copy, Debug, PartialEq, Eq)]
+pub enum SoundTaken {
+    /// None.
+    Nothing,
+    /// Linear PCM in any form.
+    Pcm,
+    /// Linear PCM in this order of bytes: samples of one byte signed or not, longer ones signed.
+    PcmIn {
+        order: ByteOrder,
+        signed_bytes: bool,
+    },
+    /// FLAC, of a rate of at most 1,048,575.
+    Flac,
+}
+
+impl SoundTaken {
+    ghost use Rattle.ff_format.specs.Formats.{is_some_sound, takes_sound};
+
+    /// Whether it is any sound at all.
+    pub fn is_some(self) -> bool
+        ensures { result ≡ is_some_sound self }
+    {
+        match self {
+            SoundTaken::Nothing => false,
+            SoundTaken::Pcm | SoundTaken::PcmIn { .. } | SoundTaken::Flac => true,
+        }
+    }
+
+    /// Whether sound of this codec and rate is among it.
+    pub fn takes(self, codec: Codec, rate: u32) -> bool
+        ensures { result ≡ takes_sound self codec rate }
+    {
+        match (self, codec.coding()) {
+            (SoundTaken::Pcm, Coding::Pcm(_)) => true,
+            (
+                SoundTaken::PcmIn {
+                    order,
+                    signed_bytes,
+                },
+                Coding::Pcm(form),
+            ) => is_order(order, form.order) && is_signed_so(form, signed_bytes),
+            (SoundTaken::Flac, Coding::Flac) => rate <= 1_048_575,
+            _ => false,
+        }
+    }
+}
+
+// Whether two orders of bytes are one.
+fn is_order(a: ByteOrder, b: ByteOrder) -> bool
+    ensures { result ≡ same_order a b }
+{
+    match (a, b) {
+        (ByteOrder::LittleEndian, ByteOrder::LittleEndian) => true,
+        (ByteOrder::BigEndian, ByteOrder::BigEndian) => true,
+        (ByteOrder::LittleEndian, ByteOrder::BigEndian) => false,
+        (ByteOrder::BigEndian, ByteOrder::LittleEndian) => false,
+    }
+}
+
+// Whether samples are signed so: those of one byte as told, longer ones always.
+fn is_signed_so(form: PcmForm, signed_bytes: bool) -> bool
+    ensures { result ≡ signed_so signed_bytes form.depth form.signed }
+{
+    match form.depth {
+        PcmDepth::Bits8 => if signed_bytes { form.signed } else { !form.signed },
+        PcmDepth::Bits16 | PcmDepth::Bits24 | PcmDepth::Bits32 => form.signed,
+    }
+}
+
+/// What an output of a format takes.
+#[derive(Clone, Copy, Debug, PartialEq, Eq)]
+pub struct Taken {
+    pub sound: SoundTaken,
+    /// Whether it takes pictures.
+    pub pictures: bool,
+    /// The codec of sound where none is asked for.
+    pub codec: Codec,
+    /// How many streams at most.
+    pub streams: usize,
+}
+
+impl FileFormat {
+    ghost use Rattle.ff_format.specs.Formats.{taken_by};
+
+    /// What an output of it takes: WAV linear PCM with the lowest byte first, unsigned where a sample has one byte and signed else, FLAC
+    /// what is coded so, YUV4MPEG2 pictures, each of one stream; framehash any linear PCM and pictures, of up to 16 streams.
+    pub fn taken(self) -> Taken
+        ensures row { result ≡ taken_by self }
+        ensures few { result.streams ≤ 16 }
+    {
+        match self {
+            FileFormat::Wav => Taken {
+                sound: SoundTaken::PcmIn {
+                    order: ByteOrder::LittleEndian,
+                    signed_bytes: false,
+                },
+                pictures: false,
+                codec: Codec::PcmS16le,
+                streams: 1,
+            },
+            FileFormat::Flac => Taken {
+                sound: SoundTaken::Flac,
+                pictures: false,
+                codec: Codec::Flac,
+                streams: 1,
+            },
+            FileFormat::Y4m => Taken {
+                sound: SoundTaken::Nothing,
+                pictures: true,
+                codec: Codec::PcmS16le,
+                streams: 1,
+            },
+            FileFormat::FrameHash => Taken {
+                sound: SoundTaken::Pcm,
+                pictures: true,
+                codec: Codec::PcmS16le,
+                streams: 16,
+            },
+        }
+    }
+}
+
+/// What the options of an output say to its format.
+#[derive(Clone, Copy, Debug, PartialEq, Eq)]
+pub struct OutputOptions {
+    /// Which digest stands for the bytes of a packet, where the format has one.
+    pub hash: HashKind,
+}

@@ -1,5 +1,0 @@
-use Rattle.ff_mux.proofs.WritersLemmas.FinishedLaws.{pictures_are_files}
-use Rattle.ff_mux.proofs.writers.laws.finished_pictures_are_yuv4mpeg2.Goals as goal
-
-pub returns : goal.returns
-returns c = pictures_are_files

@@ -1,5 +1,0 @@
-use Rattle.ff_mux.proofs.WritersLemmas.FinishedLaws.{wavs_are_files}
-use Rattle.ff_mux.proofs.writers.laws.finished_wavs_are_riff.Goals as goal
-
-pub returns : goal.returns
-returns c = wavs_are_files
