@@ -23,6 +23,7 @@ use Rattle.ff_flac_dec.specs.declared.cut.FlacCut.{FlacCut}
 use Rattle.ff_flac_dec.specs.Cuts.{flac_cutter}
 use Rattle.ff_input.specs.Reading.{piece_size}
 use Rattle.ff_flac_dec.proofs.UnitLaws.{whole_at, packets_step}
+use Rattle.ff_input.specs.Owed.{Owes}
 use Rattle.ff_input.specs.Shapes.{IsShaped, all_first}
 use Rattle.ff_input.specs.Streams.{HasStreams}
 
@@ -97,12 +98,15 @@ in_shape (AudioHead tb rate bits channels coded) h i start bs =
     subst InShape (sym h.coded) (frames_in_shape tb rate bits channels s i start bs)
 in_shape (VideoHead tb format width height sar_num sar_den) h i start bs = absurd h
 
-pub flac_shaped : IsShaped flac_cutter
+flac_shaped : IsShaped flac_cutter
 flac_shaped head rest h = in_shape head.head h.sound h.stream head.start rest
 
 -- of FLAC a piece is asked for, or as many bytes as wait where these are more
 abbrev pub flac_asks : FlacCut → ℕ
 flac_asks cut = max piece_size (length (flac_cutter.waiting cut))
 
-pub flac_streams : HasStreams flac_cutter
+flac_streams : HasStreams flac_cutter
 flac_streams head h = inr (inl (h.sound, h.stream))
+
+pub flac_owes : Owes flac_cutter
+flac_owes = record { shaped = flac_shaped; streams = flac_streams }

@@ -12,6 +12,7 @@ use Rattle.ff_pcm_cut.specs.declared.head.PcmHead.{PcmHead}
 use Rattle.ff_pcm_cut.specs.declared.cut.PcmCut.{PcmCut}
 use Rattle.ff_pcm_cut.specs.Cuts.{pcm_cutter}
 use Rattle.ff_wav.specs.Heads as wav
+use Rattle.ff_wav.specs.declared.walk.Wav.{Wav}
 use Rattle.ff_y4m.specs.declared.head.Y4mHead.{Y4mHead}
 use Rattle.ff_y4m.specs.declared.cut.Y4mCut.{Y4mCut}
 use Rattle.ff_y4m.specs.Cuts.{y4m_cutter}
@@ -21,21 +22,36 @@ use Rattle.ff_flac_dec.specs.declared.head.FlacHead.{FlacHead}
 use Rattle.ff_flac_dec.specs.declared.cut.FlacCut.{FlacCut}
 use Rattle.ff_flac_dec.specs.Cuts.{flac_cutter}
 use Rattle.ff_flac_dec.specs.Heads as flac
+use Rattle.ff_flac_dec.specs.declared.walk.Flac.{Flac}
+use Rattle.ff_input.specs.declared.formats.Y4mWalk.{Y4mWalk}
 use Rattle.ff_input.specs.declared.one_of.OneOf.{OneOf}
 use Rattle.ff_input.specs.declared.one_of.OneOf.TheVariants.{First, Other}
 use Rattle.ff_input.specs.Answers.{as_found, either_head, either_reached, units_reached}
 use Rattle.ff_input.specs.Either.{either_cutter}
 use Rattle.ff_input.specs.FirstWords.{Word, named_in}
-use Rattle.ff_input.specs.FlacShapes.{flac_shaped, flac_streams}
-use Rattle.ff_input.specs.PcmShapes.{pcm_shaped, pcm_streams}
-use Rattle.ff_input.specs.Y4mShapes.{y4m_shaped, y4m_streams}
-use Rattle.ff_input.specs.Shapes.{IsShaped, either_shaped}
-use Rattle.ff_input.specs.Streams.{HasStreams, either_streams}
+use Rattle.ff_input.specs.FlacShapes.{flac_owes}
+use Rattle.ff_input.specs.Owed.{Owes, either_owes}
+use Rattle.ff_input.specs.PcmShapes.{pcm_owes}
+use Rattle.ff_input.specs.Y4mShapes.{y4m_owes}
 
 -- ---- a line for each format
 
+-- its heads, walks and cuts
+abbrev pub InputHead : Type 0
+InputHead = OneOf PcmHead (OneOf Y4mHead FlacHead)
+
+abbrev pub AnyWalk : Type 0
+AnyWalk = OneOf (HeadWalk Wav PcmHead (Option StreamHead)) (OneOf Y4mWalk (HeadWalk Flac FlacHead (Option StreamHead)))
+
+abbrev pub AnyCut : Type 0
+AnyCut = OneOf PcmCut (OneOf Y4mCut FlacCut)
+
+-- a head, or the fault for which there is none
+abbrev pub Found : Type 0
+Found = heads.Found InputHead
+
 -- its head, or the fault for which there is none, in a whole input; others aren't read
-abbrev pub head_in : FileFormat → List ℕ → heads.Found (OneOf PcmHead (OneOf Y4mHead FlacHead))
+abbrev pub head_in : FileFormat → List ℕ → Found
 head_in format.Wav bs = as_found First (wav.head bs)
 head_in format.Y4m bs = as_found Other (as_found First (y4m.head bs))
 head_in format.Flac bs = as_found Other (as_found Other (flac.head bs))
@@ -51,30 +67,20 @@ first_words =
     ∷ []
 
 -- of its walk: the head of a whole input, and that it has read this front; over a line, which is read anew, any
-abbrev pub any_head : {A B C : Type 0} → OneOf A (OneOf B C) → List ℕ → heads.Found (OneOf PcmHead (OneOf Y4mHead FlacHead))
-any_head walk = either_head (λ w. wav.head) (either_head (λ w. y4m.head) (λ w. flac.head)) walk
+abbrev pub any_head : AnyWalk → List ℕ → Found
+any_head = either_head (λ w. wav.head) (either_head (λ w. y4m.head) (λ w. flac.head))
 
-abbrev pub any_reached : {A B C : Type 0} → OneOf (HeadWalk A PcmHead (Option StreamHead)) (OneOf B (HeadWalk C FlacHead (Option StreamHead))) → List ℕ → Type 0
-any_reached walk = either_reached (units_reached wav.grammar) (either_reached (λ w front. Unit {0}) (units_reached flac.grammar)) walk
+abbrev pub any_reached : AnyWalk → List ℕ → Type 0
+any_reached = either_reached (units_reached wav.grammar) (either_reached (λ w front. Unit {0}) (units_reached flac.grammar))
 
--- its cut, by which its packets are in shape for their lane, and its stream one that is read
-abbrev pub any_cutter : Cutter (OneOf PcmHead (OneOf Y4mHead FlacHead)) (OneOf PcmCut (OneOf Y4mCut FlacCut))
+-- its cut, and what it owes by it
+abbrev pub any_cutter : Cutter InputHead AnyCut
 any_cutter = either_cutter pcm_cutter (either_cutter y4m_cutter flac_cutter)
 
-pub any_shaped : IsShaped any_cutter
-any_shaped = either_shaped pcm_cutter (either_cutter y4m_cutter flac_cutter) pcm_shaped (either_shaped y4m_cutter flac_cutter y4m_shaped flac_shaped)
-
-pub any_streams : HasStreams any_cutter
-any_streams = either_streams pcm_cutter (either_cutter y4m_cutter flac_cutter) pcm_streams (either_streams y4m_cutter flac_cutter y4m_streams flac_streams)
+pub any_owes : Owes any_cutter
+any_owes = either_owes pcm_owes (either_owes y4m_owes flac_owes)
 
 -- ---- of any
-
-abbrev pub InputHead : Type 0
-InputHead = OneOf PcmHead (OneOf Y4mHead FlacHead)
-
--- a head, or the fault for which there is none
-abbrev pub Found : Type 0
-Found = heads.Found InputHead
 
 -- what is true of every head that is read, what it says of its one stream, and the heads of its streams, by number
 abbrev pub IsHead : InputHead → Type 0

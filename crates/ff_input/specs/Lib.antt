@@ -4,6 +4,7 @@ pub mod FirstWords
 pub mod Formats
 pub mod FlacShapes
 pub mod PcmShapes
+pub mod Owed
 pub mod Places
 pub mod Reading
 pub mod Shapes

@@ -19,6 +19,7 @@ use Rattle.ff_frame.specs.Codecs.{IsPcmCodec, sample_bytes}
 use Rattle.ff_stream.specs.Lanes.{IsItemFor, InOrder, Follows, AreInShape}
 use Rattle.ff_pcm_cut.specs.Packets.{block_of, frames, packet_at, packet_count, packets_of, body, whole_len, IsStream}
 use Rattle.ff_pcm_cut.specs.Cuts.{pcm_cutter}
+use Rattle.ff_input.specs.Owed.{Owes}
 use Rattle.ff_input.specs.Shapes.{IsShaped, all_first}
 use Rattle.ff_input.specs.Streams.{HasStreams}
 
@@ -80,8 +81,11 @@ in_shape : (head : StreamHead) (start : ℕ) (xs : List ℕ) → IsStream head
 in_shape (AudioHead tb rate bits channels codec) start xs h = packets_in_shape tb rate bits channels codec h.coded start xs
 in_shape (VideoHead tb format width height sar_num sar_den) start xs h = absurd h
 
-pub pcm_shaped : IsShaped pcm_cutter
+pcm_shaped : IsShaped pcm_cutter
 pcm_shaped head rest h = in_shape head.head head.start (body (whole_len head) rest) h.stream
 
-pub pcm_streams : HasStreams pcm_cutter
+pcm_streams : HasStreams pcm_cutter
 pcm_streams head h = inl h.stream
+
+pub pcm_owes : Owes pcm_cutter
+pcm_owes = record { shaped = pcm_shaped; streams = pcm_streams }

@@ -6,18 +6,11 @@ use Rattle.ff_stream.specs.declared.item.Item.{Item}
 use Rattle.ff_stream.specs.declared.item.Item.TheVariants.{Packet}
 use Rattle.ff_stream.specs.declared.item.Lane.TheVariants.{Packets}
 use Rattle.ff_stream.specs.Lanes.{AreInShape}
-use Rattle.ff_input.specs.declared.one_of.OneOf.TheVariants.{First, Other}
-use Rattle.ff_input.specs.Either.{either_cutter}
 
 module _ {H C : Type 0} (cutter : Cutter H C) where
-  -- of each input with a head the packets are in shape for their lane: what a format owes
+  -- of each input with a head the packets are in shape for their lane
   abbrev pub IsShaped : Type 0
   IsShaped = (head : H) (rest : List ℕ) → cutter.IsHead head → AreInShape (Packets (cutter.stream_head head)) (map Packet (cutter.demuxed head rest))
-
--- those of two formats are, where those of each are
-pub either_shaped : {H K C D : Type 0} (one : Cutter H C) (other : Cutter K D) → IsShaped one → IsShaped other → IsShaped (either_cutter one other)
-either_shaped one other a b (First head) rest h = a head rest h
-either_shaped one other a b (Other head) rest h = b head rest h
 
 pub all_first : (P : Item → Type 0) (x : Item) (ys : List Item) → P x → All P ys → All P (x ∷ ys)
 all_first P x ys p all zero d lt = p

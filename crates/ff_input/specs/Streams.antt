@@ -8,8 +8,6 @@ use Rattle.ff_reader.specs.Cutters.{Cutter}
 use Rattle.ff_pcm_cut.specs.Packets as pcm
 use Rattle.ff_flac_frame.specs.Frame.{IsStream}
 use Rattle.ff_flac_dec.specs.Streams.{IsFlacHead, stream_of}
-use Rattle.ff_input.specs.declared.one_of.OneOf.TheVariants.{First, Other}
-use Rattle.ff_input.specs.Either.{either_cutter}
 
 -- FLAC, as its frames need it
 abbrev pub IsFlac : StreamHead → Type 0
@@ -24,11 +22,6 @@ abbrev pub IsInputStream : StreamHead → Type 0
 IsInputStream head = pcm.IsStream head ⊎ (IsFlac head ⊎ IsPictures head)
 
 module _ {H C : Type 0} (cutter : Cutter H C) where
-  -- of each input with a head the stream is such a one: what a format owes
+  -- of each input with a head the stream is such a one
   abbrev pub HasStreams : Type 0
   HasStreams = (head : H) → cutter.IsHead head → IsInputStream (cutter.stream_head head)
-
--- those of two formats are, where those of each are
-pub either_streams : {H K C D : Type 0} (one : Cutter H C) (other : Cutter K D) → HasStreams one → HasStreams other → HasStreams (either_cutter one other)
-either_streams one other a b (First head) h = a head h
-either_streams one other a b (Other head) h = b head h

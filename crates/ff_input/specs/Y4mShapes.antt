@@ -20,6 +20,7 @@ use Rattle.ff_y4m.specs.declared.frame.Front.TheVariants.{Wait, Other, Frame}
 use Rattle.ff_y4m.specs.Packets.{unit, packet_in, packets_from, IsStream}
 use Rattle.ff_y4m.specs.Cuts.{y4m_cutter}
 use Rattle.ff_y4m.proofs.UnitLaws.{frame_at, packets_step}
+use Rattle.ff_input.specs.Owed.{Owes}
 use Rattle.ff_input.specs.Shapes.{IsShaped, all_first}
 use Rattle.ff_input.specs.Streams.{HasStreams, IsPictures}
 
@@ -94,12 +95,15 @@ in_shape : (head : StreamHead) (size start : ℕ) (bs : List ℕ) → IsStream h
 in_shape (AudioHead tb rate bits channels codec) size start bs h = absurd h
 in_shape (VideoHead tb format width height sar_num sar_den) size start bs h = frames_in_shape tb format width height sar_num sar_den size h.2 start bs
 
-pub y4m_shaped : IsShaped y4m_cutter
+y4m_shaped : IsShaped y4m_cutter
 y4m_shaped head rest h = in_shape head.head head.frame_bytes head.start rest h.stream
 
 are_pictures : (head : StreamHead) (size : ℕ) → IsStream head size → IsBase (base_of_head head) → IsPictures head
 are_pictures (AudioHead tb rate bits channels codec) size h b = absurd h
 are_pictures (VideoHead tb format width height sar_num sar_den) size h b = (h.0, h.1, b)
 
-pub y4m_streams : HasStreams y4m_cutter
+y4m_streams : HasStreams y4m_cutter
 y4m_streams head h = inr (inr (are_pictures head.head head.frame_bytes h.stream h.base))
+
+pub y4m_owes : Owes y4m_cutter
+y4m_owes = record { shaped = y4m_shaped; streams = y4m_streams }

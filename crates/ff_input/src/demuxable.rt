@@ -16,8 +16,7 @@ pub const PIECE: usize = 65536;
 /// A format whose inputs can be demuxed: of each the packets are in shape for their lane, and more is read only where what was
 /// read leaves the next packet undecided.
 pub trait Demuxable: PacketCut {
-    ghost use Rattle.ff_input.specs.Shapes.{IsShaped};
-    ghost use Rattle.ff_input.specs.Streams.{HasStreams};
+    ghost use Rattle.ff_input.specs.Owed.{Owes};
     ghost use Rattle.ff_input.specs.Reading.{LeavesOpen, AsksWithin};
 
     /// How many bytes are asked for where more are wanted,
@@ -58,15 +57,13 @@ pub trait Demuxable: PacketCut {
     fn send_frames_to(&mut self, sender: FrameSender)
         ensures { self.new ≡ self.old };
 
-    ghost in_shape: { IsShaped Self.is };
-
-    /// The stream of each head is one that is read.
-    ghost streams: { HasStreams Self.is };
+    /// Its packets are in shape for their lane, and its stream is one that is read.
+    ghost owes: { Owes Self.is };
 }
 
 impl Demuxable for PcmCut {
     ghost use Rattle.ff_input.specs.Reading.{piece_size};
-    ghost use Rattle.ff_input.specs.PcmShapes.{pcm_shaped, pcm_streams};
+    ghost use Rattle.ff_input.specs.PcmShapes.{pcm_owes};
 
     ghost asks = { λ cut. piece_size };
 
@@ -86,14 +83,12 @@ impl Demuxable for PcmCut {
 
     fn send_frames_to(&mut self, _: FrameSender) {}
 
-    ghost in_shape = { pcm_shaped };
-
-    ghost streams = { pcm_streams };
+    ghost owes = { pcm_owes };
 }
 
 impl Demuxable for Y4mCut {
     ghost use Rattle.ff_input.specs.Reading.{piece_size};
-    ghost use Rattle.ff_input.specs.Y4mShapes.{y4m_shaped, y4m_streams};
+    ghost use Rattle.ff_input.specs.Y4mShapes.{y4m_owes};
 
     ghost asks = { λ cut. piece_size };
 
@@ -113,14 +108,12 @@ impl Demuxable for Y4mCut {
 
     fn send_frames_to(&mut self, _: FrameSender) {}
 
-    ghost in_shape = { y4m_shaped };
-
-    ghost streams = { y4m_streams };
+    ghost owes = { y4m_owes };
 }
 
 impl Demuxable for FlacCut {
     ghost use Rattle.ff_flac_dec.specs.Cuts.{longest_frame};
-    ghost use Rattle.ff_input.specs.FlacShapes.{flac_asks, flac_shaped, flac_streams};
+    ghost use Rattle.ff_input.specs.FlacShapes.{flac_asks, flac_owes};
 
     ghost asks = { flac_asks };
 
@@ -144,15 +137,12 @@ impl Demuxable for FlacCut {
         FlacCut::send_frames_to(self, sender);
     }
 
-    ghost in_shape = { flac_shaped };
-
-    ghost streams = { flac_streams };
+    ghost owes = { flac_owes };
 }
 
 impl<A: Demuxable, B: Demuxable> Demuxable for OneOf<A, B> {
     ghost use Rattle.ff_input.specs.Either.{either};
-    ghost use Rattle.ff_input.specs.Shapes.{either_shaped};
-    ghost use Rattle.ff_input.specs.Streams.{either_streams};
+    ghost use Rattle.ff_input.specs.Owed.{either_owes};
 
     ghost asks = { either A.asks B.asks };
 
@@ -186,7 +176,5 @@ impl<A: Demuxable, B: Demuxable> Demuxable for OneOf<A, B> {
         }
     }
 
-    ghost in_shape = { either_shaped A.is B.is A.in_shape B.in_shape };
-
-    ghost streams = { either_streams A.is B.is A.streams B.streams };
+    ghost owes = { either_owes A.owes B.owes };
 }

@@ -310,5 +310,5 @@ impl<S: Source + Drop, C: Demuxable + Drop> Machine for Demux<S, C> {
         Some(Event::Exited(self.input))
     }
 
-    ghost laws = { λ m. demux_laws S.left S.name S.faults C.in_shape m m.same_head };
+    ghost laws = { λ m. demux_laws S.left S.name S.faults C.owes.shaped m m.same_head };
 }

@@ -39,7 +39,7 @@ impl<Src: Source + Drop, Snk: Sink + Drop> Machine for Part<Src, Snk> {
     ghost use Rattle.ff_run.specs.build.PartViews.{part_view};
     ghost use Rattle.ff_run.specs.declared.build.part.Part.TheVariants as part;
     ghost use Rattle.ff_node_codec.specs.codecs.AnyCoders.{any_head, any_frame, any_serves, any_coded, any_packet};
-    ghost use Rattle.ff_input.specs.Formats.{any_shaped};
+    ghost use Rattle.ff_input.specs.Formats.{any_owes};
     ghost use Rattle.ff_node_demux.specs.DemuxViews.{demux_laws};
     ghost use Rattle.ff_node_codec.specs.Kinds.{dec_laws, enc_laws};
     ghost use Rattle.ff_node_flac.specs.Machines as flac;
@@ -171,7 +171,7 @@ impl<Src: Source + Drop, Snk: Sink + Drop> Machine for Part<Src, Snk> {
     }
 
     ghost laws = { elim [
-      | part.Demux m ↦ demux_laws Src.left Src.name Src.faults any_shaped m m.same_head
+      | part.Demux m ↦ demux_laws Src.left Src.name Src.faults any_owes.shaped m m.same_head
       | part.Dec m ↦ dec_laws any_head any_frame m
       | part.Graph m ↦
           leading_laws (⟦<Alone<CutGraph> as Machine>⟧.view m.machine.machine) m.machine.lead (graph_laws m.machine.machine)
