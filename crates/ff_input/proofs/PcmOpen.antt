@@ -8,10 +8,10 @@ use Rattle.std.proofs.lemmas.Nat.{le-div, div_below}
 use Rattle.std.proofs.lemmas.Option.{slice_get_past}
 use Rattle.std.proofs.Math.Nat.{div-mul-le_self, mul-le-mul_right}
 use Rattle.ff_frame.specs.declared.head.Codec.{Codec}
-use Rattle.ff_frame.specs.declared.head.Codec.TheVariants.{PcmU8, PcmS16le, PcmS24le, PcmS32le, Flac, RawVideo}
 use Rattle.ff_frame.specs.declared.head.StreamHead.{StreamHead}
 use Rattle.ff_frame.specs.declared.head.StreamHead.TheVariants.{Audio, Video}
 use Rattle.ff_frame.specs.declared.packet.Pkt.{Pkt}
+use Rattle.ff_frame.specs.PcmLaws.{few_sample_bytes}
 use Rattle.ff_frame.specs.Codecs.{sample_bytes}
 use Rattle.ff_pcm_cut.specs.declared.head.PcmHead.{PcmHead}
 use Rattle.ff_pcm_cut.specs.declared.cut.PcmCut.{PcmCut}
@@ -93,12 +93,7 @@ module _ (start block : ℕ) (some : 0 < block) where
       )
 
 some_bytes : (codec : Codec) → 1 ≤ sample_bytes codec
-some_bytes PcmU8 = omega arith
-some_bytes PcmS16le = omega arith
-some_bytes PcmS24le = omega arith
-some_bytes PcmS32le = omega arith
-some_bytes Flac = omega arith
-some_bytes RawVideo = omega arith
+some_bytes codec = (few_sample_bytes codec).0
 
 some_block : (head : StreamHead) → IsStream head → 0 < block_of head
 some_block (Audio tb rate bits channels codec) h =
