@@ -1,5 +1,6 @@
 -- What is told of the command itself: the texts that `-h` and `-version` ask for.
 use Rattle.std.specs.Prelude.{ℕ, ◌-◌, Bool, true, false, List, [], ◌∷◌, ◌++◌, length, map, replicate, codes}
+use Rattle.std.specs.Borrow.{Bor}
 use Rattle.ff_lists.specs.Text.{line}
 use Rattle.ff_frame.specs.Codecs.{codec_name}
 use Rattle.ff_frame.specs.declared.head.Codec.{Codec}
@@ -10,7 +11,10 @@ use Rattle.ff_words.specs.declared.table.Kind.{Kind}
 use Rattle.ff_words.specs.declared.table.Kind.TheVariants as kind
 use Rattle.ff_format.specs.Formats.{file_formats}
 use Rattle.ff_words.specs.Options.{options, audio_codecs, video_codecs}
-use Rattle.ff_command.specs.declared.help.TheConstants.{USAGE, ENDS, PROGRAM}
+use Rattle.ff_filters.specs.declared.name.FilterName.{FilterName}
+use Rattle.ff_filters.specs.declared.name.TheConstants.{FILTERS}
+use Rattle.ff_filters.specs.Pads.{takes_sound}
+use Rattle.ff_command.specs.declared.help.TheConstants.{USAGE, STATUSES, PROGRAM}
 
 -- a text at the left of so many places, before blanks
 abbrev pub left : ℕ → List ℕ → List ℕ
@@ -102,6 +106,36 @@ abbrev pub codec_lines : List Codec → List ℕ
 codec_lines [] = []
 codec_lines (codec ∷ list) = line (codes "  " ++ codec_name codec) ++ codec_lines list
 
+-- ---- filters
+
+-- the line of a filter: its name, its arguments and what it does
+abbrev pub filter_line : List ℕ → List ℕ → List ℕ → List ℕ
+filter_line name arguments effect = line (left 26 (codes "  " ++ name ++ arguments) ++ effect)
+
+-- the line of one that takes sound or doesn't, among those that do or don't
+abbrev pub line_among : Bool → Bool → List ℕ → List ℕ
+line_among true true text = text
+line_among true false text = []
+line_among false true text = []
+line_among false false text = text
+
+-- those that take sound without an argument, or those that take pictures
+abbrev pub filter_lines : Bool → List (List ℕ × FilterName × List ℕ × List ℕ) → List ℕ
+filter_lines sound [] = []
+filter_lines sound (l ∷ list) = line_among sound (takes_sound l.1 []) (filter_line l.0 l.2 l.3) ++ filter_lines sound list
+
+-- the lines of a list of the code
+abbrev pub filters : List (Bor (List ℕ) × FilterName × Bor (List ℕ) × Bor (List ℕ)) → List (List ℕ × FilterName × List ℕ × List ℕ)
+filters list = map (λ (l : Bor (List ℕ) × FilterName × Bor (List ℕ) × Bor (List ℕ)). (l.0.now, l.1, l.2.now, l.3.now)) list
+
+-- by the list by which graphs are read
+unfoldable pub filters_text : List ℕ
+filters_text =
+    line (codes "Filters of pictures, each with its arguments:")
+    ++ filter_lines false (filters FILTERS)
+    ++ line (codes "Filters of sound:")
+    ++ filter_lines true (filters FILTERS)
+
 -- ---- the texts
 
 unfoldable pub help_text : List ℕ
@@ -114,7 +148,8 @@ help_text =
     ++ codec_lines audio_codecs
     ++ line (codes "Codecs of pictures:")
     ++ codec_lines video_codecs
-    ++ all_lines (map (λ l. l.now) ENDS)
+    ++ filters_text
+    ++ all_lines (map (λ l. l.now) STATUSES)
 
 unfoldable pub version_text : List ℕ
 version_text = all_lines (map (λ l. l.now) PROGRAM)

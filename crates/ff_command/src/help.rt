@@ -3,8 +3,9 @@ ghost use Rattle.std.specs.Prelude.{◌≡◌, ◌++◌, OnOk, IfOk, ℕ, codes}
 ghost use Rattle.ff_lists.specs.Text.{line};
 ghost use Rattle.ff_words.specs.Table.{lines, formats, names};
 ghost use Rattle.ff_command.specs.Help.{left, all_lines, concerned, taken, effect as effect_of, option_line, option_lines, ways, format_line, format_lines};
-ghost use Rattle.ff_command.specs.Help.{codec_lines, help_text, version_text};
+ghost use Rattle.ff_command.specs.Help.{codec_lines, filter_line, filters, filter_lines, filters_text, help_text, version_text};
 
+use ff_filters::{FILTERS, FilterName, takes_sound};
 use ff_frame::Codec;
 use ff_format::{FORMATS, FileFormat};
 use ff_words::{AUDIO_CODECS, Concern, Kind, OPTIONS, VIDEO_CODECS};
@@ -18,28 +19,8 @@ pub static USAGE: [&'static str; 4] = [
     "an input itself; or it stands alone:",
 ];
 
-/// What stands behind the codecs.
-pub static ENDS: [&'static str; 30] = [
-    "Filters of pictures, each with its arguments:",
-    "  null                      no effect",
-    "  trim=start:end            the pictures from one time to before another",
-    "  setpts=PTS-STARTPTS       times from 0 on",
-    "  crop=w:h:x:y              a part of each picture",
-    "  pad=w:h:x:y               each picture on a larger black one",
-    "  hflip                     left and right changed",
-    "  vflip                     top and bottom changed",
-    "  fps=fps                   so many pictures a second",
-    "  split=outputs             the same pictures several times",
-    "  hstack=inputs:shortest    pictures of several inputs side by side",
-    "  vstack=inputs:shortest    pictures of several inputs one below the other",
-    "  concat=n:v:a              streams one after another, of sound with v=0:a=1",
-    "Filters of sound:",
-    "  anull                     no effect",
-    "  atrim=start:end           the samples from one time to before another",
-    "  asetpts=PTS-STARTPTS      times from 0 on",
-    "  asplit=outputs            the same sound several times",
-    "  channelsplit              each channel by itself",
-    "  join=inputs               the channels of several inputs beside each other",
+/// What stands behind the filters.
+pub static STATUSES: [&'static str; 10] = [
     "Statuses, each but 0 with a line that names its cause:",
     "  0  all was done",
     "  1  the words ask for nothing",
@@ -203,6 +184,20 @@ fn push_codec(alloc: Global, out: &mut Vec<u8>, name: &str) -> Result<(), AllocE
     push_line(out, name)
 }
 
+fn push_filter(
+    alloc: Global,
+    out: &mut Vec<u8>,
+    name: &str,
+    arguments: &str,
+    effect: &str,
+) -> Result<(), AllocError>
+    ensures { OnOk result (out.new.items ≡ out.old.items ++ filter_line name.now arguments.now effect.now) }
+{
+    let head = head_of(alloc, name, arguments)?;
+    push_left(alloc, out, 26, &head)?;
+    push_line(out, effect)
+}
+
 fn push_lines(out: &mut Vec<u8>, list: &[&'static str]) -> Result<(), AllocError>
     ensures { OnOk result (out.new.items ≡ out.old.items ++ all_lines (names list.now)) }
 {
@@ -247,6 +242,32 @@ fn push_codecs(alloc: Global, out: &mut Vec<u8>, list: &[Codec]) -> Result<(), A
     Ok(())
 }
 
+// The filters that take sound, or those that take pictures, by their names alone.
+fn push_filters(
+    alloc: Global,
+    out: &mut Vec<u8>,
+    sound: bool,
+    list: &[(&'static str, FilterName, &'static str, &'static str)],
+) -> Result<(), AllocError>
+    ensures { OnOk result (out.new.items ≡ out.old.items ++ filter_lines sound (filters list.now)) }
+{
+    for (name, filter, arguments, effect) in list.iter() {
+        if takes_sound(*filter, &[]) == sound {
+            push_filter(alloc, out, name, arguments, effect)?;
+        }
+    }
+    Ok(())
+}
+
+fn push_all_filters(alloc: Global, out: &mut Vec<u8>) -> Result<(), AllocError>
+    ensures { OnOk result (out.new.items ≡ out.old.items ++ filters_text) }
+{
+    push_line(out, "Filters of pictures, each with its arguments:")?;
+    push_filters(alloc, out, false, &FILTERS)?;
+    push_line(out, "Filters of sound:")?;
+    push_filters(alloc, out, true, &FILTERS)
+}
+
 /// What `-h` asks for.
 #[tactic(auto, unfolding(crate::specs::Help::help_text))]
 pub(crate) fn help(alloc: Global) -> Result<Vec<u8>, AllocError>
@@ -261,7 +282,8 @@ pub(crate) fn help(alloc: Global) -> Result<Vec<u8>, AllocError>
     push_codecs(alloc, &mut out, &AUDIO_CODECS)?;
     push_line(&mut out, "Codecs of pictures:")?;
     push_codecs(alloc, &mut out, &VIDEO_CODECS)?;
-    push_lines(&mut out, &ENDS)?;
+    push_all_filters(alloc, &mut out)?;
+    push_lines(&mut out, &STATUSES)?;
     Ok(out)
 }
 

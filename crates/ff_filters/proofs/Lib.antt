@@ -7,6 +7,10 @@ pub mod SettingsBy
 pub mod Agreeing
 pub mod Refusing
 pub mod Parting
-pub mod Answering
-pub mod PortLanes
+pub mod Settings
 pub mod LimitedLemmas
+pub mod Owing
+pub mod Singles
+pub mod OneOwed
+pub mod ManyOwed
+pub mod Owed

@@ -1,4 +1,3 @@
 pub mod Opening
 pub mod Ones
 pub mod Manies
-pub mod Limited

@@ -28,18 +28,20 @@ one_head wanted (i ∷ []) h e =
 one_head wanted (i ∷ j ∷ hs) h e = cc
 
 -- a filter of one input: its head and settings
-pub record Parts {T X : Type 0} (wanted : StreamHead → Bool) (made : StreamHead → T → Result X ConfigError) (heads : List StreamHead) (x : X) : Type 0 where
+pub record Parts {S T X : Type 0} (wanted : StreamHead → Bool) (manual : Manual S) (set : T → ℕ → List ℕ → Option T) (t : T)
+    (made : StreamHead → T → Result X ConfigError) (args : List Arg) (heads : List StreamHead) (x : X) : Type 0 where
   pub head : StreamHead
   pub settings : T
   pub only : heads ≡ head ∷ []
   pub kind : wanted head ≡ true
+  pub read : read_by manual set false 0 t args ≡ Ok settings
   pub made_is : made head settings ≡ Ok x
 
 pub parts_of : {S T X : Type 0} (wanted : StreamHead → Bool) (manual : Manual S) (set : T → ℕ → List ℕ → Option T) (t : T)
     (made : StreamHead → T → Result X ConfigError) (args : List Arg) (heads : List StreamHead) (x : X)
-    → configured_by wanted manual set t made args heads ≡ Ok x → Parts wanted made heads x
+    → configured_by wanted manual set t made args heads ≡ Ok x → Parts wanted manual set t made args heads x
 parts_of wanted manual set t made args heads x h =
     let first = then_ok (λ head. and_then (made head) (read_by manual set false 0 t args)) (only_head wanted heads) x h in
     let second = then_ok (made first.0) (read_by manual set false 0 t args) x first.2 in
     let one = one_head wanted heads first.0 first.1 in
-    record { head = first.0; settings = second.0; only = one.0; kind = one.1; made_is = second.2 }
+    record { head = first.0; settings = second.0; only = one.0; kind = one.1; read = second.1; made_is = second.2 }

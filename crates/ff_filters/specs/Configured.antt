@@ -11,38 +11,29 @@ use Rattle.ff_filter.specs.declared.pass.Pass.{Pass}
 use Rattle.ff_filter.specs.declared.plain.ExprSettings.{ExprSettings}
 use Rattle.ff_filter.specs.declared.rebase.Rebase.{Rebase}
 use Rattle.ff_filter.specs.Options.{is_sound, is_video}
-use Rattle.ff_filter.specs.Plain.{no_manual, expr_manual, pass_view, rebase_view}
+use Rattle.ff_filter.specs.Plain.{no_manual, expr_manual}
 use Rattle.ff_filter.specs.Ranges.{range_manual}
 use Rattle.ff_filter.specs.Views.{View}
 use Rattle.ff_filter.specs.declared.spread.copies.SplitSettings.{SplitSettings}
-use Rattle.ff_filter.specs.spread.Splits.{split_manual, split_view, split_heads}
+use Rattle.ff_filter.specs.spread.Splits.{split_manual}
 use Rattle.ff_planes.specs.declared.rectangle.Rectangle.{Rectangle}
 use Rattle.ff_vfilter.specs.declared.crop.CropSettings.{CropSettings}
 use Rattle.ff_vfilter.specs.declared.pad.PadSettings.{PadSettings}
 use Rattle.ff_vfilter.specs.declared.fps.FpsSettings.{FpsSettings}
 use Rattle.ff_vfilter.specs.declared.trim.Trim.{Trim}
 use Rattle.ff_vfilter.specs.Sizes.{no_sizes}
-use Rattle.ff_vfilter.specs.Trims.{trim_view}
-use Rattle.ff_vfilter.specs.Crops.{crop_manual, crop_part, can_crop, crop_view, crop_head}
-use Rattle.ff_vfilter.specs.Pads.{Padded, pad_manual, pad_of, can_pad, pad_view, pad_head}
-use Rattle.ff_vfilter.specs.HFlips.{hflip_view}
-use Rattle.ff_vfilter.specs.VFlips.{vflip_view}
-use Rattle.ff_vfilter.specs.FpsOptions.{fps_manual, fps_view, fps_head}
+use Rattle.ff_vfilter.specs.Crops.{crop_manual, crop_part, can_crop}
+use Rattle.ff_vfilter.specs.Pads.{Padded, pad_manual, pad_of, can_pad}
+use Rattle.ff_vfilter.specs.FpsOptions.{fps_manual}
 use Rattle.ff_afilter.specs.declared.atrim.ATrim.{ATrim}
-use Rattle.ff_afilter.specs.Trims.{atrim_view}
-use Rattle.ff_afilter.specs.Channels.{channels_view, mono_heads}
 use Rattle.ff_fsync.specs.declared.stacks.options.StackSettings.{StackSettings}
 use Rattle.ff_fsync.specs.declared.stacks.shape.Direction.{Direction}
-use Rattle.ff_fsync.specs.declared.stacks.shape.Direction.TheVariants.{Beside, Below}
 use Rattle.ff_fsync.specs.stacks.Heads.{input_fault, stack_fault}
 use Rattle.ff_fsync.specs.stacks.Options.{stack_manual, counted}
-use Rattle.ff_fsync.specs.stacks.Stacks.{StackOf, stack_on, stack_view, head_of}
+use Rattle.ff_fsync.specs.stacks.Stacks.{StackOf, stack_on}
 use Rattle.ff_joins.specs.Arguments.{each_head}
-use Rattle.ff_joins.specs.ConcatOptions.{concat_manual, concat_set, concat_start, segments_said, video_said, sound_said, is_of_kind, concat_view, concat_head}
+use Rattle.ff_joins.specs.ConcatOptions.{concat_manual, concat_set, concat_start, segments_said, video_said, sound_said, is_of_kind}
 use Rattle.ff_joins.specs.JoinOptions.{join_manual, inputs_said, is_like, channels_in, with_channels}
-use Rattle.ff_joins.specs.JoinView.{join_view}
-use Rattle.ff_filters.specs.declared.name.FilterName.{FilterName}
-use Rattle.ff_filters.specs.declared.name.FilterName.TheVariants as filter
 use Rattle.ff_filters.specs.Heads.{each_is}
 use Rattle.ff_filters.specs.ReadBy.{and_then, unless, read_by, configured_by}
 use Rattle.ff_filters.specs.SetBy.{set_none, set_expr, set_crop, set_pad, set_fps, set_split, set_stack, set_join}
@@ -150,24 +141,3 @@ join_by args heads =
 abbrev pub filtered : {X : Type 0} → (X → View) → (X → List StreamHead) → Result X ConfigError → Result Filtered ConfigError
 filtered shown outs (Ok m) = Ok (record { view = shown m; outs = outs m })
 filtered shown outs (Err e) = Err e
-
--- a filter of this name with these arguments, on streams of these heads
-abbrev pub configured_as : FilterName → List Arg → List StreamHead → Result Filtered ConfigError
-configured_as filter.Null args heads = filtered pass_view (λ m. m.head ∷ []) (pass_by is_video args heads)
-configured_as filter.Trim args heads = filtered trim_view (λ m. m.head ∷ []) (trim_by args heads)
-configured_as filter.SetPts args heads = filtered rebase_view (λ m. m.head ∷ []) (rebase_by is_video args heads)
-configured_as filter.Crop args heads = filtered crop_view (λ m. crop_head m ∷ []) (crop_by args heads)
-configured_as filter.Pad args heads = filtered pad_view (λ m. pad_head m ∷ []) (pad_by args heads)
-configured_as filter.HFlip args heads = filtered hflip_view (λ head. head ∷ []) (plain_by is_video (λ head. head) args heads)
-configured_as filter.VFlip args heads = filtered vflip_view (λ head. head ∷ []) (plain_by is_video (λ head. head) args heads)
-configured_as filter.Fps args heads = filtered fps_view (λ m. fps_head m ∷ []) (fps_by args heads)
-configured_as filter.Split args heads = filtered split_view split_heads (split_by is_video args heads)
-configured_as filter.ANull args heads = filtered pass_view (λ m. m.head ∷ []) (pass_by is_sound args heads)
-configured_as filter.ATrim args heads = filtered atrim_view (λ m. m.head ∷ []) (atrim_by args heads)
-configured_as filter.ASetPts args heads = filtered rebase_view (λ m. m.head ∷ []) (rebase_by is_sound args heads)
-configured_as filter.ASplit args heads = filtered split_view split_heads (split_by is_sound args heads)
-configured_as filter.ChannelSplit args heads = filtered channels_view mono_heads (plain_by is_sound (λ head. head) args heads)
-configured_as filter.HStack args heads = filtered stack_view (λ m. head_of m ∷ []) (stack_by Beside args heads)
-configured_as filter.VStack args heads = filtered stack_view (λ m. head_of m ∷ []) (stack_by Below args heads)
-configured_as filter.Concat args heads = filtered concat_view (λ m. concat_head m ∷ []) (concat_by args heads)
-configured_as filter.Join args heads = filtered (join_view heads) (λ head. head ∷ []) (join_by args heads)

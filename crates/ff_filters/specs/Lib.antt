@@ -1,3 +1,4 @@
+pub mod Definitions
 pub mod Names
 pub mod Pads
 pub mod Makes

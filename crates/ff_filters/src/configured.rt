@@ -1,12 +1,12 @@
 ghost use Rattle.std.specs.Prelude.{◌≡◌, ◌⊎◌, Ok, Err, IfOk, IfErr};
 ghost use Rattle.ff_frame.specs.declared.config.ConfigError.TheVariants.{NoMemory};
-ghost use Rattle.ff_filters.specs.Configured.{configured_as};
-ghost use Rattle.ff_filters.specs.Makes.{Makes, Refuses};
+ghost use Rattle.ff_filters.specs.Makes.{Makes, Refuses, configured_as};
 
 use crate::any::AnyFilter;
 use crate::name::FilterName;
+use crate::step::{IntoAny, stepping};
 use ff_afilter::{ANull, ASetPts, ASplit, ATrim, ChannelSplit};
-use ff_filter::Filter;
+use ff_filter::{Filter, Limited, Stepper};
 use ff_frame::{ConfigError, StreamHead};
 use ff_fsync::{HStack, VStack};
 use ff_joins::{Concat, Join};
@@ -31,6 +31,24 @@ pub fn configure(
     by_name(alloc, name, args, heads)
 }
 
+// A filter that is a function of one stream, as it is configured.
+fn single<A: IntoAny>(
+    name: FilterName,
+    args: &[Arg],
+    heads: &[StreamHead],
+    made: Result<(Stepper<Limited<A>>, Vec<StreamHead>), ConfigError>,
+) -> Result<(AnyFilter, Vec<StreamHead>), ConfigError>
+    requires made { IfOk made (λ r. Makes name args.now heads.now (⟦<Stepper<Limited<A>> as Filter>⟧.view r.0) r.1.items) }
+    requires refused { IfErr made (Refuses name args.now heads.now) }
+    ensures made { IfOk result (λ r. Makes name args.now heads.now (⟦<AnyFilter as Filter>⟧.view r.0) r.1.items) }
+    ensures refused { IfErr result (Refuses name args.now heads.now) }
+{
+    match made {
+        Ok((filter, heads)) => Ok((AnyFilter::Step(stepping(filter)), heads)),
+        Err(error) => Err(error),
+    }
+}
+
 // The filter of this name, as each is configured.
 fn by_name(
     alloc: Global,
@@ -42,34 +60,13 @@ fn by_name(
     ensures refused { IfErr result (Refuses name args.now heads.now) }
 {
     match name {
-        FilterName::Null => match Null::configure(alloc, args, heads) {
-            Ok((filter, heads)) => Ok((AnyFilter::Pass(filter), heads)),
-            Err(error) => Err(error),
-        },
-        FilterName::Trim => match Trim::configure(alloc, args, heads) {
-            Ok((filter, heads)) => Ok((AnyFilter::Trim(filter), heads)),
-            Err(error) => Err(error),
-        },
-        FilterName::SetPts => match SetPts::configure(alloc, args, heads) {
-            Ok((filter, heads)) => Ok((AnyFilter::Rebase(filter), heads)),
-            Err(error) => Err(error),
-        },
-        FilterName::Crop => match Crop::configure(alloc, args, heads) {
-            Ok((filter, heads)) => Ok((AnyFilter::Crop(filter), heads)),
-            Err(error) => Err(error),
-        },
-        FilterName::Pad => match Pad::configure(alloc, args, heads) {
-            Ok((filter, heads)) => Ok((AnyFilter::Pad(filter), heads)),
-            Err(error) => Err(error),
-        },
-        FilterName::HFlip => match HFlip::configure(alloc, args, heads) {
-            Ok((filter, heads)) => Ok((AnyFilter::HFlip(filter), heads)),
-            Err(error) => Err(error),
-        },
-        FilterName::VFlip => match VFlip::configure(alloc, args, heads) {
-            Ok((filter, heads)) => Ok((AnyFilter::VFlip(filter), heads)),
-            Err(error) => Err(error),
-        },
+        FilterName::Null => single(name, args, heads, Null::configure(alloc, args, heads)),
+        FilterName::Trim => single(name, args, heads, Trim::configure(alloc, args, heads)),
+        FilterName::SetPts => single(name, args, heads, SetPts::configure(alloc, args, heads)),
+        FilterName::Crop => single(name, args, heads, Crop::configure(alloc, args, heads)),
+        FilterName::Pad => single(name, args, heads, Pad::configure(alloc, args, heads)),
+        FilterName::HFlip => single(name, args, heads, HFlip::configure(alloc, args, heads)),
+        FilterName::VFlip => single(name, args, heads, VFlip::configure(alloc, args, heads)),
         FilterName::Fps => match Fps::configure(alloc, args, heads) {
             Ok((filter, heads)) => Ok((AnyFilter::Rate(filter), heads)),
             Err(error) => Err(error),
@@ -78,18 +75,9 @@ fn by_name(
             Ok((filter, heads)) => Ok((AnyFilter::Copies(filter), heads)),
             Err(error) => Err(error),
         },
-        FilterName::ANull => match ANull::configure(alloc, args, heads) {
-            Ok((filter, heads)) => Ok((AnyFilter::Pass(filter), heads)),
-            Err(error) => Err(error),
-        },
-        FilterName::ATrim => match ATrim::configure(alloc, args, heads) {
-            Ok((filter, heads)) => Ok((AnyFilter::ATrim(filter), heads)),
-            Err(error) => Err(error),
-        },
-        FilterName::ASetPts => match ASetPts::configure(alloc, args, heads) {
-            Ok((filter, heads)) => Ok((AnyFilter::Rebase(filter), heads)),
-            Err(error) => Err(error),
-        },
+        FilterName::ANull => single(name, args, heads, ANull::configure(alloc, args, heads)),
+        FilterName::ATrim => single(name, args, heads, ATrim::configure(alloc, args, heads)),
+        FilterName::ASetPts => single(name, args, heads, ASetPts::configure(alloc, args, heads)),
         FilterName::ASplit => match ASplit::configure(alloc, args, heads) {
             Ok((filter, heads)) => Ok((AnyFilter::Copies(filter), heads)),
             Err(error) => Err(error),

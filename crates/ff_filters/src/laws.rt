@@ -8,9 +8,16 @@ ghost use Rattle.ff_stream.specs.declared.item.Lane.TheVariants.{Frames};
 ghost use Rattle.ff_lang.specs.declared.graph.Arg.{Arg};
 ghost use Rattle.ff_filter.specs.Views.{View, IsNew};
 ghost use Rattle.ff_filters.specs.declared.name.FilterName.{FilterName};
-ghost use Rattle.ff_filters.specs.Configured.{Filtered, configured_as};
-ghost use Rattle.ff_filters.specs.Makes.{Makes, Refuses};
+ghost use Rattle.ff_filters.specs.declared.name.TheConstants.{FILTERS};
+ghost use Rattle.ff_filters.specs.Configured.{Filtered};
+ghost use Rattle.ff_filters.specs.Definitions.{filter_names};
+ghost use Rattle.ff_filters.specs.Makes.{Makes, Refuses, configured_as};
 ghost use Rattle.ff_filters.specs.Texts.{duration_of};
+
+/// The filters that are told are those by whose names graphs are read, in this order.
+pub fn filters_are_told()
+    ensures { map (λ line. (line.0.now, line.1)) FILTERS ≡ filter_names }
+{}
 
 /// A name, arguments and heads make at most one filter, which the function says; and it says why they are refused.
 pub fn filters_are_determined()

@@ -6,8 +6,8 @@
 //! ```
 //!
 //! [`AnyFilter`] is the machine of any filter that there is, so that a graph can hold them side by side; it meets
-//! `ff_filter::Filter` as each of them does. A further filter is a line in [`AnyFilter`], one in [`FilterName`], and one in each of
-//! their matches.
+//! `ff_filter::Filter` as each of them does. What a filter is stands in one record, by its name (`specs/Definitions`); what every
+//! filter owes in one more (`proofs/Owed`), which all that is proved of graphs takes whole.
 //!
 //! `limited`: Each filter, as it is configured, is a function behind the limits of its outputs.
 #![tactic(auto)]
@@ -17,14 +17,14 @@ mod configured;
 mod laws;
 mod limited;
 mod name;
-mod pads;
+mod step;
 
 pub use any::AnyFilter;
 pub use configured::configure;
 pub use laws::{
-    durations_are_read, filters_are_determined, filters_carry_their_heads,
+    durations_are_read, filters_are_determined, filters_are_told, filters_carry_their_heads,
     the_function_needs_no_memory,
 };
 pub use limited::configured_filters_are_limited;
-pub use name::{FilterName, named};
-pub use pads::{inputs, outputs, takes_sound};
+pub use name::{FILTERS, FilterName, inputs, is_apart, named, outputs, takes_sound};
+pub use step::{AnyStep, IntoAny};

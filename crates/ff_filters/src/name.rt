@@ -1,5 +1,12 @@
+//! The filters by their names, and what a graph has to know of each before it knows any head.
 ghost use Rattle.std.specs.Prelude.{◌≡◌};
-ghost use Rattle.ff_filters.specs.Names.{filter_named};
+ghost use Rattle.ff_filters.specs.Names.{named_in, named_lines, filter_named};
+ghost use Rattle.ff_filters.specs.Pads.{inputs_of, outputs_of, is_apart as stands_apart, takes_sound as sound_taken};
+
+use ff_filter::SplitSettings;
+use ff_fsync::count_inputs;
+use ff_joins::{ConcatSettings, JoinSettings, last_number};
+use ff_lang::Arg;
 
 /// The filters that there are.
 #[derive(Clone, Copy, Debug, PartialEq, Eq)]
@@ -42,47 +49,168 @@ pub enum FilterName {
     Join,
 }
 
+/// Each filter: its name in a filtergraph, what it is, which arguments it takes, and what it does. Graphs are read by this list, and
+/// `-h` tells it in this order.
+pub static FILTERS: [(&'static str, FilterName, &'static str, &'static str); 18] = [
+    ("null", FilterName::Null, "", "no effect"),
+    (
+        "trim",
+        FilterName::Trim,
+        "=start:end",
+        "the pictures from one time to before another",
+    ),
+    (
+        "setpts",
+        FilterName::SetPts,
+        "=PTS-STARTPTS",
+        "times from 0 on",
+    ),
+    (
+        "crop",
+        FilterName::Crop,
+        "=w:h:x:y",
+        "a part of each picture",
+    ),
+    (
+        "pad",
+        FilterName::Pad,
+        "=w:h:x:y",
+        "each picture on a larger black one",
+    ),
+    ("hflip", FilterName::HFlip, "", "left and right changed"),
+    ("vflip", FilterName::VFlip, "", "top and bottom changed"),
+    ("fps", FilterName::Fps, "=fps", "so many pictures a second"),
+    (
+        "split",
+        FilterName::Split,
+        "=outputs",
+        "the same pictures several times",
+    ),
+    (
+        "hstack",
+        FilterName::HStack,
+        "=inputs:shortest",
+        "pictures of several inputs side by side",
+    ),
+    (
+        "vstack",
+        FilterName::VStack,
+        "=inputs:shortest",
+        "pictures of several inputs one below the other",
+    ),
+    (
+        "concat",
+        FilterName::Concat,
+        "=n:v:a",
+        "streams one after another, of sound with v=0:a=1",
+    ),
+    ("anull", FilterName::ANull, "", "no effect"),
+    (
+        "atrim",
+        FilterName::ATrim,
+        "=start:end",
+        "the samples from one time to before another",
+    ),
+    (
+        "asetpts",
+        FilterName::ASetPts,
+        "=PTS-STARTPTS",
+        "times from 0 on",
+    ),
+    (
+        "asplit",
+        FilterName::ASplit,
+        "=outputs",
+        "the same sound several times",
+    ),
+    (
+        "channelsplit",
+        FilterName::ChannelSplit,
+        "",
+        "each channel by itself",
+    ),
+    (
+        "join",
+        FilterName::Join,
+        "=inputs",
+        "the channels of several inputs beside each other",
+    ),
+];
+
+fn find(
+    list: &[(&'static str, FilterName, &'static str, &'static str)],
+    name: &str,
+) -> Option<FilterName>
+    ensures { result ≡ named_in (named_lines list.now) name.now }
+{
+    for (own, filter, _arguments, _effect) in list.iter() {
+        if name == *own {
+            return Some(*filter);
+        }
+    }
+    None
+}
+
 /// The filter of this name, as it is written in a filtergraph. None where no filter has it.
 pub fn named(name: &str) -> Option<FilterName>
     ensures { result ≡ filter_named name.now }
 {
-    if name == "null" {
-        Some(FilterName::Null)
-    } else if name == "trim" {
-        Some(FilterName::Trim)
-    } else if name == "setpts" {
-        Some(FilterName::SetPts)
-    } else if name == "crop" {
-        Some(FilterName::Crop)
-    } else if name == "pad" {
-        Some(FilterName::Pad)
-    } else if name == "hflip" {
-        Some(FilterName::HFlip)
-    } else if name == "vflip" {
-        Some(FilterName::VFlip)
-    } else if name == "fps" {
-        Some(FilterName::Fps)
-    } else if name == "split" {
-        Some(FilterName::Split)
-    } else if name == "anull" {
-        Some(FilterName::ANull)
-    } else if name == "atrim" {
-        Some(FilterName::ATrim)
-    } else if name == "asetpts" {
-        Some(FilterName::ASetPts)
-    } else if name == "asplit" {
-        Some(FilterName::ASplit)
-    } else if name == "channelsplit" {
-        Some(FilterName::ChannelSplit)
-    } else if name == "hstack" {
-        Some(FilterName::HStack)
-    } else if name == "vstack" {
-        Some(FilterName::VStack)
-    } else if name == "concat" {
-        Some(FilterName::Concat)
-    } else if name == "join" {
-        Some(FilterName::Join)
-    } else {
-        None
+    find(&FILTERS, name)
+}
+
+/// How many input pads a filter has by its arguments. The last that says so counts; where that one is refused, as many as
+/// where none says so.
+pub fn inputs(name: FilterName, args: &[Arg]) -> usize
+    ensures { result ≡ inputs_of name args.now }
+{
+    match name {
+        FilterName::HStack | FilterName::VStack => count_inputs(args),
+        FilterName::Concat => last_number::<ConcatSettings>(args, 0, 2, 16, 2) as usize,
+        FilterName::Join => last_number::<JoinSettings>(args, 0, 2, 8, 2) as usize,
+        _ => 1,
+    }
+}
+
+/// How many output pads a filter has by its arguments that may be linked without a label. Those of channelsplit are linked by
+/// labels alone.
+pub fn outputs(name: FilterName, args: &[Arg]) -> usize
+    ensures { result ≡ outputs_of name args.now }
+{
+    match name {
+        FilterName::Split | FilterName::ASplit => {
+            last_number::<SplitSettings>(args, 0, 1, 16, 2) as usize
+        }
+        FilterName::ChannelSplit => 0,
+        _ => 1,
+    }
+}
+
+/// Whether the output pads of a filter are as many as its input has channels, and are linked by labels alone.
+pub fn is_apart(name: FilterName) -> bool
+    ensures { result ≡ stands_apart name }
+{
+    match name {
+        FilterName::ChannelSplit => true,
+        _ => false,
+    }
+}
+
+/// Whether the input pads of a filter take sound; else they take pictures.
+pub fn takes_sound(name: FilterName, args: &[Arg]) -> bool
+    ensures { result ≡ sound_taken name args.now }
+{
+    match name {
+        FilterName::ANull
+        | FilterName::ATrim
+        | FilterName::ASetPts
+        | FilterName::ASplit
+        | FilterName::ChannelSplit
+        | FilterName::Join => true,
+        FilterName::Concat => {
+            let video = last_number::<ConcatSettings>(args, 1, 0, 1, 1) == 1;
+            let sound = last_number::<ConcatSettings>(args, 2, 0, 1, 0) == 1;
+            sound & !video
+        }
+        _ => false,
     }
 }

@@ -6,7 +6,6 @@ pub mod Ends
 pub mod Fed
 pub mod Feeding
 pub mod Fitting
-pub mod Kept
 pub mod Limiting
 pub mod Elements
 pub mod Made

@@ -11,8 +11,9 @@ use Rattle.ff_graph_links.proofs.OrdersLemmas.Stuck.{size_set}
 use Rattle.ff_graph_links.specs.pads.Links.{Seen, feeders_from}
 use Rattle.ff_filters.specs.declared.name.FilterName.{FilterName}
 use Rattle.ff_filters.specs.Names.{filter_named}
-use Rattle.ff_filters.specs.Configured.{Filtered, configured_as}
-use Rattle.ff_filters.proofs.Answering.{never_short}
+use Rattle.ff_filters.specs.Configured.{Filtered}
+use Rattle.ff_filters.specs.Makes.{configured_as}
+use Rattle.ff_filters.proofs.Owed.{never_short}
 use Rattle.ff_graph.specs.Configured.{Made, Refused, heads_into, is_misfit, is_surplus, made_as, made_of, behind, with_made, make_from, none_made, make_all, outs_of, configured}
 use Rattle.ff_graph.specs.Drawings.{seen_graph}
 use Rattle.ff_graph.specs.Opens.{feeders_in, filter_order, open_pads, sources_in}

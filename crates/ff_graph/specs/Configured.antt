@@ -11,9 +11,10 @@ use Rattle.ff_graph_links.specs.declared.pads.drawn.Pad.{Pad}
 use Rattle.ff_graph_links.specs.pads.Links.{Seen}
 use Rattle.ff_filter.specs.Views.{View}
 use Rattle.ff_filters.specs.declared.name.FilterName.{FilterName}
-use Rattle.ff_filters.specs.declared.name.FilterName.TheVariants as filter
 use Rattle.ff_filters.specs.Names.{filter_named}
-use Rattle.ff_filters.specs.Configured.{Filtered, configured_as}
+use Rattle.ff_filters.specs.Configured.{Filtered}
+use Rattle.ff_filters.specs.Makes.{configured_as}
+use Rattle.ff_filters.specs.Pads.{is_apart}
 use Rattle.ff_graph.specs.Drawings.{seen_graph}
 use Rattle.ff_graph.specs.Opens.{filter_order, sources_in, open_pads}
 
@@ -80,7 +81,7 @@ is_misfit ds opens k d =
 abbrev pub too_few : ℕ → Seen → Bool
 too_few n d = nat_lt n (length d.filter.outs)
 
--- channelsplit has one for each channel of its input, if that is sound
+-- of pads that are apart there is one for each channel of the input, if that is sound
 abbrev pub too_few_channels : Seen → List StreamHead → Bool
 too_few_channels d [] = false
 too_few_channels d (Audio tb rate bits channels codec ∷ hs) = too_few channels d
@@ -88,8 +89,7 @@ too_few_channels d (Video tb format width height sar_num sar_den ∷ hs) = false
 
 -- it has more labels at its outputs than pads
 abbrev pub is_surplus : FilterName → Seen → List StreamHead → Bool
-is_surplus filter.ChannelSplit d heads = too_few_channels d heads
-is_surplus _ d heads = too_few d.outputs d
+is_surplus name d heads = if is_apart name then too_few_channels d heads else too_few d.outputs d
 
 abbrev pub made_on : FilterName → Seen → Option (List StreamHead) → Result Filtered ConfigError
 made_on name d None = Err fault.Pads

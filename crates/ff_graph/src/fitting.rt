@@ -2,7 +2,7 @@ ghost use Rattle.std.specs.Prelude.{◌≡◌, ◌-◌, length, slice_get};
 ghost use Rattle.ff_graph_links.specs.pads.Links.{Seen, seen, all_seen};
 ghost use Rattle.ff_graph.specs.Configured.{leaves_over as left_over, stands_at as is_at, is_misfit as misfits, too_few_channels, is_surplus as has_surplus};
 
-use ff_filters::FilterName;
+use ff_filters::{FilterName, is_apart};
 use ff_frame::StreamHead;
 use ff_graph_links::{Drawn, Pad};
 
@@ -40,7 +40,7 @@ pub(crate) fn is_misfit(drawn: &[Drawn<'_>], opens: &[Pad], filter: usize, own: 
         || stands_at(opens, 16, filter)
 }
 
-// Whether channelsplit has more labels at its outputs than its input has channels.
+// Whether a filter has more labels at its outputs than its input has channels.
 fn lacks_channels(labels: usize, heads: &[StreamHead]) -> bool
     ensures { (d : Seen) → length d.filter.outs ≡ labels → result ≡ too_few_channels d heads.now }
 {
@@ -58,8 +58,9 @@ pub(crate) fn is_surplus(name: FilterName, own: &Drawn<'_>, heads: &[StreamHead]
     ensures { result ≡ has_surplus name (seen own.now) heads.now }
 {
     let labels = own.filter.outs.as_slice().len();
-    match name {
-        FilterName::ChannelSplit => lacks_channels(labels, heads),
-        _ => own.outputs < labels,
+    if is_apart(name) {
+        lacks_channels(labels, heads)
+    } else {
+        own.outputs < labels
     }
 }

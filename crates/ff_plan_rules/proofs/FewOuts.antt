@@ -11,30 +11,15 @@ use Rattle.ff_lang.specs.declared.graph.Arg.{Arg}
 use Rattle.ff_lang.specs.declared.graph.Filter.{Filter}
 use Rattle.ff_lang.specs.declared.graph.Graph.{Graph}
 use Rattle.ff_graph_links.specs.labels.Labels.{filters_of}
-use Rattle.ff_filter.specs.Options.{is_sound, is_video}
-use Rattle.ff_filter.specs.Plain.{no_manual, pass_view, rebase_view}
-use Rattle.ff_filter.specs.Views.{View}
-use Rattle.ff_filter.specs.spread.Splits.{split_manual, split_view, split_heads}
-use Rattle.ff_vfilter.specs.Trims.{trim_view}
-use Rattle.ff_vfilter.specs.Crops.{crop_view, crop_head}
-use Rattle.ff_vfilter.specs.Pads.{pad_view, pad_head}
-use Rattle.ff_vfilter.specs.FpsOptions.{fps_view, fps_head}
-use Rattle.ff_vfilter.specs.HFlips.{hflip_view}
-use Rattle.ff_vfilter.specs.VFlips.{vflip_view}
-use Rattle.ff_afilter.specs.Trims.{atrim_view}
-use Rattle.ff_afilter.specs.Channels.{mono_head, channels_view, mono_heads}
-use Rattle.ff_fsync.specs.declared.stacks.shape.Direction.TheVariants.{Beside, Below}
-use Rattle.ff_fsync.specs.stacks.Stacks.{stack_view, head_of}
-use Rattle.ff_joins.specs.ConcatOptions.{concat_view, concat_head}
-use Rattle.ff_joins.specs.JoinView.{join_view}
+use Rattle.ff_afilter.specs.Channels.{channels_in}
 use Rattle.ff_graph_links.specs.declared.pads.drawn.Pad.{Pad}
 use Rattle.ff_graph_links.specs.pads.Links.{Seen}
 use Rattle.ff_filters.specs.declared.name.FilterName.{FilterName}
-use Rattle.ff_filters.specs.declared.name.FilterName.TheVariants as filter
-use Rattle.ff_filters.specs.SetBy.{set_none, set_split}
-use Rattle.ff_filters.specs.Configured.{Filtered, filtered, configured_as, plain_by, pass_by, rebase_by, trim_by, atrim_by, crop_by, pad_by, fps_by, copied_as, split_by}
-use Rattle.ff_filters.specs.Configured.{stack_by, concat_by, join_by}
-use Rattle.ff_filters.proofs.Parting.{parts_of}
+use Rattle.ff_filters.specs.Configured.{Filtered}
+use Rattle.ff_filters.specs.Makes.{configured_as}
+use Rattle.ff_filters.specs.Pads.{is_apart, outputs_of}
+use Rattle.ff_filters.proofs.Owing.{Counted, AreFew}
+use Rattle.ff_filters.proofs.Owed.{owed, gives, kept_too}
 use Rattle.ff_graph.specs.Drawings.{seen_graph}
 use Rattle.ff_graph.specs.Opens as of_graph
 use Rattle.ff_graph.specs.Opens.{filter_order, sources_in, open_pads}
@@ -45,13 +30,10 @@ use Rattle.ff_plan_layout.specs.declared.open_pads.OpenOut.{OpenOut}
 use Rattle.ff_plan_layout.specs.declared.open_pads.Refused.{Refused}
 use Rattle.ff_plan_rules.specs.Kept.{IsFitHead, AreFitHeads}
 use Rattle.ff_plan_rules.specs.Rules.{output_as, outputs_as, configured}
-use Rattle.ff_plan_rules.proofs.Lists.{all_more}
-use Rattle.ff_plan_rules.proofs.Settings.{same_ok, no_ok, settled, split_read}
+use Rattle.ff_plan_rules.proofs.Lists.{no_ok, all_more}
 use Rattle.ff_plan_rules.proofs.Making.{made_parts, heads_keep}
 use Rattle.ff_plan_rules.proofs.KeptHeads.{fit_is_kept}
-use Rattle.ff_plan_rules.proofs.Outputs.{by_each, gives_so}
 use Rattle.ff_plan_rules.proofs.Keeping.{into_fit}
-use Rattle.ff_plan_rules.proofs.Few.{last_few}
 use Rattle.ff_plan_rules.proofs.Had.{graph_written, as_err, was_had}
 
 abbrev IsFew : List StreamHead → Type 0
@@ -59,52 +41,19 @@ IsFew hs = length hs ≤ 16
 
 -- ---- of one filter
 
-one_few : {X : Type 0} (shown : X → View) (head : X → StreamHead) (by : Result X ConfigError) (f : Filtered) → filtered shown (λ m. head m ∷ []) by ≡ Ok f → IsFew f.outs
-one_few shown head by f e = by_each IsFew shown (λ m. head m ∷ []) by f (λ m k. omega arith) e
+fit_few : (h : StreamHead) → IsFitHead h → channels_in h ≤ 16
+fit_few (Audio tb rate bits channels codec) fit = (let few : channels ≤ 8 = fit.channels.1 in omega (arith, few))
+fit_few (Video tb format width height sar_num sar_den) fit = omega arith
 
-split_few : (wanted : StreamHead → Bool) (args : List Arg) (heads : List StreamHead) (f : Filtered) → filtered split_view split_heads (split_by wanted args heads) ≡ Ok f → IsFew f.outs
-split_few wanted args heads f e = by_each IsFew split_view split_heads (split_by wanted args heads) f
-    (λ m k.
-    let s = settled wanted split_manual set_split (record { outputs = 2 }) copied_as args heads m k in
-    let said = split_read false 0 (record { outputs = 2 }) args s.settings s.read in
-    let few = last_few split_manual 0 1 16 2 false 0 2 args (omega arith) (omega arith) in
-    let same : s.settings.outputs ≡ m.1 = ap (λ (x : StreamHead × ℕ). x.1) (same_ok (s.head, s.settings.outputs) m s.made_is) in
-    let long = length-replicate m.1 m.0 in
-    omega (arith, said, few, same, long)) e
-
-mono_few : (h : StreamHead) → IsFitHead h → IsFew (mono_heads h)
-mono_few (Audio tb rate bits channels codec) fit =
-    let few : channels ≤ 8 = fit.channels.1 in
-    let long = length-replicate channels (mono_head (Audio tb rate bits channels codec)) in
-    omega (arith, few, long)
-mono_few (Video tb format width height sar_num sar_den) fit = omega arith
-
-parted_few : (args : List Arg) (heads : List StreamHead) (f : Filtered) → AreFitHeads heads
-    → filtered channels_view mono_heads (plain_by is_sound (λ head. head) args heads) ≡ Ok f → IsFew f.outs
-parted_few args heads f all e = by_each IsFew channels_view mono_heads (plain_by is_sound (λ head. head) args heads) f
-    (λ m k.
-    let p = parts_of is_sound no_manual set_none (record {}) (λ head s. Ok head) args heads m k in
-    mono_few m (subst IsFitHead (same_ok p.head m p.made_is) (subst AreFitHeads p.only all).0)) e
+at_few : (apart : Bool) (first : StreamHead) (others : List StreamHead) (given said : ℕ) → Counted apart first others given said → AreFew apart said → IsFitHead first
+    → given ≤ 16
+at_few false first others given said c few fit = (let le = few.1 in omega (arith, c, le))
+at_few true first others given said c few fit = (let le = fit_few first fit in let size = c.2 in omega (arith, le, size))
 
 gives_few : (name : FilterName) (args : List Arg) (heads : List StreamHead) (f : Filtered) → AreFitHeads heads → configured_as name args heads ≡ Ok f → IsFew f.outs
-gives_few filter.Null args heads f all e = one_few pass_view (λ m. m.head) (pass_by is_video args heads) f e
-gives_few filter.Trim args heads f all e = one_few trim_view (λ m. m.head) (trim_by args heads) f e
-gives_few filter.SetPts args heads f all e = one_few rebase_view (λ m. m.head) (rebase_by is_video args heads) f e
-gives_few filter.Crop args heads f all e = one_few crop_view crop_head (crop_by args heads) f e
-gives_few filter.Pad args heads f all e = one_few pad_view pad_head (pad_by args heads) f e
-gives_few filter.HFlip args heads f all e = one_few hflip_view (λ m. m) (plain_by is_video (λ head. head) args heads) f e
-gives_few filter.VFlip args heads f all e = one_few vflip_view (λ m. m) (plain_by is_video (λ head. head) args heads) f e
-gives_few filter.Fps args heads f all e = one_few fps_view fps_head (fps_by args heads) f e
-gives_few filter.Split args heads f all e = split_few is_video args heads f e
-gives_few filter.ANull args heads f all e = one_few pass_view (λ m. m.head) (pass_by is_sound args heads) f e
-gives_few filter.ATrim args heads f all e = one_few atrim_view (λ m. m.head) (atrim_by args heads) f e
-gives_few filter.ASetPts args heads f all e = one_few rebase_view (λ m. m.head) (rebase_by is_sound args heads) f e
-gives_few filter.ASplit args heads f all e = split_few is_sound args heads f e
-gives_few filter.ChannelSplit args heads f all e = parted_few args heads f all e
-gives_few filter.HStack args heads f all e = one_few stack_view head_of (stack_by Beside args heads) f e
-gives_few filter.VStack args heads f all e = one_few stack_view head_of (stack_by Below args heads) f e
-gives_few filter.Concat args heads f all e = one_few concat_view concat_head (concat_by args heads) f e
-gives_few filter.Join args heads f all e = one_few (join_view heads) (λ m. m) (join_by args heads) f e
+gives_few name args heads f all e =
+    let g = gives name args heads f e in
+    at_few (is_apart name) g.first g.others (length f.outs) (outputs_of name args) g.count ((owed name).outputs args) (subst AreFitHeads g.fed all).0
 
 -- ---- of a graph
 
@@ -129,7 +78,7 @@ made_few ds given m fit e =
     (subst (λ (o : Option Seen). made_of ds (map (λ (x : StreamHead). Some x) given) heads k o ≡ Ok f) d.1 h) in
     let into = into_fit IsFitHead fit_is_kept (open_pads ds) given heads k 0 (slice_index_or (sources_in ds) k []) w.into fit
     (all_more AreFitFew AreFitHeads heads (λ hs b. b.0) all) w.fed in
-    (gives_so IsFitHead fit_is_kept w.name d.0.filter.args w.into f into w.is, gives_few w.name d.0.filter.args w.into f into w.is))
+    (kept_too IsFitHead fit_is_kept w.name d.0.filter.args w.into f into w.is, gives_few w.name d.0.filter.args w.into f into w.is))
     (filter_order ds) (none_made ds) m e (none_few (length ds))
 
 unless_few : (fed : Bool) (out : of_graph_made.OpenOut) (others : List of_graph_made.OpenOut) → length (unless_fed fed out others) ≤ suc (length others)

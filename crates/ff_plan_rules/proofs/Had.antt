@@ -28,12 +28,11 @@ use Rattle.ff_graph.specs.Configured.{feeds_one, unless_fed, outs_at, outs_from,
 use Rattle.ff_plan_layout.specs.declared.open_pads.OpenOut.{OpenOut}
 use Rattle.ff_plan_layout.specs.declared.open_pads.Refused.{Refused}
 use Rattle.ff_plan_rules.specs.Rules.{input_as, output_as, refused_as, outputs_as, open_ins, configured}
-use Rattle.ff_plan_rules.proofs.Lists.{never, some_same, no_some, all_from, all_at, all_joined}
-use Rattle.ff_plan_rules.proofs.Settings.{same_ok, no_ok}
+use Rattle.ff_plan_rules.proofs.Lists.{never, some_same, no_some, same_ok, no_ok, all_from, all_at, all_joined}
 use Rattle.ff_plan_rules.proofs.OpenPads.{IsOpen, are_open, place_is, given_there}
 use Rattle.ff_plan_rules.proofs.Given.{written, HasPads}
 use Rattle.ff_plan_rules.proofs.Making.{IsMadeOf, made_parts, was_made, heads_stay, outputs_are, in_order}
-use Rattle.ff_plan_rules.proofs.Outputs.{labels_held}
+use Rattle.ff_graph.proofs.ComposedLemmas.Counts.{labels_there}
 
 -- ---- drawings
 
@@ -206,7 +205,7 @@ module _ (ds : List Seen) (given : List (Option StreamHead)) (m : Made) (order :
       outputs_are ds given (λ i hs. (x : Seen) → slice_get ds i ≡ Some x → length x.filter.outs ≤ length hs)
       (λ heads i f e x has.
       let w = made_parts ds given heads i x f (subst (λ (o : Option Seen). made_of ds given heads i o ≡ Ok f) has e) in
-      labels_held w.name x w.into f (all_at HasOutputs ds i x named has w.name w.named) w.enough w.is)
+      labels_there w.name x w.into f (all_at HasOutputs ds i x named has w.name w.named) w.enough w.is)
       (filter_order ds) (none_made ds) m made j.0 k j.1 (omega (arith, lt, none)) d at
 
   pub heads_size : length m.heads ≡ length ds

@@ -8,6 +8,8 @@ use Rattle.ff_lang.specs.declared.graph.Graph.{Graph}
 use Rattle.ff_graph_links.specs.declared.pads.drawn.Pad.{Pad}
 use Rattle.ff_graph_links.specs.pads.Links.{Seen}
 use Rattle.ff_filters.specs.Configured.{Filtered}
+use Rattle.ff_filters.proofs.Owing.{IsKept}
+use Rattle.ff_filters.proofs.Owed.{kept_too}
 use Rattle.ff_graph.proofs.Refusals.{never_for_memory}
 use Rattle.ff_graph.specs.Drawings.{seen_graph}
 use Rattle.ff_graph.specs.Opens as of_graph
@@ -20,11 +22,9 @@ use Rattle.ff_plan_layout.specs.declared.open_pads.OpenOut.{OpenOut}
 use Rattle.ff_plan_layout.specs.declared.open_pads.Refused.{Refused}
 use Rattle.ff_plan_rules.specs.Kept.{IsFitHead, KeepHeads}
 use Rattle.ff_plan_rules.specs.Rules.{output_as, outputs_as, configured, graph_rules}
-use Rattle.ff_plan_rules.proofs.Lists.{some_same, no_some, all_at, all_joined}
-use Rattle.ff_plan_rules.proofs.Settings.{no_ok}
+use Rattle.ff_plan_rules.proofs.Lists.{some_same, no_some, no_ok, all_at, all_joined}
 use Rattle.ff_plan_rules.proofs.Making.{made_parts, heads_keep}
-use Rattle.ff_plan_rules.proofs.KeptHeads.{IsKept, fit_is_kept, taken_is_kept}
-use Rattle.ff_plan_rules.proofs.Outputs.{gives_so}
+use Rattle.ff_plan_rules.proofs.KeptHeads.{fit_is_kept, taken_is_kept}
 use Rattle.ff_plan_rules.proofs.Had.{as_err, was_had, opens_size, opens_few}
 
 -- ---- heads that are kept
@@ -80,7 +80,7 @@ module _ (P : StreamHead → Type 0) (keeps : IsKept P) where
       let d = no_filter ds (map (λ (x : StreamHead). Some x) given) heads k (slice_get ds k) f h in
       let w = made_parts ds (map (λ (x : StreamHead). Some x) given) heads k d.0 f
       (subst (λ (o : Option Seen). made_of ds (map (λ (x : StreamHead). Some x) given) heads k o ≡ Ok f) d.1 h) in
-      gives_so P keeps w.name d.0.filter.args w.into f
+      kept_too P keeps w.name d.0.filter.args w.into f
       (into_fit (open_pads ds) given heads k 0 (slice_index_or (sources_in ds) k []) w.into fit all w.fed) w.is)
       (filter_order ds) (none_made ds) m e (none_fit (length ds))
 

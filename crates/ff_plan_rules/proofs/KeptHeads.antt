@@ -11,17 +11,10 @@ use Rattle.ff_fsync.specs.declared.stacks.shape.Direction.{Direction}
 use Rattle.ff_fsync.specs.declared.stacks.shape.Direction.TheVariants.{Beside, Below}
 use Rattle.ff_fsync.specs.stacks.Heads.{with_length}
 use Rattle.ff_joins.specs.JoinOptions.{channels_in, with_channels}
+use Rattle.ff_filters.proofs.Owing.{IsKept}
 use Rattle.ff_words.specs.declared.job.OutputJob.{OutputJob}
 use Rattle.ff_plan_layout.specs.Streams.{takes_head}
 use Rattle.ff_plan_rules.specs.Kept.{IsFitHead}
-
--- What every filter keeps: what is so of its inputs' heads is so of those of its outputs.
-pub record IsKept (P : StreamHead → Type 0) : Type 0 where
-  pub sized_too : (h : StreamHead) (w k : ℕ) → P h → P (sized h w k)
-  pub paced_too : (h : StreamHead) (b : Fraction) → IsBase b → P h → P (fps_head (h, b))
-  pub mono_too : (h : StreamHead) → P h → P (mono_head h)
-  pub long_too : (d : Direction) (n : ℕ) (h : StreamHead) → P h → P (with_length d n h)
-  pub joined_too : (h : StreamHead) (hs : List StreamHead) → nat_le (channels_in (h ∷ hs)) 8 ≡ true → P h → P (with_channels h (channels_in (h ∷ hs)))
 
 -- ---- fit heads
 
@@ -49,7 +42,7 @@ joined_fit (Audio tb rate bits channels codec) hs few fit =
 joined_fit (Video tb format width height sar_num sar_den) hs few fit = record { base = fit.base; channels = tt }
 
 pub fit_is_kept : IsKept IsFitHead
-fit_is_kept = record { sized_too = sized_fit; paced_too = paced_fit; mono_too = mono_fit; long_too = long_fit; joined_too = joined_fit }
+fit_is_kept = record { sized_too = sized_fit; paced_too = paced_fit; mono_too = mono_fit; longer_too = long_fit; joined_too = joined_fit }
 
 -- ---- whether an output takes them
 
@@ -80,6 +73,6 @@ taken_is_kept out = record {
   sized_too = sized_taken out;
   paced_too = paced_taken out;
   mono_too = mono_taken out;
-  long_too = long_taken out;
+  longer_too = long_taken out;
   joined_too = joined_taken out;
 }

@@ -10,5 +10,3 @@ mod Lists
 mod Making
 mod ReadMaps
 mod OpenPads
-mod Outputs
-mod Settings

@@ -13,11 +13,11 @@ use Rattle.ff_graph_links.proofs.OrdersLemmas.Stuck.{taken_at, size_set}
 use Rattle.ff_graph_links.specs.pads.Links.{Seen, feeders_from}
 use Rattle.ff_filters.specs.declared.name.FilterName.{FilterName}
 use Rattle.ff_filters.specs.Names.{filter_named}
-use Rattle.ff_filters.specs.Configured.{Filtered, configured_as}
+use Rattle.ff_filters.specs.Configured.{Filtered}
+use Rattle.ff_filters.specs.Makes.{configured_as}
 use Rattle.ff_graph.specs.Opens.{feeders_in, filter_order, sources_in, open_pads}
 use Rattle.ff_graph.specs.Configured.{Made, Refused, heads_into, is_misfit, is_surplus, made_on, made_as, made_of, with_made, behind, make_from}
-use Rattle.ff_plan_rules.proofs.Lists.{never}
-use Rattle.ff_plan_rules.proofs.Settings.{same_ok, no_ok}
+use Rattle.ff_plan_rules.proofs.Lists.{never, same_ok, no_ok}
 
 -- ---- one filter
 

@@ -64,7 +64,7 @@ use Rattle.ff_filters.proofs.Parting.{if_ok}
 use Rattle.ff_filters.proofs.LimitedLemmas.Opening.{Owes, owed}
 
 -- what a function of one stream owes, whose output is over from the start or not
-single_owes : (lane : Lane) (head : StreamHead) (f : Flow → Flow) (after : After) → (after ≡ Broke → ⊥)
+pub single_owes : (lane : Lane) (head : StreamHead) (f : Flow → Flow) (after : After) → (after ≡ Broke → ⊥)
     → ((r s : Flow) → LiesBelow r s → LiesBelow (f r) (f s)) → ((r : Flow) → LiesBelow (opened (f r)) (f (opened r))) → IsSound lane (Frames head) f
     → Owes (lane ∷ []) (Frames head ∷ []) (single_view lane head f after).rest
 single_owes lane head f More n below calm sound =

@@ -4,7 +4,8 @@ ghost use Rattle.ff_frame.specs.declared.head.StreamHead.{StreamHead};
 ghost use Rattle.ff_lang.specs.declared.graph.Arg.{Arg};
 ghost use Rattle.ff_node_filter.specs.Limiting.{IsLimited};
 ghost use Rattle.ff_filters.specs.declared.name.FilterName.{FilterName};
-ghost use Rattle.ff_filters.specs.Configured.{Filtered, configured_as};
+ghost use Rattle.ff_filters.specs.Configured.{Filtered};
+ghost use Rattle.ff_filters.specs.Makes.{configured_as};
 ghost use Rattle.ff_filters.specs.limited.Cuts.{cuts_in, AreTimed};
 
 /// The function of each filter, by its name, its arguments and the heads of its inputs, is one behind limits.

@@ -10,7 +10,7 @@ use Rattle.ff_graph_links.specs.declared.pads.drawn.Pad.{Pad}
 use Rattle.ff_graph_links.specs.pads.Links.{Seen}
 use Rattle.ff_stream.specs.declared.item.Lane.{Lane}
 use Rattle.ff_stream.specs.declared.item.Lane.TheVariants.{Frames}
-use Rattle.ff_filters.proofs.PortLanes.{agrees}
+use Rattle.ff_filters.proofs.Owed.{gives}
 use Rattle.ff_graph.specs.Drawings.{seen_graph}
 use Rattle.ff_graph.specs.Opens.{feeders_in, filter_order, open_pads, sources_in, loops}
 use Rattle.ff_graph.specs.Configured.{Made, make_all, open_outs}
@@ -114,7 +114,7 @@ whole g given made clear unlooped e =
 one_ready : (ds : List Seen) (given : List (Option StreamHead)) (final : List (List StreamHead)) (k : ℕ) (v : View) → IsMade ds given final k v
     → IsReady (sources_in ds) (counts_of final) k v
 one_ready ds given final k v m =
-    let a = agrees m.made.name m.own.filter.args m.made.ins m.filter m.made.is in
+    let a = gives m.made.name m.own.filter.args m.made.ins m.filter m.made.is in
     subst (λ (x : View). IsReady (sources_in ds) (counts_of final) k x) m.view (record {
       ins = sym (into_size (open_pads ds) given m.heads k 0 (slice_index_or (sources_in ds) k []) m.made.ins m.made.comes)
           ∙ sym (map_size (λ (h : StreamHead). Frames h) m.made.ins) ∙ ap (λ (ls : List Lane). length ls) (sym a.ins);

@@ -1,10 +1,7 @@
 -- A graph whose filters were made has open pads: the first of them in their order is fed by none, and the last feeds none.
 use Rattle.std.proofs.Common.{◌≡◌, ◌⊎◌, inl, inr, ℕ, zero, suc, ◌+◌, ◌==◌, ◌≤◌, ◌<◌, Bool, true, false, ◌||◌, cond, is_some, Option, None, Some, Result, Ok, Err}
 use Rattle.std.proofs.Common.{List, [], ◌∷◌, ◌++◌, length, slice_get, slice_index_or, refl, ap, sym, ◌∙◌, subst, arith}
-use Rattle.std.proofs.lemmas.List.{length-replicate}
 use Rattle.std.specs.List.{AllByRecursion}
-use Rattle.ff_frame.specs.declared.config.ConfigError.{ConfigError}
-use Rattle.ff_frame.specs.declared.config.ConfigError.TheVariants.{Pads, Kind}
 use Rattle.ff_frame.specs.declared.head.StreamHead.{StreamHead}
 use Rattle.ff_frame.specs.declared.head.StreamHead.TheVariants.{Audio, Video}
 use Rattle.ff_lang.specs.declared.graph.Arg.{Arg}
@@ -12,29 +9,16 @@ use Rattle.ff_lang.specs.declared.graph.Chain.{Chain}
 use Rattle.ff_lang.specs.declared.graph.Filter.{Filter}
 use Rattle.ff_lang.specs.declared.graph.Graph.{Graph}
 use Rattle.ff_lang.specs.Grammar.{IsFilter, IsChain, IsGraph, IsSeries}
-use Rattle.ff_filter.specs.Options.{Manual, option_of, is_sound, is_video}
-use Rattle.ff_filter.specs.Plain.{no_manual}
-use Rattle.ff_filter.specs.Views.{View}
-use Rattle.ff_filter.specs.spread.Splits.{split_manual}
-use Rattle.ff_afilter.specs.Channels.{channels_view, channels_in, mono_head, mono_heads}
-use Rattle.ff_fsync.specs.declared.stacks.shape.Direction.{Direction}
-use Rattle.ff_fsync.specs.declared.stacks.shape.Direction.TheVariants.{Beside, Below}
-use Rattle.ff_fsync.specs.stacks.Heads.{input_fault}
-use Rattle.ff_fsync.specs.stacks.Options.{stack_manual, counted}
-use Rattle.ff_fsync.specs.stacks.Stacks.{StackOf, stack_view, head_of}
-use Rattle.ff_joins.specs.Arguments.{each_head, ranged, or_else, gives, last_from, last_number}
-use Rattle.ff_joins.specs.ConcatOptions.{concat_manual, concat_set, concat_start, segments_said, video_said, sound_said, is_of_kind, concat_view, concat_head}
-use Rattle.ff_joins.specs.JoinOptions.{join_manual, inputs_said}
-use Rattle.ff_joins.specs.JoinView.{join_view}
+use Rattle.ff_filter.specs.Options.{is_sound}
+use Rattle.ff_afilter.specs.Channels.{channels_in}
 use Rattle.ff_graph_links.specs.declared.pads.drawn.Pad.{Pad}
 use Rattle.ff_graph_links.specs.pads.Links.{Seen}
 use Rattle.ff_filters.specs.declared.name.FilterName.{FilterName}
-use Rattle.ff_filters.specs.declared.name.FilterName.TheVariants as filter
-use Rattle.ff_filters.specs.ReadBy.{read_by}
-use Rattle.ff_filters.specs.SetBy.{set_none, set_stack, set_join}
-use Rattle.ff_filters.specs.Configured.{Filtered, filtered, plain_by, stacked_as, stack_by, segments_as, concat_by, joined_as, join_by, configured_as}
-use Rattle.ff_filters.proofs.Parting.{if_ok, then_ok, unless_ok, parts_of}
-use Rattle.ff_filters.proofs.SettingsBy.{ranged_out}
+use Rattle.ff_filters.specs.Configured.{Filtered}
+use Rattle.ff_filters.specs.Makes.{configured_as}
+use Rattle.ff_filters.specs.Pads.{is_apart, outputs_of}
+use Rattle.ff_filters.proofs.Owing.{Counted, AreFew}
+use Rattle.ff_filters.proofs.Owed.{owed, gives}
 use Rattle.ff_graph.specs.Configured.{Made, OpenOut, Refused, configured, make_all, outs_of, open_outs}
 use Rattle.ff_graph.specs.Drawings.{seen_chain, seen_chains, seen_graph}
 use Rattle.ff_graph.specs.Opens.{filter_order, loops, open_in, open_ins, open_pads, sources_in}
@@ -43,7 +27,6 @@ use Rattle.ff_graph_dag.specs.wiring.Flows.{IsForward, IsDrawing, source_at}
 use Rattle.ff_graph.specs.composed.Cuts.{all_given}
 use Rattle.ff_graph.specs.composed.Pads.{HasChannel, HasFilter, HaveChannels}
 use Rattle.ff_graph.specs.composed.Ready.{pads_of, counts_of}
-use Rattle.ff_graph.proofs.ComposedLemmas.Counts.{outputs_there}
 use Rattle.ff_graph.proofs.ComposedLemmas.Drawing.{IsWhole, made_at, whole}
 use Rattle.ff_graph.proofs.ComposedLemmas.Elements.{some_same, no_some, got, got_below, or_none, there_or_not, map_size, map_or}
 use Rattle.ff_graph.proofs.ComposedLemmas.Fed.{pad_of}
@@ -52,115 +35,26 @@ use Rattle.ff_graph.proofs.ComposedLemmas.Made.{IsMade, GivenSo}
 use Rattle.ff_graph.proofs.ComposedLemmas.Sourced.{sources_size}
 use Rattle.ff_graph.proofs.ComposedLemmas.Whole.{outs_are}
 
-was_made : {X : Type 0} (shown : X → View) (outs : X → List StreamHead) (r : Result X ConfigError) (f : Filtered) → filtered shown outs r ≡ Ok f
-    → (m : X) × (r ≡ Ok m) × (f.outs ≡ outs m)
-was_made shown outs (Ok m) f e =
-    (let same : (let g : Filtered = record { view = shown m; outs = outs m } in g) ≡ f = cc in (m, refl, sym (ap (λ (g : Filtered). g.outs) same)))
-was_made shown outs (Err x) f e = cc
-
--- ---- each filter takes a stream
-
-no_stack : (d : Direction) (args : List Arg) (m : StackOf) → stack_by d args [] ≡ Ok m → ⊥
-no_stack d args m e =
-    let first = unless_ok (input_fault (counted false 0 2 args) is_video []) _ m e in
-    let second = then_ok (stacked_as d []) (read_by stack_manual set_stack false 0 (record { inputs = 2; shortest = false }) args) m first.1 in
-    let clash : (let r : Result StackOf ConfigError = Err Pads in r) ≡ Ok m = second.2 in cc
-
-no_concat : (args : List Arg) (m : StreamHead × ℕ) → concat_by args [] ≡ Ok m → ⊥
-no_concat args m e =
-    let first = if_ok (0 == segments_said args) _ Pads m e in
-    let second = if_ok (each_head (is_of_kind (video_said args) (sound_said args)) []) _ Kind m first.1 in
-    let third = then_ok (λ s. segments_as []) (read_by concat_manual concat_set false 0 (concat_start args) args) m second.1 in
-    let clash : (let r : Result (StreamHead × ℕ) ConfigError = Err Pads in r) ≡ Ok m = third.2 in cc
-
-no_join : (args : List Arg) (m : StreamHead) → join_by args [] ≡ Ok m → ⊥
-no_join args m e =
-    let first = if_ok (0 == inputs_said args) _ Pads m e in
-    let second = if_ok (each_head is_sound []) _ Kind m first.1 in
-    let third = then_ok (λ s. joined_as []) (read_by join_manual set_join false 0 (record { inputs = 2 }) args) m second.1 in
-    let clash : (let r : Result StreamHead ConfigError = Err Pads in r) ≡ Ok m = third.2 in cc
-
-none_in : (name : FilterName) (args : List Arg) (f : Filtered) → configured_as name args [] ≡ Ok f → ⊥
-none_in filter.HStack args f e = let w = was_made stack_view (λ m. head_of m ∷ []) (stack_by Beside args []) f e in no_stack Beside args w.0 w.1
-none_in filter.VStack args f e = let w = was_made stack_view (λ m. head_of m ∷ []) (stack_by Below args []) f e in no_stack Below args w.0 w.1
-none_in filter.Concat args f e = let w = was_made concat_view (λ m. concat_head m ∷ []) (concat_by args []) f e in no_concat args w.0 w.1
-none_in filter.Join args f e = let w = was_made (join_view []) (λ head. head ∷ []) (join_by args []) f e in no_join args w.0 w.1
-none_in filter.Null args f e = cc
-none_in filter.Trim args f e = cc
-none_in filter.SetPts args f e = cc
-none_in filter.Crop args f e = cc
-none_in filter.Pad args f e = cc
-none_in filter.HFlip args f e = cc
-none_in filter.VFlip args f e = cc
-none_in filter.Fps args f e = cc
-none_in filter.Split args f e = cc
-none_in filter.ANull args f e = cc
-none_in filter.ATrim args f e = cc
-none_in filter.ASetPts args f e = cc
-none_in filter.ASplit args f e = cc
-none_in filter.ChannelSplit args f e = cc
+-- ---- each filter takes a stream, and gives one
 
 some_in : (name : FilterName) (args : List Arg) (heads : List StreamHead) (f : Filtered) → configured_as name args heads ≡ Ok f → 1 ≤ length heads
-some_in name args [] f e = absurd (none_in name args f e)
-some_in name args (h ∷ hs) f e = omega arith
-
--- ---- and gives one
-
-or_least : (lo hi d : ℕ) (text : List ℕ) (o : Option ℕ) → ranged lo hi text ≡ o → lo ≤ d → lo ≤ or_else d o
-or_least lo hi d text None e le = le
-or_least lo hi d text (Some n) e le = (ranged_out lo hi n text e).low
-
-either_least : (b : Bool) (lo m n : ℕ) → lo ≤ m → lo ≤ n → lo ≤ cond b m n
-either_least true lo m n a b = a
-either_least false lo m n a b = b
-
-last_least : {S : Type 0} (manual : Manual S) (option lo hi d : ℕ) (keyed : Bool) (place n : ℕ) (args : List Arg) → lo ≤ d → lo ≤ n
-    → lo ≤ last_from manual option lo hi d keyed place n args
-last_least manual option lo hi d keyed place n [] a b = b
-last_least manual option lo hi d keyed place n (x ∷ args) a b =
-    last_least manual option lo hi d (keyed || is_some x.key) (place + 1) (cond (gives option (option_of manual keyed place x.key)) (or_else d (ranged lo hi x.value)) n)
-    args a (either_least (gives option (option_of manual keyed place x.key)) lo (or_else d (ranged lo hi x.value)) n
-    (or_least lo hi d x.value (ranged lo hi x.value) refl a) b)
-
-split_least : (args : List Arg) → 1 ≤ last_number split_manual 0 1 16 2 args
-split_least args = last_least split_manual 0 1 16 2 false 0 2 args (omega arith) (omega arith)
+some_in name args heads f e = (let fed = ap (λ (hs : List StreamHead). length hs) (gives name args heads f e).fed in omega (arith, fed))
 
 sound_channels : (h : StreamHead) → is_sound h ≡ true → HasChannel h → 1 ≤ channels_in h
 sound_channels (Audio tb rate bits channels codec) s c = c
 sound_channels (Video tb format width height sar_num sar_den) s c = cc
 
-channel_out : (args : List Arg) (heads : List StreamHead) (f : Filtered) → AllByRecursion HasChannel heads
-    → filtered channels_view mono_heads (plain_by is_sound (λ head. head) args heads) ≡ Ok f → 1 ≤ length f.outs
-channel_out args heads f c e =
-    let w = was_made channels_view mono_heads (plain_by is_sound (λ head. head) args heads) f e in
-    let parts = parts_of is_sound no_manual set_none (record {}) (λ head s. Ok head) args heads w.0 w.1 in
-    let same : parts.head ≡ w.0 = cc (parts.made_is) in
-    let size : length f.outs ≡ channels_in w.0 = ap (λ (hs : List StreamHead). length hs) w.2 ∙ length-replicate (channels_in w.0) (mono_head w.0) in
-    let own : AllByRecursion HasChannel (parts.head ∷ []) = subst (λ (hs : List StreamHead). AllByRecursion HasChannel hs) parts.only c in
-    let some : 1 ≤ channels_in parts.head = sound_channels parts.head parts.kind own.0 in
-    let alike : channels_in parts.head ≡ channels_in w.0 = ap channels_in same in
-    omega (arith, size, some, alike)
+some_at : (apart : Bool) (first : StreamHead) (others : List StreamHead) (given said : ℕ) → Counted apart first others given said → AreFew apart said → HasChannel first
+    → 1 ≤ given
+some_at false first others given said c few heard = (let some = few.0 in omega (arith, c, some))
+some_at true first others given said c few heard = (let some = sound_channels first c.1 heard in let size = c.2 in omega (arith, some, size))
 
 some_out : (name : FilterName) (args : List Arg) (heads : List StreamHead) (f : Filtered) → AllByRecursion HasChannel heads → configured_as name args heads ≡ Ok f
     → 1 ≤ length f.outs
-some_out filter.ChannelSplit args heads f c e = channel_out args heads f c e
-some_out filter.Split args heads f c e = let h = outputs_there filter.Split args heads f e in let k = split_least args in omega (arith, h, k)
-some_out filter.ASplit args heads f c e = let h = outputs_there filter.ASplit args heads f e in let k = split_least args in omega (arith, h, k)
-some_out filter.Null args heads f c e = outputs_there filter.Null args heads f e
-some_out filter.Trim args heads f c e = outputs_there filter.Trim args heads f e
-some_out filter.SetPts args heads f c e = outputs_there filter.SetPts args heads f e
-some_out filter.Crop args heads f c e = outputs_there filter.Crop args heads f e
-some_out filter.Pad args heads f c e = outputs_there filter.Pad args heads f e
-some_out filter.HFlip args heads f c e = outputs_there filter.HFlip args heads f e
-some_out filter.VFlip args heads f c e = outputs_there filter.VFlip args heads f e
-some_out filter.Fps args heads f c e = outputs_there filter.Fps args heads f e
-some_out filter.ANull args heads f c e = outputs_there filter.ANull args heads f e
-some_out filter.ATrim args heads f c e = outputs_there filter.ATrim args heads f e
-some_out filter.ASetPts args heads f c e = outputs_there filter.ASetPts args heads f e
-some_out filter.HStack args heads f c e = outputs_there filter.HStack args heads f e
-some_out filter.VStack args heads f c e = outputs_there filter.VStack args heads f e
-some_out filter.Concat args heads f c e = outputs_there filter.Concat args heads f e
-some_out filter.Join args heads f c e = outputs_there filter.Join args heads f e
+some_out name args heads f c e =
+    let g = gives name args heads f e in
+    some_at (is_apart name) g.first g.others (length f.outs) (outputs_of name args) g.count ((owed name).outputs args)
+    (subst (λ (hs : List StreamHead). AllByRecursion HasChannel hs) g.fed c).0
 
 -- ---- the first and the last in their order
 

@@ -10,9 +10,8 @@ use Rattle.ff_filter.specs.Views.{View}
 use Rattle.ff_node_filter.specs.Limiting.{IsLimited}
 use Rattle.ff_graph_links.specs.declared.pads.drawn.Pad.{Pad}
 use Rattle.ff_graph_links.specs.pads.Links.{Seen}
-use Rattle.ff_filters.proofs.PortLanes.{agrees}
 use Rattle.ff_filters.specs.limited.Cuts.{cuts_in, AreTimed}
-use Rattle.ff_filters.proofs.LimitedLemmas.Limited.{limited}
+use Rattle.ff_filters.proofs.Owed.{gives, limited}
 use Rattle.ff_graph.specs.Opens.{filter_order, open_pads, sources_in}
 use Rattle.ff_graph.specs.Configured.{Made, OpenOut, head_into, heads_into, and_head, place_of, open_outs}
 use Rattle.ff_graph.specs.Meaning.{means_as}
@@ -126,7 +125,7 @@ module _ (ds : List Seen) (heads : List StreamHead) (final : List (List StreamHe
 
   suits : (k : ℕ) (v : View) → IsMade ds (all_given heads) final k v → Suits (sources_in ds) (open_pads ds) (map Frames heads) (lanes_by final) k v
   suits k v m =
-      let a = agrees m.made.name m.own.filter.args m.made.ins m.filter m.made.is in
+      let a = gives m.made.name m.own.filter.args m.made.ins m.filter m.made.is in
       subst (λ (x : View). Suits (sources_in ds) (open_pads ds) (map Frames heads) (lanes_by final) k x) m.view (record {
         takes = λ i. subst (λ (ls : List Lane). Takes (map Frames heads) (open_pads ds) (lanes_by final) (pad_of k i) (lane_at ls i) (source_at (sources_in ds) k i)) (sym a.ins)
             (takes k i v m (source_at (sources_in ds) k i) refl);

@@ -11,7 +11,8 @@ use Rattle.ff_graph_links.specs.declared.pads.drawn.Pad.{Pad}
 use Rattle.ff_graph_links.specs.pads.Links.{Seen}
 use Rattle.ff_filters.specs.declared.name.FilterName.{FilterName}
 use Rattle.ff_filters.specs.Names.{filter_named}
-use Rattle.ff_filters.specs.Configured.{Filtered, configured_as}
+use Rattle.ff_filters.specs.Configured.{Filtered}
+use Rattle.ff_filters.specs.Makes.{configured_as}
 use Rattle.ff_graph.specs.Configured.{Made, Refused, place_of, head_at, head_into, heads_into, and_head, is_misfit, is_surplus, made_as, made_of, with_made, behind}
 use Rattle.ff_graph.specs.Configured.{make_from, none_made}
 use Rattle.ff_graph.specs.Opens.{open_pads, sources_in}
@@ -19,7 +20,8 @@ use Rattle.ff_graph.proofs.Refusals.{AreThere}
 use Rattle.ff_graph_dag.specs.wiring.Flows.{Absent}
 use Rattle.ff_graph.proofs.ComposedLemmas.Elements.{some_same, no_some, same_or_not, set_here, set_there, set_size}
 use Rattle.ff_graph.specs.composed.Pads.{HasChannel}
-use Rattle.ff_graph.proofs.ComposedLemmas.Kept.{IsKept, kept_too}
+use Rattle.ff_filters.proofs.Owing.{IsKept}
+use Rattle.ff_filters.proofs.Owed.{kept_too}
 use Rattle.ff_graph.proofs.ComposedLemmas.Timed.{IsTimed, timed_is_kept, heard_is_kept}
 
 -- ---- one filter

@@ -13,8 +13,8 @@ use Rattle.ff_fsync.specs.declared.stacks.shape.Direction.TheVariants.{Beside, B
 use Rattle.ff_fsync.specs.stacks.Heads.{with_length}
 use Rattle.ff_joins.specs.JoinOptions.{channels_in, with_channels}
 use Rattle.ff_filters.specs.limited.Cuts.{AreTimed}
+use Rattle.ff_filters.proofs.Owing.{IsKept}
 use Rattle.ff_graph.specs.composed.Pads.{HasChannel}
-use Rattle.ff_graph.proofs.ComposedLemmas.Kept.{IsKept}
 
 -- ---- time bases
 
@@ -51,7 +51,7 @@ joined_timed (Audio tb rate bits channels codec) hs t = t
 joined_timed (Video tb format width height sar_num sar_den) hs t = t
 
 pub timed_is_kept : IsKept IsTimed
-timed_is_kept = record { sized_too = sized_timed; paced_too = paced_timed; mono_too = mono_timed; longer_too = longer_timed; joined_too = joined_timed }
+timed_is_kept = record { sized_too = sized_timed; paced_too = paced_timed; mono_too = mono_timed; longer_too = longer_timed; joined_too = λ h hs few t. joined_timed h hs t }
 
 -- ---- channels
 
@@ -77,4 +77,4 @@ joined_heard (Audio tb rate bits channels codec) hs t = (let some : 1 ≤ channe
 joined_heard (Video tb format width height sar_num sar_den) hs t = tt
 
 pub heard_is_kept : IsKept HasChannel
-heard_is_kept = record { sized_too = sized_heard; paced_too = paced_heard; mono_too = mono_heard; longer_too = longer_heard; joined_too = joined_heard }
+heard_is_kept = record { sized_too = sized_heard; paced_too = paced_heard; mono_too = mono_heard; longer_too = longer_heard; joined_too = λ h hs few t. joined_heard h hs t }

@@ -1,4 +1,4 @@
-use Rattle.ff_filters.proofs.Answering.{never_short}
+use Rattle.ff_filters.proofs.Owed.{never_short}
 use Rattle.ff_filters.proofs.laws.the_function_needs_no_memory.Goals as goal
 
 pub returns : goal.returns

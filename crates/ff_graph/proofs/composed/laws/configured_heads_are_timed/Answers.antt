@@ -1,4 +1,4 @@
-use Rattle.ff_graph.proofs.ComposedLemmas.Kept.{kept_too}
+use Rattle.ff_filters.proofs.Owed.{kept_too}
 use Rattle.ff_graph.proofs.ComposedLemmas.Timed.{IsTimed, timed_is_kept, each_timed, are_timed}
 use Rattle.ff_graph.proofs.composed.laws.configured_heads_are_timed.Goals as goal
 

@@ -1,45 +1,31 @@
--- What arguments that aren't refused leave of settings.
-use Rattle.std.proofs.Common.{◌≡◌, ℕ, ◌+◌, ◌==◌, ◌&&◌, nat_lt, not, Bool, true, false, ◌||◌, is_some, cond, Option, Some, None, option_map, Result, Ok, Err, List, [], ◌∷◌, codes, refl, sym, ap, subst, ◌∙◌, arith}
+-- What arguments that aren't refused leave of settings, and what they count.
+use Rattle.std.proofs.Common.{◌≡◌, ℕ, ◌+◌, ◌==◌, ◌&&◌, nat_lt, nat_le, ◌≤◌, not, Bool, true, false, ◌||◌, is_some, cond, Option, Some, None, option_map, Result, Ok, List, [], ◌∷◌, codes, refl, sym, ap, subst, ◌∙◌, arith}
 use Rattle.std.specs.Prelude.{if◌then◌else◌}
 use Rattle.std.specs.Str.{bytes_eq}
 use Rattle.std.proofs.lemmas.Bool.Decides.{nat_tests}
 use Rattle.ff_time.specs.Fraction.{Fraction, IsBase}
-use Rattle.ff_frame.specs.declared.config.ConfigError.{ConfigError}
-use Rattle.ff_frame.specs.declared.head.StreamHead.{StreamHead}
 use Rattle.ff_lang.specs.declared.graph.Arg.{Arg}
-use Rattle.ff_filter.specs.Options.{Manual, option_of, only_head}
+use Rattle.ff_filter.specs.Options.{Manual, number_of, option_of}
 use Rattle.ff_filter.specs.declared.spread.copies.SplitSettings.{SplitSettings}
 use Rattle.ff_filter.specs.spread.Splits.{split_manual}
 use Rattle.ff_vfilter.specs.declared.fps.FpsSettings.{FpsSettings}
 use Rattle.ff_vfilter.specs.FpsOptions.{ratio_of}
+use Rattle.ff_fsync.specs.stacks.Options.{taken_inputs, inputs_of as stack_inputs, gives_inputs, counted}
 use Rattle.ff_joins.specs.Arguments.{ranged, or_else, gives, last_from}
-use Rattle.ff_filters.specs.ReadBy.{and_then, taken_by, given_by, read_by, configured_by}
+use Rattle.ff_filters.specs.ReadBy.{taken_by, given_by, read_by}
 use Rattle.ff_filters.specs.SetBy.{set_fps, set_split}
 use Rattle.ff_filters.specs.Texts.{on_some, base_of, rate_base}
 use Rattle.ff_filters.proofs.LowestTerms.{base_out}
-use Rattle.ff_filters.proofs.Parting.{then_ok}
-use Rattle.ff_filters.proofs.SettingsBy.{from_map}
-use Rattle.ff_plan_rules.proofs.Lists.{some_same, no_some}
+use Rattle.ff_filters.proofs.SettingsBy.{from_map, ranged_out}
 
 pub same_ok : {X E : Type 0} (x y : X) → (let r : Result X E = Ok x in r) ≡ Ok y → x ≡ y
 same_ok x y e = cc
 
-pub no_ok : {X E : Type 0} (e : E) (x : X) → (let r : Result X E = Err e in r) ≡ Ok x → ⊥
-no_ok e x h = cc
+some_same : {A : Type 0} (x y : A) → Some x ≡ Some y → x ≡ y
+some_same x y e = cc
 
--- the settings of a filter of one input
-pub record Settled {S T X : Type 0} (manual : Manual S) (set : T → ℕ → List ℕ → Option T) (t : T) (made : StreamHead → T → Result X ConfigError) (args : List Arg) (x : X) : Type 0 where
-  pub head : StreamHead
-  pub settings : T
-  pub read : read_by manual set false 0 t args ≡ Ok settings
-  pub made_is : made head settings ≡ Ok x
-
-pub settled : {S T X : Type 0} (wanted : StreamHead → Bool) (manual : Manual S) (set : T → ℕ → List ℕ → Option T) (t : T) (made : StreamHead → T → Result X ConfigError)
-    (args : List Arg) (heads : List StreamHead) (x : X) → configured_by wanted manual set t made args heads ≡ Ok x → Settled manual set t made args x
-settled wanted manual set t made args heads x h =
-    let first = then_ok (λ head. and_then (made head) (read_by manual set false 0 t args)) (only_head wanted heads) x h in
-    let second = then_ok (made first.0) (read_by manual set false 0 t args) x first.2 in
-    record { head = first.0; settings = second.0; read = second.1; made_is = second.2 }
+no_some : {A : Type 0} (x : A) → None ≡ Some x → ⊥
+no_some x e = cc
 
 -- what each value keeps, all arguments do
 module _ {S T : Type 0} (manual : Manual S) (set : T → ℕ → List ℕ → Option T) (P : T → Type 0)
@@ -66,15 +52,12 @@ on_there : {A B : Type 0} (f : A → Option B) (o : Option A) (u : B) → on_som
 on_there f None u e = absurd (no_some u e)
 on_there f (Some x) u e = (x, e)
 
-rate_keeps : (t : FpsSettings) (option : ℕ) (value : List ℕ) (u : FpsSettings) → IsBase t.base → set_fps t option value ≡ Some u → IsBase u.base
+pub rate_keeps : (t : FpsSettings) (option : ℕ) (value : List ℕ) (u : FpsSettings) → IsBase t.base → set_fps t option value ≡ Some u → IsBase u.base
 rate_keeps t option value u p e =
     let k = from_map (λ (b : Fraction). let f : FpsSettings = record { base = b } in f) (rate_base value) u e in
     let r = on_there base_of (ratio_of value) k.0 k.1 in
     let is = base_out r.0.0 r.0.1 k.0 r.1 in
     subst (λ (f : FpsSettings). IsBase f.base) k.2 is.1
-
-pub fps_base : {S : Type 0} (manual : Manual S) (t : FpsSettings) (args : List Arg) (s : FpsSettings) → IsBase t.base → read_by manual set_fps false 0 t args ≡ Ok s → IsBase s.base
-fps_base manual t args s p e = read_keeps manual set_fps (λ (f : FpsSettings). IsBase f.base) rate_keeps false 0 t args s p e
 
 -- ---- how many outputs `split` has, is what its arguments say
 
@@ -113,3 +96,50 @@ split_read keyed place t (a ∷ others) s e =
         taken (ranged 1 16 a.value) more f
         ∙ ap (λ (b : Bool). last_from split_manual 0 1 16 2 (keyed || is_some a.key) (place + 1) (cond b (or_else 2 (ranged 1 16 a.value)) t.outputs) others)
         (sym (option_zero keyed place a.key option h))
+
+-- ---- what arguments count lies in its range
+
+or_else_few : (lo hi d : ℕ) (text : List ℕ) (o : Option ℕ) → ranged lo hi text ≡ o → d ≤ hi → or_else d o ≤ hi
+or_else_few lo hi d text None e few = few
+or_else_few lo hi d text (Some n) e few = (ranged_out lo hi n text e).high
+
+either_few : (b : Bool) (m n hi : ℕ) → m ≤ hi → n ≤ hi → cond b m n ≤ hi
+either_few true m n hi f g = f
+either_few false m n hi f g = g
+
+pub last_few : {S : Type 0} (manual : Manual S) (option lo hi d : ℕ) (keyed : Bool) (place n : ℕ) (args : List Arg) → d ≤ hi → n ≤ hi
+    → last_from manual option lo hi d keyed place n args ≤ hi
+last_few manual option lo hi d keyed place n [] f g = g
+last_few manual option lo hi d keyed place n (a ∷ others) f g =
+    last_few manual option lo hi d (keyed || is_some a.key) (place + 1) (cond (gives option (option_of manual keyed place a.key)) (or_else d (ranged lo hi a.value)) n) others f
+    (either_few (gives option (option_of manual keyed place a.key)) (or_else d (ranged lo hi a.value)) n hi (or_else_few lo hi d a.value (ranged lo hi a.value) refl f) g)
+
+checked_few : (n : ℕ) (b : Bool) → (nat_le 2 n && nat_le n 16) ≡ b → cond b n 2 ≤ 16
+checked_few n true e = grind (arith, nat_tests)
+checked_few n false e = omega arith
+
+taken_few : (o : Option ℕ) → taken_inputs o ≤ 16
+taken_few None = omega arith
+taken_few (Some n) = checked_few n (nat_le 2 n && nat_le n 16) refl
+
+pub counted_few : (keyed : Bool) (place n : ℕ) (args : List Arg) → n ≤ 16 → counted keyed place n args ≤ 16
+counted_few keyed place n [] few = few
+counted_few keyed place n (a ∷ others) few =
+    counted_few (keyed || is_some a.key) (place + 1) (cond (gives_inputs keyed place a.key) (stack_inputs a.value) n) others
+    (either_few (gives_inputs keyed place a.key) (stack_inputs a.value) n 16 (taken_few (number_of 5 a.value)) few)
+
+or_least : (lo hi d : ℕ) (text : List ℕ) (o : Option ℕ) → ranged lo hi text ≡ o → lo ≤ d → lo ≤ or_else d o
+or_least lo hi d text None e le = le
+or_least lo hi d text (Some n) e le = (ranged_out lo hi n text e).low
+
+either_least : (b : Bool) (lo m n : ℕ) → lo ≤ m → lo ≤ n → lo ≤ cond b m n
+either_least true lo m n a b = a
+either_least false lo m n a b = b
+
+pub last_least : {S : Type 0} (manual : Manual S) (option lo hi d : ℕ) (keyed : Bool) (place n : ℕ) (args : List Arg) → lo ≤ d → lo ≤ n
+    → lo ≤ last_from manual option lo hi d keyed place n args
+last_least manual option lo hi d keyed place n [] a b = b
+last_least manual option lo hi d keyed place n (x ∷ args) a b =
+    last_least manual option lo hi d (keyed || is_some x.key) (place + 1) (cond (gives option (option_of manual keyed place x.key)) (or_else d (ranged lo hi x.value)) n)
+    args a (either_least (gives option (option_of manual keyed place x.key)) lo (or_else d (ranged lo hi x.value)) n
+    (or_least lo hi d x.value (ranged lo hi x.value) refl a) b)

@@ -1,0 +1,121 @@
+-- The filters that there are: each by one name and one definition (ffmpeg-filters).
+use Rattle.std.specs.Prelude.{ℕ, ◌&&◌, Bool, true, false, not, List, [], ◌∷◌, codes, Result}
+use Rattle.ff_frame.specs.declared.config.ConfigError.{ConfigError}
+use Rattle.ff_frame.specs.declared.head.StreamHead.{StreamHead}
+use Rattle.ff_lang.specs.declared.graph.Arg.{Arg}
+use Rattle.ff_filter.specs.Options.{is_sound, is_video, IsMade, IsRefused}
+use Rattle.ff_filter.specs.Plain.{IsPass, pass_view, IsRebase, rebase_view}
+use Rattle.ff_filter.specs.Views.{View}
+use Rattle.ff_filter.specs.spread.Many.{AreMade}
+use Rattle.ff_filter.specs.spread.Splits.{split_manual, IsSplit, split_view, split_heads}
+use Rattle.ff_vfilter.specs.Trims.{IsTrim, trim_view}
+use Rattle.ff_vfilter.specs.Crops.{IsCrop, crop_view, crop_head}
+use Rattle.ff_vfilter.specs.Pads.{IsPad, pad_view, pad_head}
+use Rattle.ff_vfilter.specs.HFlips.{IsHFlip, hflip_view}
+use Rattle.ff_vfilter.specs.VFlips.{IsVFlip, vflip_view}
+use Rattle.ff_vfilter.specs.FpsOptions.{IsFps, fps_view, fps_head}
+use Rattle.ff_afilter.specs.Trims.{IsATrim, atrim_view}
+use Rattle.ff_afilter.specs.Channels.{IsChannelSplit, channels_view, mono_heads}
+use Rattle.ff_fsync.specs.declared.stacks.shape.Direction.TheVariants.{Beside, Below}
+use Rattle.ff_fsync.specs.stacks.Options.{counted}
+use Rattle.ff_fsync.specs.stacks.Stacks.{IsStack, stack_view, head_of}
+use Rattle.ff_joins.specs.Arguments.{last_number}
+use Rattle.ff_joins.specs.ConcatOptions.{IsConcat, segments_said, video_said, sound_said, concat_view, concat_head}
+use Rattle.ff_joins.specs.JoinOptions.{IsJoin, inputs_said}
+use Rattle.ff_joins.specs.JoinView.{join_view, head_itself}
+use Rattle.ff_filters.specs.declared.name.FilterName.{FilterName}
+use Rattle.ff_filters.specs.declared.name.FilterName.TheVariants as filter
+use Rattle.ff_filters.specs.Configured.{Filtered, filtered, plain_by, pass_by, rebase_by, trim_by, atrim_by, crop_by, pad_by, fps_by, split_by, stack_by, concat_by, join_by}
+
+-- each filter with its name in a filtergraph
+abbrev pub filter_names : List (List ℕ × FilterName)
+filter_names =
+    (codes "null", filter.Null) ∷
+    (codes "trim", filter.Trim) ∷
+    (codes "setpts", filter.SetPts) ∷
+    (codes "crop", filter.Crop) ∷
+    (codes "pad", filter.Pad) ∷
+    (codes "hflip", filter.HFlip) ∷
+    (codes "vflip", filter.VFlip) ∷
+    (codes "fps", filter.Fps) ∷
+    (codes "split", filter.Split) ∷
+    (codes "hstack", filter.HStack) ∷
+    (codes "vstack", filter.VStack) ∷
+    (codes "concat", filter.Concat) ∷
+    (codes "anull", filter.ANull) ∷
+    (codes "atrim", filter.ATrim) ∷
+    (codes "asetpts", filter.ASetPts) ∷
+    (codes "asplit", filter.ASplit) ∷
+    (codes "channelsplit", filter.ChannelSplit) ∷
+    (codes "join", filter.Join) ∷
+    []
+
+-- a filter, by its arguments and the heads of its inputs
+pub record Definition : Type 1 where
+  -- how it is seen before anything was fed, and the heads of its outputs
+  pub Makes : List Arg → List StreamHead → View → List StreamHead → Type 0
+  -- there was no memory, or it refuses the arguments and heads so
+  pub Refuses : List Arg → List StreamHead → ConfigError → Type 0
+  -- the same as a function, which needs no memory
+  pub by : List Arg → List StreamHead → Result Filtered ConfigError
+  -- How many input pads it has. The last argument that says so counts; where it is refused, the number without one.
+  pub inputs : List Arg → ℕ
+  -- how many output pads it has that may be linked without a label
+  pub outputs : List Arg → ℕ
+  -- its output pads are as many as its input has channels, and are linked by labels alone
+  pub is_apart : Bool
+  -- its input pads take sound; else they take pictures
+  pub takes_sound : List Arg → Bool
+
+-- of one output: whoever is configured so, by relation and by function, how it is seen, and the head of the output
+abbrev pub merging : {X : Type 0} → (List Arg → ℕ) → (List Arg → Bool) → (List Arg → List StreamHead → Result X ConfigError → Type 0)
+    → (List Arg → List StreamHead → Result X ConfigError) → (List StreamHead → X → View) → (X → StreamHead) → Definition
+merging inputs takes_sound is by shown head = record {
+  Makes = λ args heads v outs. IsMade (is args heads) (shown heads) head v outs;
+  Refuses = λ args heads e. IsRefused (is args heads) e;
+  by = λ args heads. filtered (shown heads) (λ m. head m ∷ []) (by args heads);
+  inputs = inputs;
+  outputs = λ args. 1;
+  is_apart = false;
+  takes_sound = takes_sound;
+}
+
+-- of one input and one output
+abbrev pub single : {X : Type 0} → Bool → (List Arg → List StreamHead → Result X ConfigError → Type 0) → (List Arg → List StreamHead → Result X ConfigError)
+    → (X → View) → (X → StreamHead) → Definition
+single takes_sound is by shown head = merging (λ args. 1) (λ args. takes_sound) is by (λ heads. shown) head
+
+-- of one input and several outputs, with the heads of the outputs
+abbrev pub sharing : {X : Type 0} → (List Arg → ℕ) → Bool → Bool → (List Arg → List StreamHead → Result X ConfigError → Type 0)
+    → (List Arg → List StreamHead → Result X ConfigError) → (X → View) → (X → List StreamHead) → Definition
+sharing outputs is_apart takes_sound is by shown outs = record {
+  Makes = λ args heads v hs. AreMade (is args heads) shown outs v hs;
+  Refuses = λ args heads e. IsRefused (is args heads) e;
+  by = λ args heads. filtered shown outs (by args heads);
+  inputs = λ args. 1;
+  outputs = outputs;
+  is_apart = is_apart;
+  takes_sound = λ args. takes_sound;
+}
+
+-- the filter of this name
+abbrev pub definition_of : FilterName → Definition
+definition_of filter.Null = single false (IsPass is_video) (pass_by is_video) pass_view (λ m. m.head)
+definition_of filter.Trim = single false IsTrim trim_by trim_view (λ m. m.head)
+definition_of filter.SetPts = single false (IsRebase is_video) (rebase_by is_video) rebase_view (λ m. m.head)
+definition_of filter.Crop = single false IsCrop crop_by crop_view crop_head
+definition_of filter.Pad = single false IsPad pad_by pad_view pad_head
+definition_of filter.HFlip = single false IsHFlip (plain_by is_video (λ head. head)) hflip_view (λ head. head)
+definition_of filter.VFlip = single false IsVFlip (plain_by is_video (λ head. head)) vflip_view (λ head. head)
+definition_of filter.Fps = single false IsFps fps_by fps_view fps_head
+definition_of filter.Split = sharing (last_number split_manual 0 1 16 2) false false (IsSplit is_video) (split_by is_video) split_view split_heads
+definition_of filter.HStack = merging (counted false 0 2) (λ args. false) (IsStack Beside) (stack_by Beside) (λ heads. stack_view) head_of
+definition_of filter.VStack = merging (counted false 0 2) (λ args. false) (IsStack Below) (stack_by Below) (λ heads. stack_view) head_of
+definition_of filter.Concat =
+    merging segments_said (λ args. sound_said args && not (video_said args)) IsConcat concat_by (λ heads. concat_view) concat_head
+definition_of filter.ANull = single true (IsPass is_sound) (pass_by is_sound) pass_view (λ m. m.head)
+definition_of filter.ATrim = single true IsATrim atrim_by atrim_view (λ m. m.head)
+definition_of filter.ASetPts = single true (IsRebase is_sound) (rebase_by is_sound) rebase_view (λ m. m.head)
+definition_of filter.ASplit = sharing (last_number split_manual 0 1 16 2) false true (IsSplit is_sound) (split_by is_sound) split_view split_heads
+definition_of filter.ChannelSplit = sharing (λ args. 0) true true IsChannelSplit (plain_by is_sound (λ head. head)) channels_view mono_heads
+definition_of filter.Join = merging inputs_said (λ args. true) IsJoin join_by join_view head_itself
