@@ -7,7 +7,9 @@ ghost use Rattle.ff_bits.specs.Number.{capacity, fewest, first_byte, shortest};
 /// Some bits, as the lowest of a number.
 #[derive(Clone, Copy)]
 pub struct Code {
+    /// The number whose lowest bits they are.
     pub bits: u64,
+    /// How many bits there are, at most 56.
     pub count: u32,
 }
 

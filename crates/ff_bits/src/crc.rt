@@ -71,7 +71,7 @@ fn many_to_16(bytes: &[u8]) -> u16
     bytes_to_16(carried_to_16(&words), left)
 }
 
-/// Writes the next 64 words behind the thirty that are carried, so that the last thirty stand for all of them.
+/// Writes the next 64 words after the thirty that are carried, so that the last thirty stand for all of them.
 fn bring_in(words: &mut [u64; 94], bytes: &[u8])
     requires { 512 ≤ length bytes.now }
     ensures { carried (drop 64 words.new) ≡ remainder_from 0x18005 16 (carried words.old) (bits (take 512 bytes.now)) }
@@ -81,7 +81,7 @@ fn bring_in(words: &mut [u64; 94], bytes: &[u8])
     }
 }
 
-/// Moves the last thirty words to the front.
+/// Moves the last thirty words to the start.
 fn to_front(words: &mut [u64; 94])
     ensures { take 30 words.new ≡ drop 64 words.old }
 {
@@ -155,7 +155,7 @@ fn byte_to_16(sum: u16, byte: u8) -> u16
     left_by_16(0, (sum >> 8) as u8 ^ byte) ^ (sum & 0xff) << 8
 }
 
-/// What a byte leaves with so many bytes of zeros behind it, below 8.
+/// What a byte leaves with so many bytes of zeros after it, below 8.
 #[inline(always)]
 fn left_by_8(behind: usize, byte: u8) -> u8
     requires { behind < 8 }

@@ -131,7 +131,7 @@ impl<'a> BitReader<'a> {
         Ok(high << 32 | low)
     }
 
-    /// How many zeros stand before the next one, and the value of the `n` bits behind it. None, which leaves the reader,
+    /// How many zeros stand before the next one, and the value of the `n` bits after it. None, which leaves the reader,
     /// only where fewer than 57 bits are left or these are more than 57.
     #[inline(always)]
     pub fn code(&mut self, n: u32) -> Option<(u32, u64)>

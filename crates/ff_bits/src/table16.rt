@@ -1,6 +1,6 @@
-//! What a byte leaves behind when it is divided by x^16 + x^15 + x^2 + 1.
+//! Remainders of a byte divided by x^16 + x^15 + x^2 + 1.
 
-/// Eight tables of 256: at 256 i + b the remainder of the byte b with i bytes of zeros behind it.
+/// Eight tables of 256: at 256 i + b the remainder of the byte b with i bytes of zeros after it.
 pub static TABLE16: [u16; 2048] = [
     0x0000, 0x8005, 0x800f, 0x000a, 0x801b, 0x001e, 0x0014, 0x8011, 0x8033, 0x0036, 0x003c, 0x8039,
     0x0028, 0x802d, 0x8027, 0x0022, 0x8063, 0x0066, 0x006c, 0x8069, 0x0078, 0x807d, 0x8077, 0x0072,

@@ -55,7 +55,7 @@ fn push_word(bytes: &mut Vec<u8>, word: u64)
     }
 }
 
-/// Adds `n` bits behind those that wait, and gives those that wait then, with their count.
+/// Adds `n` bits after those that wait, and gives those that wait then, with their count.
 pub fn add(bytes: &mut Vec<u8>, word: u64, count: u32, value: u64, n: u32) -> (u64, u32)
     requires word { word < 2 ^ count }
     requires value { value < 2 ^ n }

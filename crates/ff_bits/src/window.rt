@@ -14,11 +14,11 @@ use std::marker::Model;
 #[derive(Drop)]
 pub struct BitWindow<'a> {
     bytes: &'a [u8],
-    /// How many bytes the bits end behind that the word holds.
+    /// The offset in `bytes` at which the bits that the word holds end.
     at: usize,
     /// The bits that come next, the first of them the highest, and then zeros.
     word: u64,
-    /// How many bits the word holds, below 64. Behind them some bits of the byte at `at` may stand already.
+    /// How many bits the word holds, below 64. After them some bits of the byte at `at` may stand already.
     held: u32,
 }
 
@@ -71,7 +71,7 @@ impl<'a> BitWindow<'a> {
         self.held += 8 * more;
     }
 
-    /// How many zeros stand before the next one, and the value of the `n` bits behind it. None, which leaves the window,
+    /// How many zeros stand before the next one, and the value of the `n` bits after it. None, which leaves the window,
     /// only where fewer than 120 bits are left or these are more than 56.
     #[inline(always)]
     pub fn code(&mut self, n: u32) -> Option<(u32, u64)>
@@ -102,7 +102,7 @@ impl<'a> BitWindow<'a> {
     }
 
     /// The next four codes where the word holds them whole: of each how many zeros stand before its one, and the value of the
-    /// `n` bits behind that. None leaves the window.
+    /// `n` bits after that. None leaves the window.
     #[inline(always)]
     pub fn four(&mut self, n: u32) -> Option<((u32, u64), (u32, u64), (u32, u64), (u32, u64))>
         requires { n ≤ 57 }
@@ -130,7 +130,7 @@ impl<'a> BitWindow<'a> {
     }
 }
 
-/// The code that a word begins with, the word turned so that it begins with what stands behind the code, and how many bits long
+/// The code that a word begins with, the word turned so that it begins with what stands after the code, and how many bits long
 /// the code is. What the word is turned by comes last in it, where no bits are held.
 #[inline(always)]
 fn turned(word: u64, n: u32) -> ((u32, u64), u64, u32)
@@ -147,7 +147,7 @@ fn turned(word: u64, n: u32) -> ((u32, u64), u64, u32)
     ((zeros, word & ((1u64 << n) - 1)), word, len)
 }
 
-/// The code whose one stands at place `high` of a word that holds all of it, the word behind it, and how many bits that holds.
+/// The code whose one stands at place `high` of a word that holds all of it, the word after it, and how many bits that holds.
 #[inline(always)]
 fn taken(word: u64, held: u32, n: u32, high: u32) -> ((u32, u64), u64, u32)
     requires held { held < 64 }

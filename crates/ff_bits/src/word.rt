@@ -1,4 +1,4 @@
-//! Words of eight bytes.
+//! Machine words of eight bytes.
 
 ghost use Rattle.std.specs.Prelude.{◌≡◌, ◌++◌, ◌≤◌, length, take, replicate, slice_index};
 ghost use Rattle.ff_bits.specs.Bits.{value_of, bits};

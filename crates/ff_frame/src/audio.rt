@@ -1,3 +1,4 @@
+//! Audio frames.
 ghost use Rattle.std.specs.Prelude.{◌≡◌, ◌≤◌, ◌+◌, ◌*◌, ◌+ℤ◌, pos, length, FitsSigned, IfOk};
 ghost use Rattle.std.specs.Int.{w64};
 ghost use Rattle.ff_frame.specs.Audio.{IsAudio, kept_samples};
@@ -5,7 +6,7 @@ ghost use Rattle.ff_frame.specs.Audio.{IsAudio, kept_samples};
 use crate::lists::Samples;
 use std::alloc::{AllocError, Global};
 
-/// Decoded sound: sample frames one after another, each of one signed sample per channel.
+/// A decoded audio frame: sample frames one after another, each of one signed sample per channel.
 #[derive(Debug, Drop)]
 pub struct AFrame {
     /// When it starts, in ticks of its stream's time base.

@@ -1,3 +1,5 @@
+//! The ways in which codecs code samples.
+
 /// In which order the bytes of a sample stand.
 #[derive(Clone, Copy, Debug, PartialEq, Eq)]
 pub enum ByteOrder {
@@ -52,9 +54,11 @@ impl PcmDepth {
 /// How linear PCM writes a sample.
 #[derive(Clone, Copy, Debug, PartialEq, Eq)]
 pub struct PcmForm {
+    /// The bits of a sample.
     pub depth: PcmDepth,
     /// Whether a sample is signed, in two's complement. Else the middle of its range stands for 0.
     pub signed: bool,
+    /// The order of its bytes.
     pub order: ByteOrder,
 }
 
@@ -65,6 +69,6 @@ pub enum Coding {
     Pcm(PcmForm),
     /// The Free Lossless Audio Codec (RFC 9639).
     Flac,
-    /// Pictures as their planes, one after the other.
+    /// Video frames as their planes, one after the other.
     RawVideo,
 }

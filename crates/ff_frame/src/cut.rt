@@ -1,3 +1,4 @@
+//! The answers of reading a head, and of cutting bytes into packets.
 use crate::packet::Pkt;
 
 /// Why the first bytes of an input give no head, or none yet.

@@ -1,3 +1,5 @@
+//! The events of the scheduler, and the tickets that it grants.
+
 /// The leave of a source to give one packet, or its end.
 #[derive(Clone, Copy, Debug, PartialEq, Eq)]
 pub struct Ticket {

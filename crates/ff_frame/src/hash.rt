@@ -1,3 +1,5 @@
+//! The digests of `framehash`.
+
 /// Which digest stands for the bytes of a packet.
 #[derive(Clone, Copy, Debug, PartialEq, Eq)]
 pub enum HashKind {

@@ -1,3 +1,4 @@
+//! Codecs, and the heads of streams.
 ghost use Rattle.std.specs.Prelude.{◌≡◌};
 ghost use Rattle.ff_frame.specs.Codecs.{pcm_coding};
 
@@ -5,7 +6,7 @@ use crate::coding::{ByteOrder, Coding, PcmDepth, PcmForm};
 use crate::video::Format;
 use ff_time::Rational;
 
-/// How the samples or the pictures of a stream are coded.
+/// How the samples or the video frames of a stream are coded.
 #[derive(Clone, Copy, Debug, PartialEq, Eq)]
 pub enum Codec {
     /// Linear PCM of 8 bits: unsigned bytes with the middle 128 (RIFF WAVE).
@@ -18,7 +19,7 @@ pub enum Codec {
     PcmS32le,
     /// The Free Lossless Audio Codec (RFC 9639).
     Flac,
-    /// Pictures as their planes, one after the other.
+    /// Video frames as their planes, one after the other.
     RawVideo,
 }
 
@@ -71,7 +72,7 @@ impl Codec {
 /// What is known of a stream before its first packet.
 #[derive(Clone, Copy, Debug, PartialEq, Eq)]
 pub enum StreamHead {
-    /// Sound: ticks of `tb` seconds, `rate` sample frames a second, signed samples of `bits` bits for each of `channels`.
+    /// Audio: ticks of `tb` seconds, `rate` sample frames a second, signed samples of `bits` bits for each of `channels`.
     Audio {
         tb: Rational,
         rate: u32,
@@ -79,7 +80,7 @@ pub enum StreamHead {
         channels: u8,
         codec: Codec,
     },
-    /// Pictures: ticks of `tb` seconds, `width` columns and `height` rows of `format`. The width of a sample stands to its
+    /// Video: ticks of `tb` seconds, `width` columns and `height` rows of `format`. The width of a sample stands to its
     /// height as `sar_num` to `sar_den`; where one of them is 0 that isn't known.
     Video {
         tb: Rational,

@@ -1,4 +1,4 @@
-// A contract sees such a list by its elements alone, and neither its room nor its place.
+//! Lists of samples and bytes of which a contract sees the elements alone, and neither their room nor their place.
 ghost use Rattle.std.specs.Prelude.{◌≡◌, ◌<◌, ◌≤◌, ◌+◌, IfOk, length, take, drop, slice_set};
 
 use std::alloc::{AllocError, Global};
@@ -33,6 +33,7 @@ impl Samples {
         self.items
     }
 
+    /// The samples in their order.
     pub fn as_slice(&self) -> &[i32]
         ensures { result.now ≡ self.now }
     {
@@ -95,6 +96,7 @@ impl Bytes {
         self.items
     }
 
+    /// The bytes in their order.
     pub fn as_slice(&self) -> &[u8]
         ensures { result.now ≡ self.now }
     {

@@ -1,3 +1,4 @@
+//! Packets.
 ghost use Rattle.std.specs.Prelude.{◌≡◌, IfOk};
 
 use crate::lists::Bytes;
@@ -14,6 +15,7 @@ pub struct Pkt {
     pub duration: i64,
     /// The offset of its first byte in the input that it was read from; 0 where an encoder made it.
     pub pos: u64,
+    /// Its bytes, as the codec of its stream writes them.
     pub bytes: Bytes,
 }
 

@@ -1,4 +1,6 @@
-/// What a coder of sound knows of a stream once it has ended: what the stream's first header leaves open.
+//! The totals of a stream that an encoder knows at its end.
+
+/// What an audio encoder knows of a stream once it has ended: what the stream's first header leaves open.
 #[derive(Clone, Copy, Debug, PartialEq, Eq)]
 pub struct Totals {
     /// The least number of bytes of a coded frame; 0 without frames.

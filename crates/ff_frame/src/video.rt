@@ -1,10 +1,11 @@
+//! Video frames and their pixel formats.
 ghost use Rattle.std.specs.Prelude.{◌≡◌, ◌≤◌, IfOk};
 ghost use Rattle.ff_frame.specs.Video.{chroma_width as width_of_chroma, chroma_height as height_of_chroma, frame_size as size_of_frame, IsVideo};
 
 use crate::lists::Bytes;
 use std::alloc::{AllocError, Global};
 
-/// Which samples a picture has, each of one byte (yuv4mpeg(5), the tag `C`).
+/// Which samples a video frame has, each of one byte (yuv4mpeg(5), the tag `C`).
 #[derive(Clone, Copy, Debug, PartialEq, Eq)]
 pub enum Format {
     /// 4:2:0: Cb and Cr have half of the columns and half of the rows, rounded up.
@@ -55,19 +56,20 @@ impl Format {
     }
 }
 
-/// A decoded picture.
+/// A decoded video frame.
 #[derive(Debug, Drop)]
 pub struct VFrame {
     /// When it is shown, in ticks of its stream's time base.
     pub pts: i64,
     /// How long it is shown, in the same ticks.
     pub duration: i64,
+    /// Its pixel format.
     pub format: Format,
     /// Columns, 1 to 16,384.
     pub width: u32,
     /// Rows, 1 to 16,384.
     pub height: u32,
-    /// The planes Y, Cb and Cr one after the other, each row by row without padding; of a picture without colour Y alone.
+    /// The planes Y, Cb and Cr one after the other, each row by row without padding; of a gray frame Y alone.
     pub planes: Bytes,
 }
 

@@ -1,3 +1,4 @@
+//! A source whose first bytes were read already.
 ghost use Rattle.std.specs.Prelude.{◌≡◌, ◌≤◌, ◌+◌, ◌&&◌, ℕ, List, length, true, vec_capacity};
 ghost use Rattle.std.specs.Io.KnownBytes.{prepend_known};
 ghost use Rattle.ff_host.specs.Begun.{still_in};

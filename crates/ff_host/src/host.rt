@@ -1,3 +1,4 @@
+//! The trait of a host, which opens sources and creates sinks by name.
 ghost use Rattle.std.specs.Prelude.{◌≡◌, ◌-◌, List, [], ℕ, false, Option, Some, IfOk, OnOk, OnErr, IsErrOf};
 ghost use Rattle.ff_host.specs.Causes.{HasCause, HasCauseOf, added, SameElsewhere, SameCounts};
 ghost use Rattle.ff_host.specs.Files.{Files, KeepsFiles, PutsFile, GivesFile, HoldsNothing};

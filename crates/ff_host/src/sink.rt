@@ -1,3 +1,4 @@
+//! The trait of a sink, where bytes are written.
 ghost use Rattle.std.specs.Prelude.{◌≡◌, ◌+◌, ◌≤◌, List, ℕ, Bool, length, Option, OnOk, OnErr, IsErr, IsErrOf, IsTrue};
 ghost use Rattle.std.specs.Io.KnownBytes.{Appends, Keeps};
 ghost use Rattle.ff_host.specs.Causes.{HasCause, HasCauseOf};

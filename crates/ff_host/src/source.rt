@@ -1,3 +1,4 @@
+//! The trait of a source, from which bytes are read.
 ghost use Rattle.std.specs.Prelude.{◌≡◌, ◌<◌, List, ℕ, Bool, length, Option, OnOk, OnErr, IsErr, IsTrue};
 ghost use Rattle.std.specs.Io.{ReadsAtMost};
 ghost use Rattle.std.specs.Io.KnownBytes.{ReadConsumes};
@@ -23,7 +24,7 @@ pub trait Source {
     /// The name on which a host opened it, if one did.
     ghost name: { Self → Option (List ℕ) };
 
-    /// Reads into the front of the buffer, and answers how many bytes: 0 only at the end.
+    /// Reads into a prefix of the buffer, and answers how many bytes: 0 only at the end.
     ///
     /// After `Failed` nothing was read, and what the buffer holds is open. A read that succeeds is no fault.
     fn read(&mut self, buf: &mut [u8]) -> Result<usize, Failed>

@@ -1,4 +1,4 @@
-// The machine's files as a host.
+//! The machine's files as a host.
 ghost use Rattle.std.specs.Prelude.{◌≡◌, ◌+◌, ◌<◌, ◌≤◌, ℕ, List, Some, None, IsTrue, string_bytes};
 ghost use Rattle.ff_host.specs.Tally.{marks_at};
 
@@ -44,6 +44,7 @@ struct Opened<F> {
 }
 
 impl<R: Files + Drop> FileHost<R> {
+    /// A host over the machine's files, with nothing open and no faults.
     pub fn new(alloc: Global, files: R) -> Self {
         FileHost {
             files,

@@ -1,4 +1,4 @@
-// Which file is meant, whatever its name.
+//! The identity of a plain file, whatever its name.
 use std::alloc::AllocError;
 use std::fs::Metadata;
 use std::os::unix::fs::MetadataExt;

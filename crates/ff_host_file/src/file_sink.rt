@@ -1,4 +1,4 @@
-// A file that is written.
+//! A file that is written.
 ghost use Rattle.std.specs.Prelude.{◌≡◌, ◌+◌, ◌≤◌, ℕ, List, None, Some, false, string_bytes};
 
 use crate::file_id::FileId;

@@ -1,4 +1,4 @@
-// A file that is read.
+//! A file that is read.
 ghost use Rattle.std.specs.Prelude.{◌≡◌, ◌+◌, ◌<◌, ◌≤◌, ℕ, List, None, Some, false, IfSome, length, string_bytes};
 
 use crate::file_id::FileId;

@@ -1,4 +1,4 @@
-// Standard output as the log.
+//! Standard output as the log.
 ghost use Rattle.std.specs.Prelude.{◌≡◌, ◌+◌, ℕ, None};
 
 use ff_host::{Failed, Sink, SinkError};
@@ -14,6 +14,7 @@ pub struct LogSink<W> {
 }
 
 impl<W: Write + Drop> LogSink<W> {
+    /// A log over this writer, to which nothing was written.
     pub fn new(writer: W) -> Self {
         LogSink {
             writer,

@@ -1,4 +1,4 @@
-// How far the reading of the inputs is, in one line on standard error.
+//! The progress of reading the inputs, in one line on standard error.
 use std::alloc::{AllocError, Global};
 use std::io::Eprint;
 use std::sync::Arc;
@@ -51,7 +51,7 @@ pub struct Progress<R: Drop> {
     counts: Arc<Counts, Global>,
 }
 
-// Tenths of a million, as a text.
+// Tenths of a million, as a string.
 fn millions(alloc: Global, bytes: u64) -> Result<String, AllocError> {
     let whole = bytes / 1_000_000;
     let tenth = bytes / 100_000 % 10;

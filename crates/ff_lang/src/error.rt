@@ -1,12 +1,13 @@
+//! The reasons why a string isn't read as a filtergraph.
 ghost use Rattle.std.specs.Prelude.{◌≡◌};
 ghost use Rattle.ff_lang.specs.declared.error.LangError.TheVariants.{NoMemory};
 
 use std::alloc::AllocError;
 
-/// Why a text is not read.
+/// Why a string is not read.
 #[derive(Clone, Copy, Debug, PartialEq, Eq)]
 pub enum LangError {
-    /// The text is no filtergraph; `at` is the first place, in bytes, at which none goes on.
+    /// The string is no filtergraph; `at` is the first place, in bytes, at which none goes on.
     Bad { at: usize },
     /// There was no memory for the graph.
     NoMemory,

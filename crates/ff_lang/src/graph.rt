@@ -1,3 +1,4 @@
+//! Filtergraphs as values: chains of filters, each with its labels and arguments.
 ghost use Rattle.std.specs.Prelude.{◌≡◌};
 ghost use Rattle.ff_lang.specs.Reading.{empty_arg, empty_filter, empty_chain};
 
@@ -7,6 +8,7 @@ use std::alloc::Global;
 /// An argument of a filter: `key=value`, or a value alone.
 #[derive(Debug, Drop)]
 pub struct Arg {
+    /// The key; `None` where the value stands alone.
     pub key: Option<Text>,
     /// The value as it is meant, without quotes and escapes.
     pub value: Text,
@@ -26,9 +28,13 @@ impl Arg {
 /// A filter with the labels of its first input pads, its arguments and the labels of its first output pads.
 #[derive(Debug, Drop)]
 pub struct Filter {
+    /// The labels of its first input pads.
     pub ins: Sequence<Text>,
+    /// Its name.
     pub name: Text,
+    /// Its arguments in the order of writing.
     pub args: Sequence<Arg>,
+    /// The labels of its first output pads.
     pub outs: Sequence<Text>,
 }
 
@@ -48,6 +54,7 @@ impl Filter {
 /// Filters one after another.
 #[derive(Debug, Drop)]
 pub struct Chain {
+    /// Its filters, each of which feeds the next.
     pub filters: Sequence<Filter>,
 }
 
@@ -64,5 +71,6 @@ impl Chain {
 /// A filtergraph: its chains in the order of writing.
 #[derive(Debug, Drop)]
 pub struct Graph {
+    /// Its chains in the order of writing.
     pub chains: Sequence<Chain>,
 }

@@ -3,7 +3,7 @@ ghost use Rattle.std.specs.Prelude.{◌≡◌, ℕ, List};
 ghost use Rattle.ff_lang.specs.Grammar.{IsGraph, IsBadAt};
 ghost use Rattle.ff_lang.specs.declared.graph.Graph.{Graph};
 
-/// A text is at most one filtergraph, and is refused at most at one place.
+/// A string is at most one filtergraph, and is refused at most at one place.
 pub fn graphs_have_one_meaning()
     ensures graph { (text : List ℕ) (graph other : Graph) → IsGraph text graph → IsGraph text other
         → graph ≡ other }

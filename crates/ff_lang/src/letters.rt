@@ -1,4 +1,4 @@
-// What a character is in the text of a filtergraph.
+//! The classes of characters in the string of a filtergraph.
 ghost use Rattle.std.specs.Prelude.{◌≡◌};
 ghost use Rattle.ff_lang.specs.Letters.{is_word_byte, is_label_byte, is_blank as is_blank_byte, is_special as is_special_byte, is_escaped as is_escaped_byte};
 

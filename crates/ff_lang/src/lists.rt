@@ -1,10 +1,10 @@
-// A contract sees such a list by its elements alone, and neither its room nor its place.
+//! Strings and sequences of which a contract sees the elements alone, and neither their room nor their place.
 ghost use Rattle.std.specs.Prelude.{◌≡◌, ◌++◌, ◌∷◌, [], OnOk, OnErr, string_bytes, encode_utf8, length};
 
 use std::alloc::{AllocError, Global};
 use std::marker::Model;
 
-/// A text; a contract sees its bytes in UTF-8.
+/// A string; a contract sees its bytes in UTF-8.
 #[derive(Debug, Drop)]
 pub struct Text {
     string: String,
@@ -19,7 +19,7 @@ impl Model for Text {
 }
 
 impl Text {
-    /// The empty text.
+    /// The empty string.
     pub fn new(alloc: Global) -> Self
         ensures { result ≡ [] }
     {
@@ -28,14 +28,14 @@ impl Text {
         }
     }
 
-    /// The text of a `String`, which it takes over.
+    /// A `String`, which it takes over.
     pub fn of(string: String) -> Self
         ensures { result ≡ string_bytes string }
     {
         Text { string }
     }
 
-    /// The text itself.
+    /// The string itself.
     pub fn as_str(&self) -> &str
         ensures { result.now ≡ self.now }
     {

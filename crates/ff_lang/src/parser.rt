@@ -1,4 +1,4 @@
-// How far a text was read.
+//! The parser of filtergraphs, one character at a time.
 ghost use Rattle.std.specs.Prelude.{◌≡◌, IfOk, OnOk, encode_utf8};
 ghost use Rattle.ff_lang.specs.Reading.{Goes, start, ended, bracket, next_filter, next_chain, tail_next, front_next, in_label_next, name_next, named_next, special_next, value_next, key_next, quoted_next, out_label_next, back_next, char_next, end_of, pushed};
 
@@ -17,7 +17,7 @@ pub(super) enum Place {
     InLabel,
     /// In the name.
     Name,
-    /// Behind blanks that follow the name.
+    /// After blanks that follow the name.
     Named,
     /// In what may be a key.
     Key,
@@ -25,11 +25,11 @@ pub(super) enum Place {
     Value,
     /// In quotes in a value.
     Quoted,
-    /// Behind `\` in a value.
+    /// After `\` in a value.
     Escaped,
-    /// In a label behind the name.
+    /// In a label after the name.
     OutLabel,
-    /// Behind such a label.
+    /// After such a label.
     Back,
 }
 
@@ -97,7 +97,7 @@ impl Parser {
         self.arg.value.push(c)
     }
 
-    // A label behind the filter, or its end.
+    // A label after the filter, or its end.
     fn tail(&mut self, alloc: Global, c: char) -> Result<bool, AllocError>
         ensures { IfOk result (λ on. Goes (tail_next self.old c) on self.new) }
     {
@@ -281,7 +281,7 @@ impl Parser {
         }
     }
 
-    /// The graph, where the text may end here.
+    /// The graph, where the string may end here.
     pub(super) fn end(&mut self, alloc: Global) -> Result<Option<Graph>, AllocError>
         ensures { IfOk result (λ graph. graph ≡ end_of self.old) }
     {

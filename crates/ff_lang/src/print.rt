@@ -1,3 +1,4 @@
+//! The printer of filtergraphs.
 ghost use Rattle.std.specs.Prelude.{◌≡◌, ◌++◌, ◌<◌, ℕ, List, OnOk, IfOk, string_bytes, encode_utf8};
 ghost use Rattle.ff_lang.specs.Grammar.{IsGraph};
 ghost use Rattle.ff_lang.specs.Printing.{escaped_value, printed_arg, series, printed_args, printed_labels, printed_filter, printed_chain, printed, IsSound};
@@ -11,6 +12,7 @@ use std::alloc::{AllocError, Global};
 trait Print {
     ghost text_of: { Self → List ℕ };
 
+    /// Adds the part at the end of a string.
     fn print(&self, out: &mut String) -> Result<(), AllocError>
         ensures { OnOk result (string_bytes out.new ≡ string_bytes out.old ++ text_of self.now) };
 }
@@ -30,7 +32,7 @@ fn push_series<T: Print>(out: &mut String, items: &[T], separator: char) -> Resu
     Ok(())
 }
 
-// A character of a value, behind `\` where it would mean something else.
+// A character of a value, after `\` where it would mean something else.
 fn push_char(out: &mut String, c: char) -> Result<(), AllocError>
     ensures { OnOk result (string_bytes out.new ≡ string_bytes out.old ++ escaped_value (encode_utf8 c)) }
 {
@@ -102,7 +104,7 @@ impl Print for Chain {
     }
 }
 
-/// The text of a graph: no blanks, and in values `\` before each character that would mean something else. Where
+/// A graph as a string: no blanks, and in values `\` before each character that would mean something else. Where
 /// `graph_ok` holds, it stands for the graph (ffmpeg-filters, "Filtergraph syntax").
 pub fn print_graph(alloc: Global, graph: &Graph) -> Result<String, AllocError>
     ensures spelled { IfOk result (λ text. string_bytes text ≡ printed graph.now) }

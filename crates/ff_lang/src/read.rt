@@ -1,3 +1,4 @@
+//! The reader of a whole string as a filtergraph.
 ghost use Rattle.std.specs.Prelude.{◌≡◌, ◌⊎◌, ℕ, IfOk, IsErrOf};
 ghost use Rattle.ff_lang.specs.Grammar.{IsGraph, IsBadAt};
 ghost use Rattle.ff_lang.specs.Printing.{IsSound};
@@ -9,7 +10,7 @@ use crate::graph::Graph;
 use crate::parser::Parser;
 use std::alloc::Global;
 
-/// The graph that a text stands for. `Bad` where it is none, with the first byte after which no filtergraph goes
+/// The graph that a string stands for. `Bad` where it is none, with the first byte after which no filtergraph goes
 /// on, or the length where it ends too early (ffmpeg-filters, "Filtergraph syntax").
 pub fn read_graph(alloc: Global, text: &str) -> Result<Graph, LangError>
     ensures ok { (graph : Graph) → result ≡ Ok graph → IsGraph text.now graph }
@@ -24,7 +25,7 @@ pub fn read_graph(alloc: Global, text: &str) -> Result<Graph, LangError>
     parsed(&mut parser, alloc, text)
 }
 
-// The graph of a whole text, by a parser that has read nothing.
+// The graph of a whole string, by a parser that has read nothing.
 fn parsed(parser: &mut Parser, alloc: Global, text: &str) -> Result<Graph, LangError>
     requires { parser.old ≡ start }
     ensures ok { (graph : Graph) → result ≡ Ok graph → IsGraph text.now graph }

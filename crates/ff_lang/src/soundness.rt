@@ -1,4 +1,4 @@
-// Which graphs have a text.
+//! The check whether a filtergraph has a string.
 ghost use Rattle.std.specs.Prelude.{◌↔◌, ◌<◌, ◌≤◌, IsTrue, length};
 ghost use Rattle.std.specs.List.{AllByRecursion};
 ghost use Rattle.ff_lang.specs.Grammar.{IsWord, IsLabel};
@@ -74,7 +74,7 @@ fn chain_ok(chain: &Chain) -> bool
     !filters.is_empty() && filters.iter().all(filter_ok)
 }
 
-/// Whether a graph has a text: there is a chain, none is empty, and each name, key and label is one of the language
+/// Whether a graph has a string: there is a chain, none is empty, and each name, key and label is one of the language
 /// (ffmpeg-filters, "Filtergraph syntax").
 pub fn graph_ok(graph: &Graph) -> bool
     ensures { IsTrue result ↔ IsSound graph.now }

@@ -1,3 +1,4 @@
+//! Prefixes and suffixes of byte slices.
 ghost use Rattle.std.specs.Prelude.{◌≡◌, ◌≤◌, length, take, drop};
 
 /// The first bytes, as many as there are up to `most`.

@@ -1,3 +1,4 @@
+//! The choice of streams where no `-map` is given.
 ghost use Rattle.std.specs.Prelude.{◌≡◌, ◌^◌, ◌<◌, ◌++◌, ◌∷◌, [], IfOk, OnOk, List, vec_len, length, option_to_list};
 ghost use Rattle.std.specs.List.{AllByRecursion};
 ghost use Rattle.ff_map.specs.Choice.{lists, places, streams_of, all_streams, AreBest, IsChoice, IsLargest};
@@ -55,7 +56,7 @@ fn largest(kind: Kind, heads: &[Vec<StreamHead>]) -> Option<Stream>
     best
 }
 
-// The largest of some streams and those of an input behind them.
+// The largest of some streams and those of an input after them.
 fn largest_with(
     kind: Kind,
     first: Option<Stream>,
@@ -76,7 +77,7 @@ fn largest_with(
     best
 }
 
-// The largest of some streams and one behind them.
+// The largest of some streams and one after them.
 fn larger(kind: Kind, best: Option<Stream>, stream: Stream) -> Option<Stream>
     ensures { (ss : List Stream) → IsLargest kind ss best → IsLargest kind (ss ++ stream ∷ []) result }
 {

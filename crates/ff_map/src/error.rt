@@ -1,12 +1,13 @@
+//! The reasons why a string isn't read as a map.
 ghost use Rattle.std.specs.Prelude.{◌≡◌};
 ghost use Rattle.ff_map.specs.declared.error.MapError.TheVariants.{NoMemory};
 
 use std::alloc::AllocError;
 
-/// Why a text is not read.
+/// Why a string is not read.
 #[derive(Clone, Copy, Debug, PartialEq, Eq)]
 pub enum MapError {
-    /// The text is no map; `at` is the first place, in bytes, at which none goes on.
+    /// The string is no map; `at` is the first place, in bytes, at which none goes on.
     Bad { at: usize },
     /// There was no memory for the label.
     NoMemory,

@@ -1,3 +1,4 @@
+//! The classes of bytes in a map.
 ghost use Rattle.std.specs.Prelude.{◌≡◌};
 ghost use Rattle.ff_map.specs.Reading.{letter_of, IsDecimal};
 

@@ -1,3 +1,4 @@
+//! The reader of a whole string as a map.
 ghost use Rattle.std.specs.Prelude.{◌≡◌, ◌⊎◌, ℕ, IsErrOf};
 ghost use Rattle.ff_map.specs.Grammar.{IsMap, IsBadAt};
 ghost use Rattle.ff_map.specs.declared.map.MapSpec.{MapSpec};
@@ -7,7 +8,7 @@ use crate::map::MapSpec;
 use crate::reading::Reading;
 use std::alloc::Global;
 
-/// The map that a text stands for. `Bad` where it is none, with the first byte after which none goes on, or the length where
+/// The map that a string stands for. `Bad` where it is none, with the first byte after which none goes on, or the length where
 /// it ends too early.
 pub fn read_map(alloc: Global, text: &str) -> Result<MapSpec, MapError>
     ensures ok { (map : MapSpec) → result ≡ Ok map → IsMap text.now map }

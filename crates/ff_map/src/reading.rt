@@ -1,4 +1,4 @@
-// How far a map was read.
+//! The state machine that reads a map, one byte at a time.
 ghost use Rattle.std.specs.Prelude.{◌≡◌, ◌+◌, ◌*◌, ◌^◌, ◌<◌, IfOk};
 ghost use Rattle.std.specs.Option.{ForSome};
 ghost use Rattle.ff_lang.specs.Letters.{is_label_byte};
@@ -24,7 +24,7 @@ pub(super) enum Reading {
         digits: u8,
         file: u32,
     },
-    /// The colon behind it.
+    /// The colon after it.
     Separator {
         file: u32,
     },
@@ -39,7 +39,7 @@ pub(super) enum Reading {
         file: u32,
         kind: Kind,
     },
-    /// The colon behind it.
+    /// The colon after it.
     Second {
         file: u32,
         kind: Kind,
@@ -60,7 +60,7 @@ pub(super) enum Reading {
     Label {
         label: Text,
     },
-    /// The bracket behind it.
+    /// The bracket after it.
     Closed {
         label: Text,
     },
@@ -252,7 +252,7 @@ impl Reading {
         }
     }
 
-    /// The map, where the text may end here.
+    /// The map, where the string may end here.
     pub(super) fn end(self) -> Option<MapSpec>
         ensures { result ≡ map_at_end self }
     {

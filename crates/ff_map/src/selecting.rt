@@ -1,3 +1,4 @@
+//! The streams that a map names.
 ghost use Rattle.std.specs.Prelude.{◌≡◌, ◌^◌, ◌<◌, IfOk, vec_len, length, map, take, drop};
 ghost use Rattle.std.specs.List.{AllByRecursion};
 ghost use Rattle.ff_map.specs.Choice.{lists, selected, picked as named_by, places, streams_of, of_kind as those_of_kind};

@@ -1,3 +1,4 @@
+//! References to the streams of inputs.
 ghost use Rattle.std.specs.Prelude.{◌≡◌};
 ghost use Rattle.ff_map.specs.Choice.{has_kind as is_of_kind, size as size_of};
 
@@ -7,14 +8,18 @@ use ff_frame::StreamHead;
 /// A stream by its input and its number there.
 #[derive(Clone, Copy, Debug, PartialEq, Eq)]
 pub struct StreamRef {
+    /// The number of the input, from 0.
     pub input: u32,
+    /// The number of the stream in that input, from 0.
     pub stream: u32,
 }
 
 /// A stream: where it is, and its head.
 #[derive(Clone, Copy, Debug, PartialEq, Eq)]
 pub struct Stream {
+    /// Where it is.
     pub at: StreamRef,
+    /// Its head.
     pub head: StreamHead,
 }
 
@@ -27,7 +32,7 @@ pub(crate) fn has_kind(kind: Kind, head: StreamHead) -> bool
     }
 }
 
-// How large a stream is: the samples of a picture, the channels of sound.
+// How large a stream is: the samples of a video frame, the channels of audio.
 pub(crate) fn size(head: StreamHead) -> u64
     ensures { result ≡ size_of head }
 {

@@ -1,6 +1,7 @@
+//! The planes of a video frame.
 use ff_frame::Format;
 
-/// Which plane of a picture.
+/// Which plane of a video frame.
 #[derive(Clone, Copy, Debug, PartialEq, Eq)]
 pub enum Component {
     /// Y, how light it is.
@@ -38,7 +39,7 @@ impl Component {
         }
     }
 
-    /// This plane of a picture.
+    /// This plane of a frame.
     pub fn plane(self, format: Format, width: u32, height: u32, planes: &[u8]) -> &[u8]
         requires { IsVideo format width height planes.now }
         ensures bytes { result.now ≡ plane_of format width height planes.now self }

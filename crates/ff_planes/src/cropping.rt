@@ -1,3 +1,4 @@
+//! Crops of video frames.
 ghost use Rattle.std.specs.Prelude.{◌≡◌, ◌+◌, ◌*◌, ◌≤◌, ◌++◌, length, OnOk, IfOk};
 ghost use Rattle.ff_frame.specs.Video.{IsVideo};
 ghost use Rattle.ff_planes.specs.Parts.{IsPart, cropped, part_of};
@@ -26,7 +27,7 @@ fn push_part(
     Ok(())
 }
 
-/// The part of a picture that a rectangle shows; of a picture with colour, with the pixels of Cb and Cr that stand for it.
+/// The part of a frame that a rectangle shows; of a frame with colour, with the pixels of Cb and Cr that stand for it.
 pub fn crop(
     alloc: Global,
     format: Format,

@@ -1,3 +1,4 @@
+//! Video frames mirrored in place.
 ghost use Rattle.std.specs.Prelude.{◌≡◌, ◌≢◌, ℕ, ◌+◌, ◌-◌, ◌*◌, ◌<◌, ◌≤◌, ◌++◌, length, take, drop};
 ghost use Rattle.ff_frame.specs.Video.{IsVideo};
 ghost use Rattle.ff_planes.specs.Grid.{line};
@@ -40,7 +41,7 @@ fn turn_over(columns: usize, rows: usize, bytes: &mut [u8])
     }
 }
 
-/// Mirrors a picture in its own memory: left and right change places.
+/// Mirrors a video frame in its own memory: left and right change places.
 pub fn hflip(format: Format, width: u32, height: u32, planes: &mut [u8])
     requires { IsVideo format width height planes.old }
     ensures { planes.new ≡ hflipped format width height planes.old }
@@ -54,7 +55,7 @@ pub fn hflip(format: Format, width: u32, height: u32, planes: &mut [u8])
     mirror_rows(columns, rows, red);
 }
 
-/// Mirrors a picture in its own memory: top and bottom change places.
+/// Mirrors a video frame in its own memory: top and bottom change places.
 pub fn vflip(format: Format, width: u32, height: u32, planes: &mut [u8])
     requires { IsVideo format width height planes.old }
     ensures { planes.new ≡ vflipped format width height planes.old }

@@ -1,7 +1,7 @@
-//! Whole pictures: mirrored, cut, put on black, and set side by side or one below the other.
+//! Whole video frames: mirrored, cut, put on black, and set side by side or one below the other.
 //!
 //! ```text
-//!   width columns          a pixel of the result is a pixel of the picture:
+//!   width columns          a pixel of the result is a pixel of the frame:
 //!  ┌───────────────┐       hflip   the same row, column w - 1 - column
 //!  │ Y             │ rows  vflip   row h - 1 - row, the same column
 //!  ├───────┬───────┘       crop    row + y, column + x
@@ -11,9 +11,9 @@
 //!  └───────┘
 //! ```
 //!
-//! A picture is the bytes of its planes Y, Cb and Cr one after the other (yuv4mpeg(5), "Frame Format"). `specs/Grid` says
-//! where a pixel lies, and what a picture is whose pixels a function gives; `Flips`, `Parts` and `Stacks` say by such a
-//! function what each of the calls makes. The calls work by whole rows, and where they can in the picture's own memory.
+//! A frame is the bytes of its planes Y, Cb and Cr one after the other (yuv4mpeg(5), "Frame Format"). `specs/Grid` says
+//! where a pixel lies, and what a frame is whose pixels a function gives; `Flips`, `Parts` and `Stacks` say by such a
+//! function what each of the calls makes. The calls work by whole rows, and where they can in the frame's own memory.
 #![tactic(auto)]
 
 mod component;

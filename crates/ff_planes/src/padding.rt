@@ -1,3 +1,4 @@
+//! Video frames put on black.
 ghost use Rattle.std.specs.Prelude.{◌≡◌, ◌+◌, ◌*◌, ◌^◌, ◌≤◌, ◌++◌, length, replicate, OnOk, IfOk};
 ghost use Rattle.ff_frame.specs.Video.{IsSide, IsVideo};
 ghost use Rattle.ff_planes.specs.Grid.{lines};
@@ -68,7 +69,7 @@ fn push_on_black(
     Ok(())
 }
 
-/// The picture of so many columns and rows that shows a picture in a rectangle of its size, and is black elsewhere.
+/// The frame of so many columns and rows that shows a frame in a rectangle of its size, and is black elsewhere.
 pub fn pad(
     alloc: Global,
     format: Format,

@@ -1,6 +1,7 @@
+//! Rectangles of a video frame.
 use ff_frame::Format;
 
-/// A rectangle of a picture, in pixels of Y.
+/// A rectangle of a video frame, in pixels of Y.
 #[derive(Clone, Copy, Debug, PartialEq, Eq)]
 pub struct Rectangle {
     /// The columns left of it.

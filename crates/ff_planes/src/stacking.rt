@@ -1,3 +1,4 @@
+//! Video frames side by side, or one below the other.
 ghost use Rattle.std.specs.Prelude.{◌≡◌, ◌<◌, ◌≤◌, ◌++◌, All, OnOk, IfOk};
 ghost use Rattle.std.specs.List.{flat_map};
 ghost use Rattle.ff_frame.specs.Video.{IsSide};
@@ -8,7 +9,7 @@ use crate::component::Component;
 use ff_frame::{Format, VFrame};
 use std::alloc::{AllocError, Global};
 
-// Adds a row of pictures side by side.
+// Adds a row of frames side by side.
 fn push_row(
     out: &mut Vec<u8>,
     format: Format,
@@ -30,7 +31,7 @@ fn push_row(
     Ok(())
 }
 
-// Adds a plane of pictures side by side.
+// Adds a plane of frames side by side.
 fn push_beside(
     out: &mut Vec<u8>,
     format: Format,
@@ -49,7 +50,7 @@ fn push_beside(
     Ok(())
 }
 
-// Adds a plane of pictures one below the other.
+// Adds a plane of frames one below the other.
 fn push_below(
     out: &mut Vec<u8>,
     format: Format,
@@ -71,7 +72,7 @@ fn push_below(
     Ok(())
 }
 
-/// Pictures of one format and one height, side by side in their order. They have so many columns in all; each but the last
+/// Frames of one format and one height, side by side in their order. They have so many columns in all; each but the last
 /// has a whole number of pixels of Cb and of Cr.
 pub fn hstack(
     alloc: Global,
@@ -93,7 +94,7 @@ pub fn hstack(
     Ok(out)
 }
 
-/// Pictures of one format and one width, one below the other in their order. They have so many rows in all; each but the
+/// Frames of one format and one width, one below the other in their order. They have so many rows in all; each but the
 /// last has a whole number of pixels of Cb and of Cr.
 pub fn vstack(
     alloc: Global,

@@ -1,3 +1,4 @@
+//! The trait of what cuts the bytes of an input into packets.
 ghost use Rattle.std.specs.Prelude.{◌≡◌, ◌+◌, ◌≤◌, ◌<◌, ◌^◌, ℕ, [], ◌++◌, Some, None, false, true, length, OnOk, OnErr, IsOk};
 ghost use Rattle.ff_frame.specs.declared.packet.Pkt.{Pkt};
 ghost use Rattle.ff_reader.specs.Cutters.{Cutter, Feeds, KeepsCut, GivesPacket, GaveAll, SameElsewhere};
@@ -70,7 +71,7 @@ pub trait PacketCut {
         requires { is.place self.old ≤ 2 ^ 50 }
         // It is the next packet of the input, whatever follows.
         ensures gives { (p : Pkt) → result ≡ Ok (Cut.Pkt p) → GivesPacket is self.old self.new p }
-        // All were given, whatever follows, and the input ended behind the last.
+        // All were given, whatever follows, and the input ended after the last.
         ensures ends { result ≡ Ok Cut.End → GaveAll is self.old None }
         // All were given, whatever follows, and none begins where the last ended, or one that isn't whole.
         ensures breaks { (offset : ℕ) → result ≡ Ok (Cut.Broken offset) → GaveAll is self.old (Some offset) }

@@ -1,3 +1,4 @@
+//! The faults of heads, and what the first bytes of an input answer.
 ghost use Rattle.std.specs.Prelude.{◌≡◌, Err, if◌then◌else◌};
 ghost use Rattle.ff_reader.specs.Heads.{early, answered, answered_or};
 
@@ -34,7 +35,7 @@ fn found_early<H: Copy>(few: usize, bytes: &[u8]) -> Result<H, HeadFault>
 }
 
 /// The answer of what the first bytes decide, or where they decide nothing: that more are wanted, and of a whole input that it
-/// ends too early, before its format is named in so few bytes or behind them.
+/// ends too early, before its format is named in so few bytes or after them.
 pub fn answer_to<H: Copy>(
     found: Option<Result<H, HeadFault>>,
     few: usize,

@@ -1,3 +1,4 @@
+//! The trait of a format whose head is read unit by unit.
 ghost use Rattle.std.specs.Prelude.{◌≡◌, ◌<◌, ◌≤◌, ◌^◌, ℕ};
 ghost use Rattle.ff_reader.specs.Walks.{Grammar, IsGrammar, Keeps};
 ghost use Rattle.ff_reader.specs.declared.step.Step.TheVariants.{Skip};
@@ -6,6 +7,7 @@ use crate::step::Step;
 
 /// A format whose head is read unit by unit: its grammar, and the code that reads one unit.
 pub trait HeadFormat {
+    /// What a whole head says.
     type Head: Copy;
 
     /// What the units so far say.
@@ -40,6 +42,6 @@ pub trait HeadFormat {
     /// What is known at the start,
     ghost begins: { is_known grammar.start };
 
-    /// is known behind each unit, and a head is a sound one.
+    /// is known after each unit, and a head is a sound one.
     ghost keeps: { Keeps is_known is_sound grammar.unit };
 }

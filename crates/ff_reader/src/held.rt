@@ -1,10 +1,11 @@
+//! A byte queue, first in, first out.
 ghost use Rattle.std.specs.Prelude.{◌≡◌, ◌+◌, ◌-◌, ◌≤◌, ◌<◌, ◌^◌, [], ◌++◌, IfOk, OnOk, OnErr, IsOk, length, take, drop, vec_len, vec_capacity, slice_get};
 
 use std::alloc::{AllocError, Global};
 use std::marker::Model;
 use std::mem::replace;
 
-/// Bytes that wait to be used, from the front. What was used is let go at the next growth, at the cost of one copy of what waits
+/// Bytes that wait to be used, first in, first out. What was used is let go at the next growth, at the cost of one copy of what waits
 /// and only where at least as much was used: so the copies are together no longer than the bytes that came.
 #[derive(Drop)]
 pub struct Held {
@@ -87,8 +88,8 @@ impl Held {
         self.taken += count;
     }
 
-    /// Takes so many bytes out, those behind the first ones, which are let go. Where they are most of what is kept they stay in
-    /// its memory, and the few behind them get new; else they are copied.
+    /// Takes so many bytes out, those after the first ones, which are let go. Where they are most of what is kept they stay in
+    /// its memory, and the few after them get new; else they are copied.
     pub fn take_out(&mut self, skip: usize, count: usize) -> Result<Vec<u8>, AllocError>
         requires { skip + count ≤ length self.old.bytes }
         ensures ok { IfOk result (λ v. v.items ≡ take count (drop skip self.old.bytes)) }
@@ -109,7 +110,7 @@ impl Held {
     }
 }
 
-// So many bytes from a place on, moved to the front of their memory.
+// So many bytes from a place on, moved to the start of their memory.
 fn middle_of(mut bytes: Vec<u8>, first: usize, count: usize) -> Vec<u8>
     requires { first + count ≤ length bytes.items }
     ensures { result.items ≡ take count (drop first bytes.items) }

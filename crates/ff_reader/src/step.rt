@@ -1,3 +1,4 @@
+//! The effect of one unit on the reading of a head.
 use crate::fault::HeadFault;
 
 /// What a unit does to the reading of a head: a chunk, a block of metadata, a box.
@@ -7,6 +8,6 @@ pub enum Step<H, S> {
     Wait,
     /// The head, or the fault for which there is none.
     Decide(Result<H, HeadFault>),
-    /// The unit is passed over, so many bytes behind its first, and this is known from there on.
+    /// The unit is passed over, so many bytes after its first, and this is known from there on.
     Skip(u64, S),
 }

@@ -1,3 +1,4 @@
+//! The reader of heads, unit by unit, for any format.
 ghost use Rattle.std.specs.Prelude.{◌≡◌, ◌≤◌, ◌^◌, ◌↔◌, List, [], ◌∷◌, ◌++◌, ℕ, Err, None, length, false, IfOk};
 ghost use Rattle.ff_reader.specs.Heads.{answered, IsOpen};
 ghost use Rattle.ff_reader.specs.Walks.{agrees, walked, reading, head_limit, head_by, answer_by, Reached, IsReached};

@@ -1,3 +1,4 @@
+//! Items, and the lanes that say which items a stream carries.
 ghost use Rattle.std.specs.Prelude.{◌≡◌, ◌↔◌, IsTrue, IfOk};
 ghost use Rattle.ff_stream.specs.Items.{Closes};
 
@@ -7,13 +8,13 @@ use std::alloc::{AllocError, Global};
 /// What travels from one part of a run to the next.
 #[derive(Debug, Drop)]
 pub enum Item {
-    /// Decoded sound.
+    /// A decoded audio frame.
     Audio(AFrame),
-    /// A decoded picture.
+    /// A decoded video frame.
     Video(VFrame),
     /// A coded packet.
     Packet(Pkt),
-    /// What a coder knows of the whole stream, behind its last packet.
+    /// What an encoder knows of the whole stream, after its last packet.
     Trailer(Totals),
     /// Nothing more comes: all has come.
     End,
@@ -24,6 +25,7 @@ pub enum Item {
 /// An item that found no memory, given back.
 #[derive(Debug, Drop)]
 pub struct Refused {
+    /// The item, as it was.
     pub item: Item,
 }
 

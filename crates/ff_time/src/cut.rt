@@ -1,3 +1,4 @@
+//! The cut of a stream in time: its start, and its length.
 ghost use Rattle.std.specs.Prelude.{◌≤◌, ◌^◌};
 ghost use Rattle.std.specs.Option.{ForSome};
 

@@ -1,3 +1,5 @@
+//! The refusals of the calls on times.
+
 /// Why a call on times refuses.
 #[derive(Clone, Copy, Debug, PartialEq, Eq)]
 pub enum TimeError {
@@ -7,6 +9,6 @@ pub enum TimeError {
     TooBig,
     /// A rescaled value is no `i64`.
     Overflow,
-    /// The text is no duration; `at` is the first place at which none goes on.
+    /// The string is no duration; `at` is the first place at which none goes on.
     BadTime { at: usize },
 }

@@ -32,7 +32,7 @@ pub fn rescale_there_and_back()
         → IsRescaled a from to r → IsRescaled r to from b → IsNearAgain a from to b }
 {}
 
-/// A text is a duration of one value.
+/// A string is a duration of one value.
 pub fn durations_have_one_value()
     ensures { (text : List ℕ) (value other : ℕ) → IsDuration text value → IsDuration text other
         → value ≡ other }

@@ -1,3 +1,4 @@
+//! The classes of bytes in a duration.
 ghost use Rattle.std.specs.Prelude.{◌≡◌};
 ghost use Rattle.ff_time.specs.Reading.{letter_of};
 

@@ -1,3 +1,4 @@
+//! The exact order of times in two time bases.
 ghost use Rattle.std.specs.Prelude.{◌≡◌, pos, ◌*ℤ◌, ◌<◌, ◌^◌};
 ghost use Rattle.ff_time.specs.Rescale.{order_of};
 

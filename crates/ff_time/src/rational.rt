@@ -1,3 +1,4 @@
+//! Time bases: positive fractions in lowest terms.
 ghost use Rattle.std.specs.Prelude.{◌≡◌, ◌<◌, ◌⊎◌, ◌↔◌, IfOk, IfErr, IsErrOf, pos};
 ghost use Rattle.std.specs.Int.{IsGcd};
 ghost use Rattle.ff_time.specs.Fraction.{Fraction, IsBase, IsReduced, IsLowestOf, IsBelowOne, IsTooBig};

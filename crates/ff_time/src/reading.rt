@@ -1,3 +1,4 @@
+//! The state machine that reads a duration, one byte at a time.
 ghost use Rattle.std.specs.Prelude.{◌≡◌, ◌+◌, ◌*◌, ◌/◌, ◌^◌, ◌<◌, ◌≤◌, ℕ, min, option_map};
 ghost use Rattle.ff_time.specs.Reading.{cap, letter_of, Exact, IsSound, IsDecimal, shown, next_of, first_next, second_next, third_next, decimals_next, millionths_of, missing_of, value_of, value_at};
 
@@ -12,20 +13,20 @@ pub(super) enum Reading {
         digits: u8,
         number: u64,
     },
-    /// The number behind one colon, and whether the first one may be minutes.
+    /// The number after one colon, and whether the first one may be minutes.
     Second {
         first: u64,
         minutes: bool,
         digits: u8,
         number: u64,
     },
-    /// The seconds behind two colons.
+    /// The seconds after two colons.
     Third {
         minutes: u64,
         digits: u8,
         number: u64,
     },
-    /// The decimals behind the point, and whether a unit may follow.
+    /// The decimals after the point, and whether a unit may follow.
     Decimals {
         whole: u64,
         units: bool,
@@ -158,7 +159,7 @@ fn after_third(minutes: u64, digits: u8, number: u64, letter: Letter) -> Option<
     }
 }
 
-// One more decimal; those behind the sixth are below a millionth.
+// One more decimal; those after the sixth are below a millionth.
 fn decimal(digits: u8, millionths: u64, digit: u8) -> u64
     ensures { (k m : ℕ) → m < 10 ^ k → digit < 10 → digits ≡ min 6 k
         → millionths ≡ millionths_of k m → result ≡ millionths_of (k + 1) (m * 10 + digit) }
@@ -260,7 +261,7 @@ impl Reading {
         }
     }
 
-    // The value, where the text may end here.
+    // The value, where the string may end here.
     pub(super) fn value(self) -> Option<u64>
         ensures { (r : Exact) → IsSound r → self ≡ shown r
             → result ≡ option_map cap (value_of r) }

@@ -1,3 +1,4 @@
+//! Microseconds in units of a time base, rounded up.
 ghost use Rattle.std.specs.Prelude.{ℤ, ◌≤◌, ◌^◌, ◌≤ℤ◌};
 ghost use Rattle.ff_time.specs.Rescale.{Reaches};
 

@@ -1,4 +1,4 @@
-// Files in memory, by name.
+//! Files in memory, by name.
 ghost use Rattle.std.specs.Prelude.{◌≡◌, ℕ, List, [], Option, Some, IfOk, OnOk, OnErr, IsSome};
 ghost use Rattle.std.specs.BTreeMap.{get_by_text};
 ghost use Rattle.std.specs.Option.{option_map};

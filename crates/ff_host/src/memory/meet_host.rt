@@ -1,3 +1,4 @@
+//! A host in memory whose sources wait for each other in pairs.
 ghost use Rattle.std.specs.Prelude.{◌≡◌, ◌-◌, ℕ, List, [], Some, IfOk, OnOk, OnErr, IsErrOf, IsOk, IsSome};
 ghost use Rattle.std.specs.Option.{option_map};
 ghost use Rattle.ff_host.specs.Files.{KeepsFiles, PutsFile};

@@ -1,3 +1,4 @@
+//! A source in memory that waits for another one at an offset.
 ghost use Rattle.std.specs.Prelude.{◌≡◌, ◌+◌, ◌<◌, ◌≤◌, ◌⊎◌, [], ◌++◌, length, take, drop, min, false, Some, IfOk, IsOk, OnOk, OnErr, IsTrue, string_bytes};
 ghost use Rattle.ff_host.specs.Causes.{added, HasCause};
 ghost use Rattle.ff_host.specs.memory.MeetEnds.{new_meeting, most_turns, GoesOn, gave, failed_alone};

@@ -1,4 +1,4 @@
-// Where two sources wait for each other.
+//! The meeting of two sources that wait for each other.
 ghost use Rattle.std.specs.Prelude.{◌≤◌};
 
 use std::alloc::{AllocError, Global};

@@ -1,3 +1,4 @@
+//! A host in memory that fails where it was planned.
 ghost use Rattle.std.specs.Prelude.{◌≡◌, ◌-◌, ◌↔◌, ◌⊎◌, ℕ, List, [], Some, None, IfOk, OnOk, OnErr, IsErr, IsErrOf, IsTrue};
 ghost use Rattle.std.specs.Option.{option_map};
 ghost use Rattle.ff_host.specs.Causes.{HasCause, HasCauseOf, SameCounts, added};

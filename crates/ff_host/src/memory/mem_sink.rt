@@ -1,3 +1,4 @@
+//! A sink in memory that fails where it was planned.
 ghost use Rattle.std.specs.Prelude.{◌≡◌, ◌+◌, ◌≤◌, ◌↔◌, [], ◌++◌, length, Some, OnOk, OnErr, IsErr, IsErrOf};
 ghost use Rattle.ff_host.specs.Causes.{added, HasCause, HasCauseOf};
 ghost use Rattle.ff_host.specs.Files.{patched};

@@ -1,3 +1,4 @@
+//! A source in memory that fails where it was planned.
 ghost use Rattle.std.specs.Prelude.{◌≡◌, ◌+◌, ◌<◌, ◌↔◌, [], ◌++◌, length, take, drop, min, Some, IfOk, OnErr, IsErr, string_bytes};
 ghost use Rattle.ff_host.specs.Causes.{added, HasCause};
 ghost use Rattle.ff_host.specs.memory.MemEnds.{new_reading, failed_read};

@@ -1,4 +1,4 @@
-// Which calls of a host in memory are planned to fail.
+//! Plans of the calls of a host in memory that fail.
 ghost use Rattle.std.specs.Prelude.{◌≡◌, ◌↔◌, ◌==◌, IfOk, IsTrue};
 ghost use Rattle.std.specs.List.{list_any};
 ghost use Rattle.ff_host.specs.Causes.{added};

@@ -1,3 +1,4 @@
+//! A sink in memory that never fails.
 ghost use Rattle.std.specs.Prelude.{◌≡◌, ◌+◌, ◌≤◌, [], ◌++◌, length, take, drop, Some, false, IsOk, OnOk, OnErr, string_bytes};
 ghost use Rattle.ff_host.specs.Files.{patched};
 

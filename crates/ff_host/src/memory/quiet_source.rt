@@ -1,3 +1,4 @@
+//! A source in memory that never fails.
 ghost use Rattle.std.specs.Prelude.{◌≡◌, ◌+◌, ◌<◌, ◌≤◌, [], ◌++◌, length, take, drop, min, Some, false, IfOk, IsOk, string_bytes};
 ghost use Rattle.ff_host.specs.Causes.{HasCause};
 

@@ -1,3 +1,4 @@
+//! The edges of a graph of nodes.
 ghost use Rattle.std.specs.Prelude.{◌≡◌};
 ghost use Rattle.ff_stream.specs.edges.Ports.{leads_to, leaves};
 
@@ -6,9 +7,13 @@ use crate::Lane;
 /// From an output of a node to an input of another. Nodes and ports have numbers from 0.
 #[derive(Debug, Drop)]
 pub struct Edge {
+    /// The node that it leaves.
     pub from: u32,
+    /// The output of that node.
     pub out_port: u32,
+    /// The node to which it leads.
     pub to: u32,
+    /// The input of that node.
     pub in_port: u32,
     /// Which items go along it.
     pub lane: Lane,

@@ -1,4 +1,4 @@
-// The edges at the ports of a node.
+//! The edges at the ports of a node.
 ghost use Rattle.std.specs.Prelude.{◌≡◌, IfOk};
 ghost use Rattle.ff_stream.specs.edges.Ports.{edge_to, edge_from, at_ports};
 
