@@ -1,3 +1,4 @@
+//! Metadata blocks (RFC 9639, section 8).
 ghost use Rattle.std.specs.Prelude.{◌≡◌, ◌+◌, ◌*◌, ◌≤◌, ◌<◌, ◌^◌, ℕ, Option, length, drop, Ok, Some};
 ghost use Rattle.ff_frame.specs.declared.head.StreamHead.{StreamHead};
 ghost use Rattle.ff_reader.specs.declared.step.Step.TheVariants.{Skip};
@@ -47,7 +48,7 @@ fn ticks(rate: u32) -> Result<Rational, TimeError>
     Rational::new(1, i64::from(rate))
 }
 
-// Sound with one tick a sample frame.
+// Audio with one tick a sample frame.
 fn sound(rate: u32, bits: u8, channels: u8) -> Option<StreamHead>
     requires some { 0 < rate }
     requires few { rate < 2 ^ 31 }
@@ -65,7 +66,7 @@ fn sound(rate: u32, bits: u8, channels: u8) -> Option<StreamHead>
     })
 }
 
-// What comes behind a block of so many bytes.
+// What comes after a block of so many bytes.
 fn closed(size: u32, head: StreamHead, at: u64, bytes: &[u8]) -> BlockStep
     requires place { at < 2 ^ 32 }
     requires small { size < 2 ^ 24 }
@@ -129,7 +130,7 @@ fn other_at(head: StreamHead, at: u64, bytes: &[u8]) -> BlockStep
     closed(at_24(bytes, 1), head, at, bytes)
 }
 
-/// What the block does that begins the bytes, at this offset of the input, behind this head.
+/// What the block does that begins the bytes, at this offset of the input, after this head.
 #[tactic(auto, unfolding(crate::specs::Blocks::block))]
 pub(crate) fn block_at(format: Option<StreamHead>, at: u64, bytes: &[u8]) -> BlockStep
     requires { at < 2 ^ 32 }

@@ -1,3 +1,4 @@
+//! The samples of one subframe, with its wasted bits.
 ghost use Rattle.std.specs.Prelude.{◌≡◌, ◌<◌, ◌≤◌, ◌^◌, ◌-◌, ◌*ℤ◌, ℕ, IfOk, IsErrOf, IfErr, IfSome, length, pos, map, replicate, All, FitsSigned};
 ghost use Rattle.std.specs.Int.{w32};
 ghost use Rattle.ff_flac_frame.specs.Parts.{part_of};
@@ -104,7 +105,7 @@ fn raise_all(alloc: Global, samples: &[i32], factor: i32) -> Result<Vec<i32>, De
     Ok(out)
 }
 
-/// Each sample with so many zeros behind it.
+/// Each sample with so many zeros after it.
 fn with_wasted(alloc: Global, samples: Vec<i32>, wasted: u32) -> Result<Vec<i32>, DecodeEnd>
     requires depth { wasted ≤ 24 }
     requires within { AllInDepth (25 - wasted) samples.items }

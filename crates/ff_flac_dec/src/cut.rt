@@ -1,3 +1,4 @@
+//! The packets of a FLAC input, one frame each.
 ghost use Rattle.std.specs.Prelude.{◌≡◌, ◌≢◌, ◌+◌, ◌*◌, ◌^◌, ◌≤◌, ◌<◌, ◌↔◌, ℕ, List, [], ◌++◌, Some, None, true, false, length, IfOk, OnOk, OnErr, IsOk, slice_get, pos};
 ghost use Rattle.ff_frame.specs.Packet.{packet_at};
 ghost use Rattle.ff_frame.specs.Codecs.{IsFlac};

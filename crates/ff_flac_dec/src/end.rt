@@ -1,3 +1,4 @@
+//! The reasons why a frame has no samples.
 ghost use Rattle.std.specs.Prelude.{◌≡◌};
 ghost use Rattle.ff_flac_dec.specs.declared.end.DecodeEnd.TheVariants.{NoMemory};
 

@@ -1,3 +1,4 @@
+//! Samples restored from the residuals of a fixed predictor (RFC 9639, section 9.2.5).
 ghost use Rattle.std.specs.Prelude.{◌≡◌, ◌≤◌, IfOk, IsErrOf, length};
 ghost use Rattle.ff_flac_frame.specs.Prediction.{fixed, restored, AllInDepth};
 
@@ -37,7 +38,7 @@ fn restore_by(
     Ok(out)
 }
 
-/// The samples that these residuals stand for under a fixed predictor, behind the warm-up samples.
+/// The samples that these residuals stand for under a fixed predictor, after the warm-up samples.
 pub fn restore_fixed(
     alloc: Global,
     order: u32,

@@ -1,3 +1,4 @@
+//! The head of a FLAC input.
 ghost use Rattle.std.specs.Prelude.{◌≡◌};
 ghost use Rattle.ff_flac_dec.specs.Streams.{stream_of};
 

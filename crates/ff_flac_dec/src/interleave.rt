@@ -1,3 +1,4 @@
+//! The samples of channels, interleaved.
 ghost use Rattle.std.specs.Prelude.{◌≡◌, ◌<◌, ◌≤◌, ◌++◌, ◌∷◌, [], length, IfOk, IfErr, OnOk, pos, slice_index_or};
 ghost use Rattle.ff_flac_dec.specs.Channels.{sample_frame, interleaved};
 ghost use Rattle.ff_flac_dec.specs.Joins.{items_of};
@@ -16,7 +17,7 @@ fn sample_at(channel: &[i32], place: usize) -> i32
     }
 }
 
-/// Puts one sample of each channel behind the others.
+/// Puts one sample of each channel after the others.
 fn push_sample_frame(
     out: &mut Vec<i32>,
     channels: &[Vec<i32>],

@@ -1,3 +1,4 @@
+//! Samples restored from the residuals of a linear predictor (RFC 9639, section 9.2.6).
 ghost use Rattle.std.specs.Prelude.{◌≡◌, ◌≤◌, IfOk, IsErrOf, length};
 ghost use Rattle.ff_flac_frame.specs.Prediction.{linear, restored, AllInDepth};
 
@@ -5,7 +6,7 @@ use crate::end::DecodeEnd;
 use ff_flac_frame::{restore_linear, widened};
 use std::alloc::Global;
 
-/// The samples that these residuals stand for under a linear predictor, behind the warm-up samples.
+/// The samples that these residuals stand for under a linear predictor, after the warm-up samples.
 pub fn restore_by_linear(
     alloc: Global,
     coefs: &[i32],

@@ -1,3 +1,4 @@
+//! The audio frame that a FLAC frame stands for.
 ghost use Rattle.std.specs.Prelude.{◌≡◌, ◌<◌, ◌≤◌, ◌+◌, ◌-◌, ℕ, List, IfOk, IfErr, IsErrOf, length, map, ◌∷◌, []};
 ghost use Rattle.std.specs.List.{AllByRecursion};
 ghost use Rattle.ff_frame.specs.Audio.{IsAudio};
@@ -191,7 +192,7 @@ fn samples(alloc: Global, frame: &FlacFrame, stream: &FlacStream) -> Result<Vec<
     Ok(both)
 }
 
-/// The sound that a frame of a stream stands for, which starts at this tick.
+/// The audio that a frame of a stream stands for, which starts at this tick.
 fn sound(
     alloc: Global,
     frame: &FlacFrame,
@@ -215,7 +216,7 @@ fn sound(
     ))
 }
 
-/// The sound that a frame stands for, which starts at this tick (RFC 9639, sections 9.2 and 4.2). The frame is one that
+/// The audio that a frame stands for, which starts at this tick (RFC 9639, sections 9.2 and 4.2). The frame is one that
 /// `frame_at` gave for some bytes under this head. OutOfDepth exactly where a sample leaves its subframe's depth or the
 /// stream's.
 pub fn decode(

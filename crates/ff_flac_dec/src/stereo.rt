@@ -1,3 +1,4 @@
+//! Left and right, restored from two subframes (RFC 9639, section 4.2).
 ghost use Rattle.std.specs.Prelude.{◌≡◌, ◌≤◌, ◌==◌, if◌then◌else◌, IfOk, IfErr, IsErrOf, length};
 ghost use Rattle.ff_frame.specs.Audio.{FitsBits};
 ghost use Rattle.ff_flac_frame.specs.Prediction.{AllInDepth};

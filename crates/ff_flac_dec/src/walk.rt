@@ -1,3 +1,4 @@
+//! FLAC as a format whose head is read block by block.
 ghost use Rattle.std.specs.Prelude.{◌≡◌, ◌↔◌, List, ◌++◌, ℕ, false, IfOk, IfSome};
 ghost use Rattle.ff_flac_dec.specs.Heads.{grammar as flac_grammar, IsFlacStream, head, answered, IsOpen};
 ghost use Rattle.ff_flac_dec.specs.Streams.{IsHead};

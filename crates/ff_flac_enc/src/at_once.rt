@@ -12,6 +12,7 @@ use std::thread::Threads;
 
 /// What a call passes before it codes its block. It means nothing to what is coded.
 pub trait Gate {
+    /// Lets the call for block `i` pass, perhaps after a while.
     fn enter(&self, i: usize);
 }
 

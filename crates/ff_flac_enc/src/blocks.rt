@@ -1,3 +1,4 @@
+//! Audio frames gathered into blocks of 4,096 sample frames.
 ghost use Rattle.std.specs.Prelude.{◌≡◌, ◌+◌, ◌^◌, ◌≤◌, ◌+ℤ◌, ◌<ℤ◌, ℕ, List, [], ◌∷◌, ◌++◌, Some, None, true, false, length, IfOk, IfErr, OnOk, OnErr, slice_get, pos};
 ghost use Rattle.ff_frame.specs.declared.audio.AFrame.{AFrame};
 ghost use Rattle.ff_frame.specs.Audio.{IsAudio};

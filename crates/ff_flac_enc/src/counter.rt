@@ -1,3 +1,4 @@
+//! The counter of what the stream's header says of all frames.
 ghost use Rattle.std.specs.Prelude.{◌≡◌, ◌+◌, ◌*◌, ◌^◌, ◌<◌, ◌≤◌, ◌≢◌, List, [], ◌∷◌, ◌++◌, Some, None, min, max, length, IfOk, OnOk, OnErr, All};
 ghost use Rattle.ff_frame.specs.Audio.{FitsBits, IsAudio};
 ghost use Rattle.ff_flac_enc.specs.Totals.{sample_bytes, samples_bytes, frame_bytes, sample_frames};
@@ -9,7 +10,9 @@ use std::alloc::{AllocError, Global};
 /// The least and the greatest number of bytes of a coded frame.
 #[derive(Clone, Copy, Debug, PartialEq, Eq)]
 pub struct Sizes {
+    /// The fewest bytes of a frame.
     pub least: u32,
+    /// The most bytes of a frame.
     pub greatest: u32,
 }
 
@@ -98,7 +101,7 @@ fn push_1(out: &mut Vec<u8>, samples: &[i32]) -> Result<(), AllocError>
     Ok(())
 }
 
-// Each sample in two bytes, in the place of others: faster than one behind the other.
+// Each sample in two bytes, in the place of others: faster than one after the other.
 fn write_2(out: &mut [u8], samples: &[i32])
     requires fit { All (FitsBits 16) samples.now }
     requires len { length out.old ≡ 2 * length samples.now }

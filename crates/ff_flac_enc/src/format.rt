@@ -1,3 +1,4 @@
+//! The rate, depth and channels that all frames of a stream share.
 ghost use Rattle.std.specs.Prelude.{◌≡◌};
 
 use ff_frame::AFrame;
@@ -5,8 +6,11 @@ use ff_frame::AFrame;
 /// What all frames of a stream have in common.
 #[derive(Clone, Copy, Debug, PartialEq, Eq)]
 pub struct Format {
+    /// Sample frames a second.
     pub rate: u32,
+    /// The bits of a sample.
     pub bits: u8,
+    /// The number of channels.
     pub channels: u8,
 }
 

@@ -1,4 +1,4 @@
-//! A block of sound as a FLAC frame.
+//! A block of audio as a FLAC frame.
 
 ghost use Rattle.std.specs.Prelude.{◌≡◌, ◌+◌, ◌-◌, ◌*◌, ◌/◌, ◌^◌, ◌<◌, ◌≤◌, ◌≢◌, ◌++◌, length, map, IfOk, OnOk, All, Some};
 ghost use Rattle.std.specs.List.{flat_map, range_with_len};
@@ -137,7 +137,7 @@ fn write_body(
     Ok(out)
 }
 
-/// The bytes of a block of sound as the frame with this number: the first of its shortest spellings.
+/// The bytes of a block of audio as the frame with this number: the first of its shortest spellings.
 pub fn encode_block(alloc: Global, frame: &AFrame, number: u32) -> Result<Vec<u8>, AllocError>
     requires block { IsBlock frame.now }
     requires number { number < 2 ^ 31 }

@@ -13,6 +13,7 @@ use std::alloc::{AllocError, Global};
 /// What a frame's header says beside its channel code.
 #[derive(Clone, Copy)]
 pub struct Head {
+    /// The rate, depth and channels of the stream.
     pub stream: FlacStream,
     /// Which block of the stream it is.
     pub number: u32,

@@ -6,7 +6,7 @@ ghost use Rattle.ff_flac_subframe.specs.rice.Least.{least, IsFirstLeast};
 ghost use Rattle.ff_flac_enc.specs.Layout.{Layout};
 ghost use Rattle.ff_flac_enc.specs.Frame.{IsBlock, IsLeast, candidates, subframe_bits_of};
 
-/// The least of the candidates is the first of the shortest: those before it have more subframe bits, and those behind it
+/// The least of the candidates is the first of the shortest: those before it have more subframe bits, and those after it
 /// no fewer.
 pub fn least_is_the_first_of_the_shortest()
     ensures { (a : AFrame) (y : Layout) → least (subframe_bits_of a) (candidates a) ≡ Some y → IsFirstLeast (subframe_bits_of a) (candidates a) y }

@@ -1,7 +1,7 @@
 //! FLAC frames in the fewest bits (RFC 9639, section 9).
 //!
 //! `specs/Layout` lists the ways to write the subframes of a frame, in the order of ties; `specs/Head` says what stands
-//! before and behind them. `encode_block` writes the first of the shortest.
+//! before and after them. `encode_block` writes the first of the shortest.
 //!
 //! `Blocks` gathers the samples of frames in blocks (`specs/Gathered`, `specs/Cuts`), and `Counter` what the header of a
 //! stream tells of its frames (`specs/Totals`).

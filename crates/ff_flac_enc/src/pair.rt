@@ -23,9 +23,13 @@ use std::alloc::{AllocError, Global};
 /// The outlooks of left, right, mid and side.
 #[derive(Drop)]
 pub struct Outlooks {
+    /// That of the left channel.
     pub left: Outlook,
+    /// That of the right channel.
     pub right: Outlook,
+    /// That of the mean of the two.
     pub mid: Outlook,
+    /// That of their difference.
     pub side: Outlook,
 }
 

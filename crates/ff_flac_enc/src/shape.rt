@@ -9,9 +9,13 @@ use ff_flac_subframe::Plan;
 /// The form of two channels (RFC 9639, section 9.1.3).
 #[derive(Clone, Copy)]
 pub enum Shape {
+    /// Left and right.
     Independent,
+    /// Left and side.
     LeftSide,
+    /// Side and right.
     SideRight,
+    /// Mid and side.
     MidSide,
 }
 
@@ -98,24 +102,33 @@ fn best_shape(left: u64, right: u64, mid: u64, side: u64) -> Shape
 /// What is known of a signal: no spelling has fewer bits than the bound, and that of the plan has as many.
 #[derive(Clone, Copy)]
 pub struct Known {
+    /// A number of bits below which there is no spelling.
     pub bound: u64,
+    /// The plan, once one was made.
     pub plan: Option<Plan>,
 }
 
 /// What is known of left, right, mid and side.
 #[derive(Clone, Copy)]
 pub struct Four {
+    /// What is known of left.
     pub left: Known,
+    /// What is known of right.
     pub right: Known,
+    /// What is known of mid.
     pub mid: Known,
+    /// What is known of side.
     pub side: Known,
 }
 
 /// A form, and the plans of its two signals.
 #[derive(Clone, Copy)]
 pub struct Choice {
+    /// The form.
     pub shape: Shape,
+    /// The plan of its first signal.
     pub first: Plan,
+    /// The plan of its second signal.
     pub second: Plan,
 }
 

@@ -1,9 +1,10 @@
+//! A queue of samples, first in, first out.
 ghost use Rattle.std.specs.Prelude.{◌≡◌, ◌≤◌, [], ◌++◌, length, take, drop, IfOk, OnOk, OnErr};
 
 use std::alloc::{AllocError, Global};
 use std::marker::Model;
 
-/// Samples that wait, from the front. What was used is let go when more comes and at least as much was used as waits: so what
+/// Samples that wait, first in, first out. What was used is let go when more comes and at least as much was used as waits: so what
 /// is copied to a new place is together no longer than what came.
 #[derive(Drop)]
 pub struct Waiting {
@@ -37,7 +38,7 @@ fn up_to(samples: &[i32], place: usize) -> &[i32]
     &samples[..place]
 }
 
-// Both, one behind the other, in a new place.
+// Both, one after the other, in a new place.
 fn joined(alloc: Global, front: &[i32], back: &[i32]) -> Result<Vec<i32>, AllocError>
     ensures { IfOk result (λ v. v.items ≡ front.now ++ back.now) }
 {
@@ -67,7 +68,7 @@ impl Waiting {
         from_on(&self.buf, self.taken).len()
     }
 
-    /// So many samples at the front.
+    /// The first so many samples.
     pub fn front(&self, count: usize) -> &[i32]
         requires { count ≤ length self.now }
         ensures { result.now ≡ take count self.now }

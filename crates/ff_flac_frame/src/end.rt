@@ -1,3 +1,4 @@
+//! The reasons why no frame was read.
 ghost use Rattle.std.specs.Prelude.{◌≡◌};
 ghost use Rattle.ff_flac_frame.specs.declared.end.FrameEnd.TheVariants.{NoMemory};
 

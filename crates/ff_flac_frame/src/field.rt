@@ -1,3 +1,4 @@
+//! Fields of a fixed number of bits, checked by a rule.
 ghost use Rattle.std.specs.Prelude.{◌≡◌, ◌<◌, ◌≤◌, ◌^◌, length, IfOk, true};
 ghost use Rattle.ff_bits.specs.Reading.{field};
 ghost use Rattle.ff_flac_frame.specs.Codes.{below};

@@ -1,3 +1,4 @@
+//! Fixed predictors (RFC 9639, section 9.2.5).
 ghost use Rattle.std.specs.Prelude.{◌≡◌, ◌<◌, ◌≤◌, ◌^◌, ◌-◌, IsTrue, ◌↔◌, length, pos, ◌*ℤ◌, ◌-ℤ◌, ◌+ℤ◌, FitsSigned};
 ghost use Rattle.std.specs.Int.{w64};
 ghost use Rattle.ff_frame.specs.Audio.{FitsBits};

@@ -1,3 +1,4 @@
+//! Whole frames (RFC 9639, section 9).
 ghost use Rattle.std.specs.Prelude.{◌≡◌, ℕ, ◌<◌, ◌≤◌, ◌^◌, IfOk, IfErr, IsErrOf, EachIndex, slice_index, map, length};
 ghost use Rattle.ff_bits.specs.Bits.{bits};
 ghost use Rattle.ff_bits.specs.Reading.{Done};
@@ -37,6 +38,7 @@ struct Body {
     parts: Vec<Subframe>,
 }
 
+/// The bits of each subframe's samples under a channel code: a side channel has one more (RFC 9639, section 9.1.3).
 #[tactic(auto, unfolding(crate::specs::Codes::depths))]
 pub fn depths_of(alloc: Global, form: u8, channels: u8, bits: u8) -> Result<Vec<u32>, FrameEnd>
     requires low { 2 ≤ bits }
@@ -72,6 +74,7 @@ fn read_subframes(
     Ok(parts)
 }
 
+/// A frame's header with its checksum of 8 bits (RFC 9639, section 9.1.8).
 pub fn read_head(
     reader: &mut BitReader,
     bytes: &[u8],
@@ -105,7 +108,7 @@ fn read_unpadded(
     Ok(Body { header, parts })
 }
 
-/// What stands behind the subframes: the zeros that fill the last byte, and the sum over all of the frame.
+/// What stands after the subframes: the zeros that fill the last byte, and the sum over all of the frame.
 pub fn read_end(reader: &mut BitReader, bytes: &[u8], stream: &FlacStream) -> Result<(), FrameEnd>
     requires stream { IsStream stream.now }
     requires body { (f : Frame) × (unpadded stream.now (bits bytes.now) ≡ Done f reader.old) }

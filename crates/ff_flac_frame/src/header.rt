@@ -1,3 +1,4 @@
+//! Frame headers (RFC 9639, section 9.1).
 ghost use Rattle.std.specs.Prelude.{◌≡◌, ◌<◌, ◌≤◌, if◌then◌else◌, slice_index};
 ghost use Rattle.ff_bits.specs.Reading.{field, give};
 ghost use Rattle.ff_bits.specs.NumberGrammar.{coded_below, of_31_bits, of_36_bits};
@@ -17,7 +18,9 @@ use ff_bits::{BitEnd, BitReader};
 pub struct Header {
     /// Its coded number: which block it is, or which sample frame is its first.
     pub number: u64,
+    /// The block size: sample frames.
     pub block: u32,
+    /// The channel code (RFC 9639, section 9.1.3).
     pub form: u8,
 }
 

@@ -69,7 +69,7 @@ fn weigh_behind(order: usize, coefs: &[i64], xs: &[i32]) -> i64
 
 /// Each coefficient times its sample, the first of them on the last sample.
 ///
-/// The last sample was just restored: its term comes behind the others, which don't wait for it.
+/// The last sample was just restored: its term comes after the others, which don't wait for it.
 #[inline(always)]
 fn weigh(order: usize, coefs: &[i64], xs: &[i32], last: i64) -> i64
     requires order { order ≡ length coefs.now }
@@ -145,7 +145,7 @@ fn restore_by(
     Some(out)
 }
 
-/// The samples that these residuals stand for under a linear predictor, behind those that there are, in memory that there is.
+/// The samples that these residuals stand for under a linear predictor, after those that there are, in memory that there is.
 /// None exactly where one leaves the depth.
 pub fn restore_linear(
     coefs: &[i64],

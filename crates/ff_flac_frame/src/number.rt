@@ -1,3 +1,4 @@
+//! Signed samples, unary counts and Rice codes.
 ghost use Rattle.std.specs.Prelude.{◌≡◌, ◌<◌, ◌≤◌, ◌+◌, ◌*◌, ◌^◌, IfOk, IfErr, FitsSigned};
 ghost use Rattle.std.specs.Int.{w32};
 ghost use Rattle.ff_bits.specs.Reading.{zeros};
@@ -36,6 +37,7 @@ fn zigzag_of(u: u64) -> i32
     }
 }
 
+/// A signed sample of so many bits.
 #[tactic(auto, unfolding(crate::specs::Frame::sample))]
 pub fn read_sample(reader: &mut BitReader, depth: u32) -> Result<i32, FrameEnd>
     requires { depth ≤ 32 }
@@ -90,6 +92,7 @@ pub fn short_rice(zeros: u32, low: u64, k: u32) -> i32
     zigzag_of(((zeros as u64) << k) + low)
 }
 
+/// A residual under a Rice parameter (RFC 9639, section 9.2.7).
 #[cold]
 #[tactic(auto, unfolding(crate::specs::Frame::rice, crate::specs::Frame::quotient_limit))]
 pub fn read_rice(reader: &mut BitReader, k: u32) -> Result<i32, FrameEnd>

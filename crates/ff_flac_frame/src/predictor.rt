@@ -26,7 +26,7 @@ pub struct Predictor<'a> {
 }
 
 impl Predictor<'_> {
-    /// Whether samples are restored as their residuals are read. Behind more than two samples a loop that does both runs out of
+    /// Whether samples are restored as their residuals are read. After more than two samples a loop that does both runs out of
     /// registers.
     fn is_short(&self) -> bool {
         !self.is_linear || self.order <= 2
@@ -38,6 +38,7 @@ impl Predictor<'_> {
 pub struct Restoring {
     /// Whether they are restored at all, and none has left 25 bits.
     pub is_on: bool,
+    /// The samples that were restored so far.
     pub samples: Vec<i32>,
 }
 
@@ -67,7 +68,7 @@ fn next_sample(
     }
 }
 
-/// The next sample behind these, put at their end, in memory that there is. False where it leaves 25 bits.
+/// The next sample after these, put at their end, in memory that there is. False where it leaves 25 bits.
 #[inline(always)]
 pub fn restore_next(
     is_linear: bool,
@@ -175,7 +176,7 @@ fn is_predictor(predictor: &Predictor, xs: &[i32]) -> bool
     predictor.order <= 4
 }
 
-/// What restores the samples behind the warm-up samples, in memory for so many, where that is wanted and the predictor is a short one.
+/// What restores the samples after the warm-up samples, in memory for so many, where that is wanted and the predictor is a short one.
 pub fn start_restoring(
     alloc: Global,
     is_wanted: bool,

@@ -53,6 +53,7 @@ fn residuals(
     Ok(out)
 }
 
+/// How many low bits of each sample are zero and left out, below the depth (RFC 9639, section 9.2.2).
 #[tactic(auto, unfolding(crate::specs::Frame::wasted_bits))]
 pub fn read_wasted(reader: &mut BitReader, depth: u32) -> Result<u32, FrameEnd>
     requires { 2 ≤ depth }
@@ -113,6 +114,8 @@ pub fn count_warm(block: u32, code: u64) -> u32
     }
 }
 
+/// The shift and the coefficients of a linear predictor; 0 and none for any other type code (RFC 9639, section
+/// 9.2.6).
 pub fn predictor_of(
     alloc: Global,
     reader: &mut BitReader,

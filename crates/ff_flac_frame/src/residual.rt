@@ -1,4 +1,4 @@
-//! Residuals, put behind what was read before.
+//! Residuals, put after what was read before.
 
 ghost use Rattle.std.specs.Prelude.{◌≡◌, ◌<◌, ◌≤◌, ◌^◌, ◌+◌, ◌-◌, ◌/◌, OnOk, IfOk, IfSome, IfNone, true, [], ◌∷◌, ◌++◌, FitsSigned, vec_len, vec_capacity};
 ghost use Rattle.std.specs.Int.{w32};
@@ -78,7 +78,7 @@ pub fn next_four(near: &mut BitWindow, left: u32, k: u32) -> Option<(i32, i32, i
     ))
 }
 
-/// Puts four residuals behind others, in memory that there is.
+/// Puts four residuals after others, in memory that there is.
 #[inline(always)]
 fn push_four(out: &mut Vec<i32>, four: (i32, i32, i32, i32))
     requires room { vec_len out.old + 4 ≤ vec_capacity out.old }
@@ -282,7 +282,7 @@ fn read_partitions(
     Ok(())
 }
 
-/// The residuals behind a predictor, put behind others, and the samples that they stand for as long as these are restored.
+/// The residuals after a predictor, put after others, and the samples that they stand for as long as these are restored.
 #[tactic(auto, unfolding(crate::specs::Frame::residual))]
 pub fn read_residual(
     reader: &mut BitReader,

@@ -1,3 +1,4 @@
+//! The values that each field of a frame may have.
 ghost use Rattle.std.specs.Prelude.{◌≡◌, ◌<◌, ◌≤◌, ◌^◌, ◌-◌, slice_index};
 ghost use Rattle.ff_bits.specs.Reading.{some};
 ghost use Rattle.ff_flac_frame.specs.Codes.{rate_table, rate_fits, form_fits, depth_fits, order_of, kind_fits, order_fits};
@@ -6,9 +7,13 @@ ghost use Rattle.ff_flac_frame.specs.Rules.{passes};
 /// Which values of a field are accepted.
 #[derive(Clone, Copy)]
 pub enum Rule {
+    /// Any value.
     Any,
+    /// This value alone.
     Equal(u64),
+    /// A value below this one.
     Below(u64),
+    /// Any value but 0.
     NotZero,
     /// A code under which this rate can be written.
     Rate(u32),
@@ -87,6 +92,7 @@ fn is_depth(bits: u8, code: u64) -> bool
     }
 }
 
+/// The order of the predictor that a subframe's type code names; 0 where it names none.
 #[tactic(auto, unfolding(crate::specs::Codes::order_of))]
 pub fn order_from(kind: u64) -> u64
     ensures value { result ≡ order_of kind }

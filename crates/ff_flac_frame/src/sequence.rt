@@ -1,4 +1,4 @@
-// A contract sees such a list by its elements alone, and neither its room nor its place.
+//! Sequences of which a contract sees the elements alone, and neither their room nor their place.
 ghost use Rattle.std.specs.Prelude.{◌≡◌};
 
 use std::marker::Model;
@@ -32,6 +32,7 @@ impl<T> Sequence<T> {
         self.items
     }
 
+    /// The things in their order.
     pub fn as_slice(&self) -> &[T]
         ensures { result.now ≡ self.now }
     {

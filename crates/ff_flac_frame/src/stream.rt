@@ -1,3 +1,5 @@
+//! The rate, depth and channels that all frames of a stream share.
+
 /// What a stream says of its frames.
 #[derive(Clone, Copy, Debug, PartialEq, Eq)]
 pub struct FlacStream {

@@ -1,3 +1,4 @@
+//! Subframes as values (RFC 9639, section 9.2).
 ghost use Rattle.std.specs.Prelude.{◌≡◌, IfSome, true};
 ghost use Rattle.ff_flac_frame.specs.Restored.{IsRestored, IsRestored-prop};
 
@@ -21,6 +22,7 @@ pub enum SubKind {
 pub struct Subframe {
     /// How many low bits of each sample are zero, and left out.
     pub wasted: u8,
+    /// How it stands for its samples.
     pub kind: SubKind,
     /// How many samples the predictor looks back: 0 to 4, or 1 to 32 of a linear one.
     pub order: u8,

@@ -23,7 +23,7 @@ pub fn subframes_stand_for_their_samples()
     ensures { (xs : List ℤ) → AllByRecursion (λ s. channel_samples (length xs) (part_for xs s) ≡ xs) (candidates xs) }
 {}
 
-/// The least of the candidates is the first of the shortest: those before it are longer, and those behind it no shorter.
+/// The least of the candidates is the first of the shortest: those before it are longer, and those after it no shorter.
 pub fn least_is_the_first_of_the_shortest()
     ensures { (depth : ℕ) (xs : List ℤ) (s : Spelling) → least (size depth xs) (candidates xs) ≡ Some s → IsFirstLeast (size depth xs) (candidates xs) s }
 {}

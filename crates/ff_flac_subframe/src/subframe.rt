@@ -18,15 +18,20 @@ use std::alloc::{AllocError, Global};
 /// A way to write a subframe: a fixed one by its order, method and partition order.
 #[derive(Clone, Copy)]
 pub enum Plan {
+    /// One sample, where all are equal.
     Constant,
+    /// The residual of the fixed predictor of this order, under this coding method and partition order.
     Fixed(usize, usize, u32),
+    /// The samples as they are.
     Verbatim,
 }
 
 /// A plan and its bits.
 #[derive(Clone, Copy)]
 pub struct Planned {
+    /// The plan.
     pub plan: Plan,
+    /// The bits of the subframe so written.
     pub cost: u64,
 }
 

@@ -14,8 +14,11 @@ use std::alloc::{AllocError, Global};
 /// A way to code a residual, and its bits.
 #[derive(Clone, Copy)]
 pub struct Found {
+    /// The coding method: 0 for parameters of 4 bits, 1 for those of 5 (RFC 9639, section 9.2.7).
     pub method: usize,
+    /// The exponent of 2 that gives the number of partitions.
     pub partition_order: u32,
+    /// The bits of the coded residual.
     pub cost: u64,
 }
 

@@ -11,7 +11,7 @@ use crate::rice::quotients::{cost_of, cost_of_16};
 use crate::rice::span::Span;
 use std::alloc::{AllocError, Global};
 
-/// Behind the first, the bits of each partition of 16 values whose sum fits 32 bits.
+/// After the first, the bits of each partition of 16 values whose sum fits 32 bits.
 fn fill_by_16(costs: &mut [u64], us: &[u32], k: usize, most: u32)
     requires some { 0 < length costs.old }
     requires len { length us.now ≡ (length costs.old - 1) * 16 }
@@ -25,7 +25,7 @@ fn fill_by_16(costs: &mut [u64], us: &[u32], k: usize, most: u32)
     }
 }
 
-/// Behind the first, the bits of each partition of so many values, whatever they are.
+/// After the first, the bits of each partition of so many values, whatever they are.
 fn fill_by(costs: &mut [u64], us: &[u32], size: usize, k: usize, most: u32)
     requires some { 0 < length costs.old }
     requires len { length us.now ≡ (length costs.old - 1) * size }
@@ -39,7 +39,7 @@ fn fill_by(costs: &mut [u64], us: &[u32], size: usize, k: usize, most: u32)
     }
 }
 
-/// Behind the first, the bits of each partition of so many values.
+/// After the first, the bits of each partition of so many values.
 fn fill(costs: &mut [u64], us: &[u32], size: usize, k: usize, most: u32)
     requires some { 0 < length costs.old }
     requires len { length us.now ≡ (length costs.old - 1) * size }
@@ -106,7 +106,7 @@ pub fn columns_of(
     Ok(columns)
 }
 
-/// Puts the sum of each two to the front.
+/// Puts the sum of each two at the start.
 fn add_neighbours(costs: &mut [u64])
     requires { All (λ cost. cost ≤ 2 ^ 48) costs.old }
     ensures len { length costs.new ≡ length costs.old }

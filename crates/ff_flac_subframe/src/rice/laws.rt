@@ -15,7 +15,7 @@ pub fn codings_are_read_back()
         → AllByRecursion (λ c. Reads (residual (length xs + order) order) (residual_bits order c (map zigzagged xs)) xs) (codings (length xs + order) order) }
 {}
 
-/// The least of some codings is the first of the lowest: those before it cost more, and those behind it no less.
+/// The least of some codings is the first of the lowest: those before it cost more, and those after it no less.
 pub fn least_is_the_first_of_the_lowest()
     ensures { (cost : Coding → ℕ) (xs : List Coding) (a : Coding) → least cost xs ≡ Some a → IsFirstLeast cost xs a }
 {}

@@ -10,7 +10,9 @@ use crate::rice::quotients::total_of;
 /// Parameters from `low` on and below `high`.
 #[derive(Clone, Copy)]
 pub struct Span {
+    /// The lowest parameter.
     pub low: usize,
+    /// One more than the highest parameter.
     pub high: usize,
 }
 

@@ -30,7 +30,7 @@ fn length_of(k: u32, u: u32) -> u64
     (u >> k) as u64 + (1 + k as u64)
 }
 
-/// These bits, without the zeros in front, as a number.
+/// These bits, without leading zeros, as a number.
 fn ending_of(k: u32, u: u32) -> u64
     requires { k < 32 }
     ensures { result ≡ 2 ^ k + u % 2 ^ k }
