@@ -1,3 +1,4 @@
+//! The answers of a link to puts and takes, and its final counts.
 use ff_stream::Item;
 
 /// The answer to a put.

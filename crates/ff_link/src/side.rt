@@ -1,4 +1,4 @@
-// The rules of the two queues of a link, and what each step of an end does to what it knows.
+//! The rules of a link's two queues, and what each step of an end adds to what it knows.
 use atomic_table::{Join, Split};
 use crossbeam_queue::protocol::{Lesson, Outcome, Protocol};
 use crossbeam_queue::{Pass, RuledArrayQueue};
@@ -8,17 +8,25 @@ use std::marker::PhantomData;
 
 /// What a link carries, and whether that is claimed to be valid. No value of it is made.
 pub struct Way {
+    /// Whether the items are claimed to be valid for the lane.
     pub claims: bool,
+    /// The lane that says which items it carries.
     pub lane: Lane,
 }
 
 /// What a pass of a queue may do, what it was told of the link, what it put and what it took. No value of it is made.
 pub struct Side<T> {
+    /// Whether the pass may put.
     pub puts: bool,
+    /// Whether the pass may take.
     pub takes: bool,
+    /// What the link carries.
     pub way: Way,
+    /// How many items the queue holds at most.
     pub room: u64,
+    /// What was put.
     pub sent: LinkedList<T>,
+    /// What was taken.
     pub taken: LinkedList<T>,
 }
 
@@ -167,10 +175,14 @@ impl Lesson<u64, Side<u64>> for AllCounts {
     ghost fact = { λ v items. IsTotal AnyCounts v items };
 }
 
+/// The queue of the items, from the sender to the receiver.
 pub type Down = RuledArrayQueue<Item, Side<Item>, Items>;
 
+/// A pass of the queue of the items.
 pub type DownPass = Pass<Item, Side<Item>>;
 
+/// The queue of the one count, from the receiver to the sender.
 pub type Up = RuledArrayQueue<u64, Side<u64>, Counts>;
 
+/// A pass of the queue of the count.
 pub type UpPass = Pass<u64, Side<u64>>;

@@ -1,3 +1,5 @@
+//! The faults of machines and nodes.
+
 /// What went wrong in a machine or its node.
 #[derive(Clone, Copy, Debug, PartialEq, Eq)]
 pub enum Fault {

@@ -25,7 +25,7 @@
 //! be read has nothing to do until others have told more.
 //!
 //! The *solution* of a network is the streams that the machines' definitions give, node after node, from whole inputs:
-//! no turn and no wire's size is in it. Whatever the turns were, what a node took is a front of its solution, and once
+//! no turn and no wire's size is in it. Whatever the turns were, what a node took is a prefix of its solution, and once
 //! every node is done and none has a fault, a node without outputs was fed the solution itself.
 //!
 //! Not promised: that a network ever gets done, or that each node gets its turn. Nothing here waits; `ff_net_threads` runs

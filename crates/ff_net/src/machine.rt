@@ -1,3 +1,4 @@
+//! The trait of a machine, which takes streams and gives streams, one item at a time.
 ghost use Rattle.std.specs.Prelude.{◌≡◌, ◌<◌, ◌⊎◌, ◌↔◌, length, IsSome, IsNone, IfSome, OnOk, OnErr, IfErr, IsTrue, None, Some, Ok};
 ghost use Rattle.ff_stream.specs.Stream.{still_open, LiesBelow};
 ghost use Rattle.ff_stream.specs.Items.{with_item};
@@ -17,7 +18,7 @@ use std::alloc::AllocError;
 
 /// A part that takes streams and gives streams, an item at a time.
 ///
-/// It need not keep what it was fed and gave: `stands` of its view ties its state to each past that can be behind it, and
+/// It need not keep what it was fed and gave: `stands` of its view ties its state to each past that can lie before it, and
 /// every clause is owed for all of these.
 pub trait Machine {
     /// What it shows to contracts.
@@ -91,6 +92,6 @@ pub trait Machine {
         ensures waits { IsNone result → (past : Past) → (view self.old).stands past → (view self.new).stands past }
         ensures none_due { IsNone result → (past : Past) → (view self.old).stands past → (past.told ≡ past.task.tells past.feeds) ⊎ IsReading (view self.old) past };
 
-    /// What it owes, for each past that can be behind it.
+    /// What it owes, for each past that can lie before it.
     ghost laws: { (m : Self) → Laws (view m) };
 }

@@ -1,3 +1,4 @@
+//! A machine as a node: on wires, with a pass of the scheduler's cell.
 ghost use Rattle.std.specs.Prelude.{◌≡◌};
 
 mod grants;
@@ -28,7 +29,9 @@ pub struct Node<M> {
 /// No memory for the lists of a node: its machine and its pass, given back.
 #[derive(Drop)]
 pub struct NodeRefused<M> {
+    /// The machine, as it was.
     pub machine: M,
+    /// The pass, as it was.
     pub pass: Pass,
 }
 

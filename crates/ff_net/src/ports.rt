@@ -1,3 +1,4 @@
+//! The ports of a node.
 ghost use Rattle.std.specs.Prelude.{◌≡◌, ◌<◌, ◌↔◌, length, slice_set, true, false, None, Some, is_some, map, IfOk, IsTrue};
 ghost use Rattle.ff_net.specs.Ports.{in_at, out_at, AreDone};
 
@@ -7,7 +8,9 @@ use std::alloc::{AllocError, Global};
 /// An input of a node: its wire, and whether the node has finished it.
 #[derive(Drop)]
 pub struct InPort {
+    /// The number of its wire.
     pub wire: usize,
+    /// Whether the node has finished it.
     pub done: bool,
 }
 
@@ -15,11 +18,15 @@ pub struct InPort {
 /// goes there.
 #[derive(Drop)]
 pub struct OutPort {
+    /// The number of its wire.
     pub wire: usize,
+    /// The item that found no room on the wire yet.
     pub held: Option<Item>,
+    /// Whether nothing more goes there.
     pub done: bool,
 }
 
+/// An input on each of these wires, none of them finished.
 pub fn in_ports(alloc: Global, wires: &[usize]) -> Result<Vec<InPort>, AllocError>
     ensures { IfOk result (λ ports. ports.items ≡ map (λ w. record { wire = w; done = false }) wires.now) }
 {
@@ -32,6 +39,7 @@ pub fn in_ports(alloc: Global, wires: &[usize]) -> Result<Vec<InPort>, AllocErro
         .collect(alloc)
 }
 
+/// An output on each of these wires, none of them closed and none holding an item.
 pub fn out_ports(alloc: Global, wires: &[usize]) -> Result<Vec<OutPort>, AllocError>
     ensures { IfOk result (λ ports. ports.items ≡ map (λ w. record { wire = w; held = None; done = false }) wires.now) }
 {
@@ -45,6 +53,7 @@ pub fn out_ports(alloc: Global, wires: &[usize]) -> Result<Vec<OutPort>, AllocEr
         .collect(alloc)
 }
 
+/// The wire of an input.
 pub fn in_wire(ports: &Vec<InPort>, p: usize) -> usize
     requires { p < length ports.now.items }
     ensures { result ≡ (in_at ports.now.items p).wire }
@@ -52,6 +61,7 @@ pub fn in_wire(ports: &Vec<InPort>, p: usize) -> usize
     ports[p].wire
 }
 
+/// Whether an input was finished.
 pub fn in_done(ports: &Vec<InPort>, p: usize) -> bool
     requires { p < length ports.now.items }
     ensures { result ≡ (in_at ports.now.items p).done }
@@ -59,6 +69,7 @@ pub fn in_done(ports: &Vec<InPort>, p: usize) -> bool
     ports[p].done
 }
 
+/// The wire of an output.
 pub fn out_wire(ports: &Vec<OutPort>, p: usize) -> usize
     requires { p < length ports.now.items }
     ensures { result ≡ (out_at ports.now.items p).wire }
@@ -66,6 +77,7 @@ pub fn out_wire(ports: &Vec<OutPort>, p: usize) -> usize
     ports[p].wire
 }
 
+/// Whether nothing more goes on an output.
 pub fn out_done(ports: &Vec<OutPort>, p: usize) -> bool
     requires { p < length ports.now.items }
     ensures { result ≡ (out_at ports.now.items p).done }

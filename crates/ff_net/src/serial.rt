@@ -1,3 +1,4 @@
+//! A network run in one thread, one turn after another.
 ghost use Rattle.std.specs.Prelude.{◌≡◌, ℕ, ◌<◌, length, slice_index_or, []};
 ghost use Rattle.ff_net.specs.Nets.{IsUpward};
 ghost use Rattle.ff_net.specs.Pasts.{Task};

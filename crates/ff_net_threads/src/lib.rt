@@ -3,6 +3,7 @@
 #![tactic(auto)]
 
 mod links;
+/// Machines as the nodes of a network, run to its end.
 pub mod network;
 
 pub use links::{InEnd, Linked, OutEnd, Ran, Room, run_threads, settle_all};

@@ -1,3 +1,4 @@
+//! The scheduler's state as a cell that threads share.
 ghost use Rattle.std.specs.Prelude.{◌≡◌, ◌+◌, ◌-◌, ◌<◌, ◌≤◌, ◌^◌, true, false, List, length, slice_index, IfOk, OnErr, MatchResult};
 ghost use Rattle.crossbeam_utils.specs.Seq.{cell_view};
 ghost use Rattle.ff_frame.specs.declared.event.Event.{Event};

@@ -1,4 +1,4 @@
-// Which sources may be read: those for which the streams ask that lie furthest behind.
+//! The sources that may be read: those for which the trailing streams ask.
 ghost use Rattle.std.specs.Prelude.{◌≡◌, ◌↔◌, ◌⊎◌, ◌<◌, ◌≤◌, ℕ, Some, None, true, false};
 ghost use Rattle.std.specs.Prelude.{not, IfSome, IsNone, if◌then◌else◌};
 ghost use Rattle.ff_sched.specs.Bits.{mark_at};

@@ -1,4 +1,4 @@
-// The passes of a cell put together, and the history written from their logs.
+//! The close of a cell, where the history is written from the logs of its passes.
 ghost use Rattle.std.specs.Prelude.{◌≡◌, ◌≤◌, ◌^◌, length, slice_set, All, sum_by, IfOk, IfErr};
 ghost use Rattle.crossbeam_utils.specs.Seq.{cell_view};
 ghost use Rattle.ff_sched.specs.Histories.{all_in};
@@ -17,7 +17,9 @@ use std::sync::Wait;
 /// There is no memory for the history: the cell and its passes, given back.
 #[derive(Drop)]
 pub struct CloseRefused {
+    /// The cell, as it was.
     pub cell: SchedCell,
+    /// Its passes, as they were.
     pub passes: Vec<Pass>,
 }
 

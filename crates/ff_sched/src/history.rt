@@ -1,3 +1,4 @@
+//! The history of a run, in one order.
 ghost use Rattle.std.specs.Prelude.{◌≡◌};
 
 use ff_frame::Event;
@@ -19,6 +20,7 @@ impl Model for History {
 }
 
 impl History {
+    /// The events, the first one first.
     pub fn events(&self) -> &[Event]
         ensures { result.now ≡ self.now }
     {

@@ -1,10 +1,10 @@
 //! The scheduler: which sources may be read next, and the one history of what happened.
 //!
-//! The output stream that lies furthest behind decides: its source may be read, and the sources of all streams that are less
+//! The output stream that trails furthest decides: its source may be read, and the sources of all streams that are less
 //! than 100,000 microseconds ahead of it. A stream says how far it is when a packet of it is taken to be written. Where it
 //! hangs on a graph, the way to its source goes through the input that the graph waits for.
 //!
-//! The state of this lies in a cell of 20 words that all workers of a run share. A worker has a pass of the cell: the right
+//! The state of this lies in a cell of 20 machine words that all workers of a run share. A worker has a pass of the cell: the right
 //! to add so many events, and the log of those that it added. Each event is one exchange of the words; a grant is one that is
 //! made only where the words unchoke its source. Once the passes are together again, their logs are the history.
 //!
@@ -22,7 +22,7 @@
 //!            History: 0 Grant, 1 Sent, 2 .., 3 .., 4 ..
 //! ```
 //!
-//! What a pass knows of the history is the front of it that the pass has seen. Nothing is known across two passes before
+//! What a pass knows of the history is the prefix of it that the pass has seen. Nothing is known across two passes before
 //! [`SchedCell::close`] has put all of them together. That a choked source is ever granted isn't promised.
 #![tactic(auto)]
 

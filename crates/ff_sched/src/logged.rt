@@ -1,3 +1,4 @@
+//! Events with their places in the history.
 use ff_frame::Event;
 
 /// An event at its place in the history: an entry of the log of a pass.
@@ -5,5 +6,6 @@ use ff_frame::Event;
 pub struct Logged {
     /// How many events come before it.
     pub place: u64,
+    /// The event.
     pub event: Event,
 }

@@ -1,3 +1,4 @@
+//! The scheduler in its plain form, without a cell, which no program calls.
 ghost use Rattle.std.specs.Prelude.{◌≡◌, ◌<◌, ◌^◌, true, false, [], IfOk, OnErr};
 ghost use Rattle.ff_sched.specs.Routes.{AreRoutes};
 ghost use Rattle.ff_sched.specs.Events.{IsInRange, IsTold};

@@ -1,3 +1,4 @@
+//! Passes, each a right to add events to a cell.
 ghost use Rattle.std.specs.Prelude.{◌≡◌, ◌≤◌, IsOk, OnOk, OnErr, length};
 
 use crate::logged::Logged;

@@ -1,4 +1,4 @@
-// The text of a history.
+//! The printer of histories.
 ghost use Rattle.std.specs.Prelude.{◌≡◌, ◌++◌, IfOk, OnOk, string_bytes};
 ghost use Rattle.ff_sched.specs.Printing.{event_line, one_number, two_numbers, printed};
 
@@ -38,7 +38,7 @@ fn add_line(alloc: Global, text: &mut Vec<u8>, event: Event) -> Result<(), Alloc
     text.extend_from_slice(line.as_bytes())
 }
 
-/// The text of a history: a line for each event.
+/// A history as a string: a line for each event.
 pub fn print_history(alloc: Global, history: &History) -> Result<Vec<u8>, AllocError>
     ensures { IfOk result (λ text. text.items ≡ printed history.now) }
 {

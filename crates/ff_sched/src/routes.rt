@@ -1,3 +1,4 @@
+//! The routes from the output streams to the sources that feed them.
 ghost use Rattle.std.specs.Prelude.{◌≡◌, ◌≤◌, true, false, All, length, slice_get};
 ghost use Rattle.ff_sched.specs.Ways.{way_in};
 ghost use Rattle.ff_sched.specs.Routes.{AreRoutes};
@@ -48,6 +49,7 @@ impl Ways {
         self.items
     }
 
+    /// How many ways there are.
     pub fn len(&self) -> usize
         ensures { result ≡ length self.now }
     {
@@ -92,6 +94,7 @@ impl Graphs {
         self.items
     }
 
+    /// How many graphs there are.
     pub fn len(&self) -> usize
         ensures { result ≡ length self.now }
     {

@@ -1,4 +1,4 @@
-// The rule of the cell.
+//! The protocol of the cell: which exchanges are legal, and what each pass learns by its own.
 use crate::logged::Logged;
 use crate::routes::Routes;
 use crate::state::SchedState;
@@ -13,12 +13,19 @@ use std::marker::{Brand, PhantomData};
 /// What a pass knows: once the cell is open its routes and its opening state; how many events it may add, the history that
 /// it has seen, what it and the passes that were put to it had seen before, and its own entries. No value of it is made.
 pub struct View {
+    /// Whether the cell is open, so that its routes and its opening state are fixed.
     pub opened: bool,
+    /// The routes of the cell.
     pub routes: Routes,
+    /// The state in which the cell was opened.
     pub opening: SchedState,
+    /// How many events it may add in all.
     pub share: u64,
+    /// The prefix of the history that it has seen.
     pub seen: LinkedList<Event>,
+    /// The prefixes that it and the passes that were put to it had seen before.
     pub sights: LinkedList<LinkedList<Event>>,
+    /// The entries of the history that it added.
     pub mine: LinkedList<Logged>,
 }
 
@@ -142,6 +149,8 @@ impl<E: Named> Outcome<[u64; 20], View> for Tells<E> {
     ghost then = { Exchanges E.event };
 }
 
+/// The cell of 20 machine words, under the rule of one history.
 pub type Cell = RuledSeqCell<[u64; 20], View, OneHistory, 20>;
 
+/// A pass of the cell, as the cell's own crate has it.
 pub type Seat = seq_cell::Pass<[u64; 20], View>;

@@ -1,3 +1,4 @@
+//! The scheduler's state, and one step of it.
 ghost use Rattle.std.specs.Prelude.{◌≡◌, ◌+◌, ◌<◌, ◌^◌};
 ghost use Rattle.ff_sched.specs.Events.{step_of, IsSmall};
 ghost use Rattle.ff_sched.specs.State.{last_at, finished_at, exited_at, best_at, opening_of};

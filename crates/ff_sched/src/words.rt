@@ -1,5 +1,5 @@
-// The words of the cell: 16 of last dts (all ones for none), one of marks (streams in bits 0 to 15, sources in bits 16 to
-// 31), one of best inputs (4 bits a graph), the count, and one that stays 0.
+//! The 20 machine words of the cell: 16 of last dts (all ones for none), one of marks, one of best inputs, the count,
+//! and one that stays 0.
 ghost use Rattle.std.specs.Prelude.{◌≡◌, ◌≢◌, ◌+◌, ◌<◌, ◌^◌, ℕ};
 ghost use Rattle.std.specs.Prelude.{length, slice_index, if◌then◌else◌};
 ghost use Rattle.std.specs.Int.{bit_at};
@@ -9,10 +9,13 @@ ghost use Rattle.ff_sched.specs.Events.{step_of, IsSmall};
 
 use ff_frame::Event;
 
+/// The number of the word of marks: streams that finished in bits 0 to 15, sources that exited in bits 16 to 31.
 pub const MARKS: usize = 16;
 
+/// The number of the word of best inputs, 4 bits a graph.
 pub const BEST: usize = 17;
 
+/// The number of the word that counts the events.
 pub const COUNT: usize = 18;
 
 // The word with this bit so.

@@ -1,4 +1,4 @@
-// A new link.
+//! New links.
 ghost use Rattle.std.specs.Prelude.{◌≡◌, ◌≤◌, IfOk, true};
 ghost use Rattle.ff_link.specs.Views.{new_sender, new_receiver};
 

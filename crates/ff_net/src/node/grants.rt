@@ -1,4 +1,4 @@
-// How a source is granted what it may read.
+//! The grants by which a source node reads.
 ghost use Rattle.std.specs.Prelude.{◌≡◌, ◌<◌, ◌≤◌, ◌+◌, ◌⊎◌, ℕ, ◌++◌, ◌∷◌, [], length, true, false, None, Some, is_some};
 ghost use Rattle.ff_net.specs.declared.wires.Wires.{Wires};
 ghost use Rattle.ff_net.specs.Logs.{WasChoked, PassStep, tickets_in};
@@ -14,7 +14,7 @@ use crate::ports::all_out_done;
 use ff_sched::{Grant, Pass, SchedCell};
 use std::sync::Wait;
 
-// Makes room for one event more, and says whether there is some.
+/// Makes room for one event more, and says whether there is some.
 pub fn has_room(pass: &mut Pass) -> bool
     ensures same { pass.new ≡ record pass.old { spare = pass.new.spare } }
     ensures room { result ≡ true → (1 ≤ pass.new.spare) × (length pass.new.log < pass.new.share) }

@@ -1,4 +1,4 @@
-// What a node does at one port. Each clause `stepped` says what it keeps.
+//! The steps of a node at one port. Each clause `stepped` says what it keeps.
 ghost use Rattle.std.specs.Prelude.{◌≡◌, ◌≢◌, ◌<◌, ◌⊎◌, ℕ, length, true, false, None, IsTrue, is_some};
 ghost use Rattle.ff_net.specs.declared.wires.Wires.{Wires};
 ghost use Rattle.ff_net.specs.Ports.{in_at, out_at, AreDone};

@@ -1,4 +1,4 @@
-// How a node tells the events of its machine.
+//! The events of a machine, told to the scheduler by its node.
 ghost use Rattle.std.specs.Prelude.{◌≡◌, ◌<◌, ◌⊎◌, ℕ, length, true, false, Some, IsNone};
 ghost use Rattle.ff_net.specs.declared.wires.Wires.{Wires};
 ghost use Rattle.ff_frame.specs.declared.event.Event.{Event};

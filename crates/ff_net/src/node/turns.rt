@@ -1,4 +1,4 @@
-// A turn of a node.
+//! One turn of a node.
 ghost use Rattle.std.specs.Prelude.{◌≡◌, ◌<◌, ◌≤◌, ◌+◌, ◌⊎◌, ℕ, Bool, length, true, false, IsTrue};
 ghost use Rattle.ff_stream.specs.Ports.{IsClosed};
 ghost use Rattle.ff_net.specs.declared.wires.Wires.{Wires};
@@ -20,7 +20,9 @@ use std::sync::Wait;
 /// What a node is ready for: whether an output holds an item, and whether a ticket was allowed.
 #[derive(Clone, Copy)]
 pub struct Ready {
+    /// Whether an output holds an item.
     pub due: bool,
+    /// Whether a ticket was allowed.
     pub granted: bool,
 }
 

@@ -1,5 +1,5 @@
-// How the workers at the two ends of a link wake each other, and how one that tells the scheduler something wakes those that
-// wait for a grant. No claim rests on it: a worker that nobody wakes goes on when its sleep ends.
+//! Bells, by which workers wake each other when a link or the scheduler has something for them. No claim rests on
+//! them: a worker that nobody wakes goes on when its sleep ends.
 use std::alloc::{AllocError, Global};
 use std::sync::Wait;
 use std::sync::atomic::{AtomicBool, AtomicU64, Ordering};
@@ -26,7 +26,7 @@ struct Bell {
     grant: AtomicBool,
 }
 
-/// A bell for each worker and behind them one for the caller, and what the workers at each link ask of each other, by the
+/// A bell for each worker and after them one for the caller, and what the workers at each link ask of each other, by the
 /// number of its wire.
 #[derive(Drop)]
 pub struct Bells {

@@ -1,4 +1,4 @@
-// The ends of links at the wires of a node.
+//! The ends of links at the wires of a node.
 ghost use Rattle.std.specs.Prelude.{◌≡◌, ◌≢◌, ◌<◌, ◌⊎◌, ◌^◌, ℕ, length, slice_index_or, true, false, [], ◌∷◌, None, is_some};
 ghost use Rattle.ff_net.specs.declared.wires.Wires.{Wires};
 ghost use Rattle.ff_net.specs.Pasts.{Past};
@@ -17,18 +17,26 @@ use std::sync::Wait;
 /// The end of a link that takes, at a wire of the node.
 #[derive(Drop)]
 pub struct InEnd {
+    /// The number of the node's wire.
     pub wire: usize,
+    /// The receiver, until it is finished.
     pub taking: Option<Receiver>,
+    /// What the receiver left, once it is finished.
     pub finished: Option<Finished>,
+    /// The item that was taken from the link and isn't on the wire yet.
     pub held: Option<Item>,
 }
 
 /// The end of a link that sends, at a wire of the node.
 #[derive(Drop)]
 pub struct OutEnd {
+    /// The number of the node's wire.
     pub wire: usize,
+    /// The sender.
     pub sender: Sender,
+    /// The item that was taken from the wire and isn't on the link yet.
     pub held: Option<Item>,
+    /// Whether nothing more goes on the link.
     pub done: bool,
 }
 

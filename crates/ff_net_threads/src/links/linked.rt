@@ -1,4 +1,4 @@
-// A node with the ends of its links.
+//! A node with the ends of its links.
 ghost use Rattle.std.specs.Prelude.{◌≡◌, ◌<◌, ◌≤◌, ◌+◌, ◌⊎◌, ℕ, length, slice_index_or, true, false, None, Some};
 ghost use Rattle.ff_stream.specs.Ports.{IsClosed};
 ghost use Rattle.ff_net_threads.specs.links.Ends.{in_end_at, taken_of};

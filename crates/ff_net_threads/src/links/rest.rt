@@ -1,11 +1,11 @@
-// How a worker waits. It never yields: on a busy machine a yield gives the processor away for a whole slice of another
-// program, and a sleep from which it is woken doesn't.
+//! The rest of a worker that has nothing to do. It never yields: on a busy machine a yield gives the processor away
+//! for a whole slice of another program, and a sleep from which it is woken doesn't.
 
-// After so many turns that moved nothing a worker whose link is full no longer spins: it has time, since its receiver has
-// the whole link to take from.
+/// After so many turns that moved nothing a worker whose link is full no longer spins: it has time, since its receiver has
+/// the whole link to take from.
 pub const SPINS_FOR_ROOM: u32 = 2;
 
-// One with nothing to take holds up all that come after it.
+/// One with nothing to take holds up all that come after it.
 pub const SPINS_FOR_ITEMS: u32 = 50;
 
 // The first sleeps of a rest are short, and the others long: a neighbour rings where there is something to do, so what is
@@ -19,6 +19,7 @@ const LONG: u64 = 32;
 /// What a worker does after a turn that moved nothing.
 #[derive(Drop)]
 pub enum Step {
+    /// It tries again at once.
     Spin,
     /// It asks to be woken, and tries once more.
     Ask,
@@ -34,6 +35,7 @@ pub struct Rest {
 }
 
 impl Rest {
+    /// The rest of a worker whose last turn moved something.
     pub fn new() -> Rest {
         Rest {
             idle: 0,

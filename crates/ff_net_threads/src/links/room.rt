@@ -1,4 +1,4 @@
-// The memory in which links are settled, taken before the nodes run.
+//! The memory in which links are settled, taken before the nodes run.
 ghost use Rattle.std.specs.Prelude.{◌≡◌, ◌<◌, ◌≤◌, ℕ, [], length, slice_index_or, vec_capacity, None, IfOk};
 
 use ff_link::{Sender, Settled};

@@ -1,4 +1,4 @@
-// The links of nodes that have ended, settled.
+//! The links of nodes that have ended, settled.
 ghost use Rattle.std.specs.Prelude.{◌≡◌, ◌<◌, ◌≤◌, ℕ, List, [], length, slice_index_or, vec_len, vec_capacity, None, Some};
 ghost use Rattle.ff_stream.specs.declared.item.Lane.{Lane};
 ghost use Rattle.ff_net.specs.Nets.{IsUpward};

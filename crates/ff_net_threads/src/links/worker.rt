@@ -1,4 +1,4 @@
-// A worker for one node, which the caller turns where no thread can be started.
+//! A worker for one node, which the caller turns where no thread can be started.
 ghost use Rattle.std.specs.Prelude.{◌≡◌};
 ghost use Rattle.ff_net_threads.specs.declared.links.linked.Linked.{Linked};
 ghost use Rattle.ff_net.specs.Nodes.{IsOf};
@@ -20,7 +20,9 @@ use std::thread::{Promise, PromisedHandle, Scope, Threads};
 /// What a worker gives back: the node, and whether it was turned until it was done.
 #[derive(Drop)]
 pub struct Back<M> {
+    /// The node.
     pub node: Linked<M>,
+    /// Whether it was turned until it was done.
     pub done: bool,
 }
 
@@ -37,7 +39,9 @@ impl<M: Machine> Promise<Back<M>> for CameFrom<M> {
 /// A node with its thread, or here.
 #[derive(Drop)]
 pub enum Worker<M: Machine> {
+    /// The node is in a thread of its own.
     Runs(PromisedHandle<Back<M>, CameFrom<M>>),
+    /// The node is here, where no thread could be started.
     Here(Back<M>),
 }
 

@@ -1,4 +1,4 @@
-// What fits the edges of a plan.
+//! Laws of edges that fit the nodes of a plan. Each is a function that does nothing: its clauses hold of all values.
 ghost use Rattle.std.specs.Prelude.{◌<◌, ℕ, List};
 ghost use Rattle.ff_stream.specs.declared.edges.edge.Edge.{Edge};
 ghost use Rattle.ff_stream.specs.edges.Ports.{shape_of, IsFed, HasIns, HasOuts};

@@ -1,4 +1,4 @@
-// A machine with any number of ports, on new links.
+//! A machine with any number of ports, on new links.
 ghost use Rattle.std.specs.Prelude.{◌≡◌, ℕ, All, [], length, IfOk, IfErr};
 ghost use Rattle.ff_net.specs.Nodes.{pass_of};
 ghost use Rattle.ff_net.specs.Pasts.{IsIn};

@@ -1,4 +1,4 @@
-// Nodes on links, each in a thread of its own.
+//! A network run to its end, each node in a thread of its own.
 ghost use Rattle.std.specs.Prelude.{◌≡◌, ◌<◌, ◌≤◌, ◌^◌, ◌++◌, ◌∷◌, [], ℕ, All, List, length, sum_by, true};
 ghost use Rattle.std.specs.Prelude.{vec_len, vec_capacity, IfOk, IfErr, IfSome};
 ghost use Rattle.ff_stream.specs.declared.item.Lane.{Lane};
@@ -28,13 +28,16 @@ use std::thread::Threads;
 /// What went wrong, and at which node, by number from 0.
 #[derive(Clone, Copy, Debug, PartialEq, Eq)]
 pub struct NodeFault {
+    /// The number of the node, from 0.
     pub node: u32,
+    /// What went wrong there.
     pub fault: Fault,
 }
 
 /// What became of the machines of a network, in the order of the nodes.
 #[derive(Drop)]
 pub struct Ran<M> {
+    /// The machines.
     pub machines: Vec<M>,
     /// The fault of the first node that has one.
     pub fault: Option<NodeFault>,
@@ -45,6 +48,7 @@ pub struct Ran<M> {
 /// What became of nodes on links, in their order.
 #[derive(Drop)]
 pub struct Ended<M> {
+    /// The machines.
     pub machines: Vec<M>,
     /// Their passes. In the list is room for one more.
     pub passes: Vec<Pass>,

@@ -1,4 +1,4 @@
-// New links, one for each edge.
+//! New links, one for each edge.
 ghost use Rattle.std.specs.Prelude.{◌≡◌, ◌≤◌, Some, IfOk};
 ghost use Rattle.ff_net_threads.specs.network.Tables.{AreEnds, AreTables};
 
@@ -9,7 +9,9 @@ use std::alloc::{AllocError, Global};
 /// The ends of links, by the numbers of the edges.
 #[derive(Drop)]
 pub struct Tables {
+    /// The sender of each edge's link, until it is taken.
     pub senders: Vec<Option<Sender>>,
+    /// The receiver of each edge's link, until it is taken.
     pub receivers: Vec<Option<Receiver>>,
 }
 

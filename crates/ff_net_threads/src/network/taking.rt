@@ -1,4 +1,4 @@
-// The ends of a node, taken out of the tables.
+//! The link ends of one node, taken out of the tables.
 ghost use Rattle.std.specs.Prelude.{◌≡◌, ◌<◌, ◌≤◌, ℕ, [], length, slice_index_or, vec_capacity, Option, Some};
 ghost use Rattle.ff_net.specs.Nodes.{AreApart};
 ghost use Rattle.ff_net.specs.Pasts.{IsIn};

@@ -1,4 +1,4 @@
-// Machines as nodes on new links, one for each edge.
+//! Machines as nodes on new links, one for each edge.
 ghost use Rattle.std.specs.Prelude.{◌≡◌, ◌≤◌, ◌<◌, ◌+◌, ◌^◌, [], ◌∷◌, ◌++◌, length, vec_capacity, IfOk, IfErr};
 ghost use Rattle.std.specs.Vec.Iter.{into_iter_items};
 ghost use Rattle.ff_sched.specs.Passing.{IsFirst};
@@ -27,7 +27,7 @@ pub fn into_machines<M: Machine + Drop>(nodes: Vec<Linked<M>>, mut machines: Vec
     machines
 }
 
-// The machines of nodes, and behind them these.
+// The machines of nodes, and after them these.
 fn gathered<M: Machine + Drop>(
     machines: Vec<M>,
     nodes: Vec<Linked<M>>,
