@@ -1,3 +1,4 @@
+//! The filter `asetpts`.
 ghost use Rattle.std.specs.Prelude.{IfOk, IfErr};
 ghost use Rattle.ff_filter.specs.Options.{is_sound, IsMade, IsRefused};
 ghost use Rattle.ff_filter.specs.Plain.{IsRebase, rebase_view};

@@ -1,3 +1,4 @@
+//! The filter `asplit`.
 ghost use Rattle.std.specs.Prelude.{IfOk, IfErr};
 ghost use Rattle.ff_filter.specs.Options.{is_sound, IsRefused};
 ghost use Rattle.ff_filter.specs.spread.Many.{AreMade};

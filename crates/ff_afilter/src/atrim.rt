@@ -1,3 +1,4 @@
+//! The filter `atrim`.
 ghost use Rattle.std.specs.Prelude.{◌≡◌, ◌+◌, ◌-◌, ◌*◌, ◌/◌, ◌<◌, ◌≤◌, ◌^◌, pos, length, IfOk, IfErr, IfSome, Some, false};
 ghost use Rattle.ff_stream.specs.declared.item.Item.{Item};
 ghost use Rattle.ff_stream.specs.declared.item.Item.TheVariants.{Audio};
@@ -16,7 +17,7 @@ use ff_lang::Arg;
 use ff_stream::{Item, Refused};
 use std::alloc::Global;
 
-/// `atrim`: the sound from a start to below an end, cut at the sample frame. The output ends with the first frame that ends
+/// `atrim`: the audio from a start to below an end, cut at the sample frame. The output ends with the first frame that ends
 /// at or past the end.
 #[derive(Drop)]
 pub struct ATrim {
@@ -70,7 +71,7 @@ impl ATrim {
         Some(Item::Audio(frame))
     }
 
-    // What is kept of a frame, and how the output stands behind it.
+    // What is kept of a frame, and how the output stands after it.
     fn cut(&self, frame: AFrame) -> Given
         ensures item { listed_option result.item ≡ kept self.now.range (Audio frame) }
         ensures after { result.after ≡ after_if (ends_past self.now.range (Audio frame)) }
@@ -132,7 +133,7 @@ impl ATrim {
     ghost use Rattle.ff_filter.specs.Options.{IsMade, IsRefused};
     ghost use Rattle.ff_afilter.specs.Trims.{IsATrim, atrim_view, at_once as over_at_once};
 
-    // An item that isn't sound stays as it is.
+    // An item that isn't audio stays as it is.
     fn passed(item: Item) -> Given
         ensures item { result.item ≡ Some item }
         ensures after { result.after ≡ More }

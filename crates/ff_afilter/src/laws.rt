@@ -17,20 +17,20 @@ ghost use Rattle.ff_filter.specs.spread.Valid.{GivesValid};
 ghost use Rattle.ff_afilter.specs.Channels.{channel_item};
 ghost use Rattle.ff_afilter.specs.Trims.{sound_trimmed};
 
-/// Of a valid stream of sound what lies within a range is in shape for the same way; an unbroken one doesn't break off.
+/// Of a valid audio stream what lies within a range is in shape for the same way; an unbroken one doesn't break off.
 pub fn sound_kept_is_sound()
     ensures { (tb : Fraction) (rate bits channels : ℕ) (codec : Codec) (range : Range)
         → IsSound (Frames (AudioHead tb rate bits channels codec)) (Frames (AudioHead tb rate bits channels codec)) (λ s. sound_trimmed range s) }
 {}
 
-/// Each channel of a valid stream of sound is a valid stream, so that no limit cuts it; that of an unbroken one doesn't break
+/// Each channel of a valid audio stream is a valid stream, so that no limit cuts it; that of an unbroken one doesn't break
 /// off.
 pub fn channels_are_valid()
     ensures { (tb : Fraction) (rate bits channels : ℕ) (codec : Codec) (q : ℕ) → q < channels
         → GivesValid (Frames (AudioHead tb rate bits channels codec)) (Frames (AudioHead tb rate bits 1 codec)) (λ s. map_stream (channel_item q) s) }
 {}
 
-/// The filters of sound keep the broken rule: a broken input counts as open without a further item, and the output is broken
+/// The audio filters keep the broken rule: a broken input counts as open without a further item, and the output is broken
 /// exactly where it is broken off.
 pub fn sound_keeps_the_broken_rule()
     ensures same { (lane : Lane)

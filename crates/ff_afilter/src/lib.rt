@@ -1,12 +1,12 @@
-//! Filters of sound with one input.
+//! Audio filters with one input.
 //!
 //! ```text
 //!   arguments, heads ──► T::configure ──► its machine, the heads of its outputs
 //!                                          feed │ pull │ stop │ spent
 //! ```
 //!
-//! Each filter is a function on whole streams, in `specs/`, behind the limits of every stream. `configure` says which
-//! function it is by its arguments, or refuses; its machine meets `ff_filter::Filter`. A tick of a stream of sound is a
+//! Each filter is a function on whole streams, in `specs/`, within the limits of every stream. `configure` says which
+//! function it is by its arguments, or refuses; its machine meets `ff_filter::Filter`. A tick of an audio stream is a
 //! sample frame.
 #![tactic(auto)]
 

@@ -1,9 +1,10 @@
+//! The state of an output stream after an item.
 ghost use Rattle.std.specs.Prelude.{◌≡◌};
 ghost use Rattle.ff_filter.specs.Made.{closing};
 
 use ff_stream::Item;
 
-/// How a stream goes on behind an item.
+/// How a stream goes on after an item.
 #[derive(Clone, Copy, PartialEq, Eq, Debug)]
 pub enum After {
     /// More may come.

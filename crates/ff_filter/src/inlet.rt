@@ -1,3 +1,4 @@
+//! An input that keeps items until they can be used.
 ghost use Rattle.std.specs.Prelude.{◌≡◌, ◌<◌, ◌≤◌, [], length, false, true, OnOk};
 ghost use Rattle.std.specs.VecDeque.{deque_len, deque_capacity};
 ghost use Rattle.ff_stream.specs.declared.item.Item.{Item};
@@ -29,7 +30,7 @@ pub enum Next {
 pub struct Inlet {
     /// The items, the next one first.
     pub queue: VecDeque<Item>,
-    /// How the input stands behind them.
+    /// How the input stands after them.
     pub after: After,
     pub ghost unclosed: { none_closes queue.items ≡ true },
 }

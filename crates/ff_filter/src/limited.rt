@@ -1,3 +1,4 @@
+//! The limits of every stream, put on a function of one stream.
 ghost use Rattle.std.specs.Prelude.{◌≡◌, ◌≤◌, ◌<◌, ◌*◌, ◌/◌, ◌^◌, ◌≤ℤ◌, pos, negsuc, nat_lt, refl, Option, IsTrue};
 ghost use Rattle.ff_frame.specs.Heads.{base_of_head};
 ghost use Rattle.ff_stream.specs.Times.{end_of, ticks};
@@ -19,7 +20,7 @@ const LAST_SECOND: u128 = 1_000_000_000;
 
 const MOST_ITEMS: u64 = 1 << 40;
 
-/// A function of one stream, with the limits of every stream behind it: its output breaks off before the item number 2^40
+/// A function of one stream, cut at the limits of every stream: its output breaks off before the item number 2^40
 /// (counted from 0), and before an item that ends past 1,000,000,000 seconds.
 #[derive(Drop)]
 pub struct Limited<A: Step> {

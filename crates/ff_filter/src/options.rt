@@ -1,3 +1,4 @@
+//! The reading of a filter's arguments, and the checks of its input's head.
 ghost use Rattle.std.specs.Prelude.{◌≡◌, ◌↔◌, ◌<◌, ◌≤◌, ◌^◌, ℕ, length, IfSome, IsNone, Some, false};
 ghost use Rattle.ff_filter.specs.Options.{Manual, named, option_of as option_at, AreRead, IsTime, digits_from, number_of, only_head, is_sound, is_video, AreSet};
 
@@ -41,7 +42,7 @@ fn option_of<S: Settings>(arg: &Arg, keyed: bool, place: usize) -> Option<usize>
 }
 
 /// What the arguments make of these settings. The first one at fault refuses all: `UnknownOption` for a key that the filter
-/// doesn't have, too many arguments by place, or one without a key behind one with a key; `BadOption` for a value that the
+/// doesn't have, too many arguments by place, or one without a key after one with a key; `BadOption` for a value that the
 /// option doesn't take.
 pub fn read_args<S: Settings>(settings: S, args: &[Arg]) -> Result<S, ConfigError>
     ensures read { AreRead S.manual false 0 settings args.now result }
@@ -102,7 +103,7 @@ pub fn read_number(text: &str, most: usize) -> Option<u64>
     None
 }
 
-// The head of the only input, which has to be video. `Pads` where there isn't one input, `Kind` where it is sound.
+// The head of the only input, which has to be video. `Pads` where there isn't one input, `Kind` where it is audio.
 fn only_video(heads: &[StreamHead]) -> Result<StreamHead, ConfigError>
     ensures { result ≡ only_head is_video heads.now }
 {
@@ -115,7 +116,7 @@ fn only_video(heads: &[StreamHead]) -> Result<StreamHead, ConfigError>
     }
 }
 
-// The head of the only input, which has to be sound. `Pads` where there isn't one input, `Kind` where it is video.
+// The head of the only input, which has to be audio. `Pads` where there isn't one input, `Kind` where it is video.
 fn only_sound(heads: &[StreamHead]) -> Result<StreamHead, ConfigError>
     ensures { result ≡ only_head is_sound heads.now }
 {
@@ -129,7 +130,7 @@ fn only_sound(heads: &[StreamHead]) -> Result<StreamHead, ConfigError>
 }
 
 /// The head of the only input, which has to be video, and the settings that the arguments make. `Pads` where there isn't
-/// one input, then `Kind` where it is sound, then as `read_args`.
+/// one input, then `Kind` where it is audio, then as `read_args`.
 pub fn video_settings<S: Settings>(
     settings: S,
     args: &[Arg],
@@ -146,7 +147,7 @@ pub fn video_settings<S: Settings>(
     }
 }
 
-/// The head of the only input, which has to be sound, and the settings that the arguments make. `Pads` where there isn't
+/// The head of the only input, which has to be audio, and the settings that the arguments make. `Pads` where there isn't
 /// one input, then `Kind` where it is video, then as `read_args`.
 pub fn sound_settings<S: Settings>(
     settings: S,

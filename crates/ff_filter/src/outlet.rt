@@ -1,3 +1,4 @@
+//! An output, and the items that wait on it.
 ghost use Rattle.std.specs.Prelude.{◌≡◌, ◌<◌, ◌++◌, ◌∷◌, ◌||◌, [], OnOk, IfSome, Some, None, true, false};
 ghost use Rattle.std.specs.VecDeque.{deque_len, deque_capacity};
 ghost use Rattle.ff_stream.specs.declared.item.Item.{Item};
@@ -47,7 +48,7 @@ impl Outlet {
         self.queue.reserve(1)
     }
 
-    /// Puts an item that closes nothing behind the others, where it is wanted.
+    /// Puts an item that closes nothing after the others, where it is wanted.
     pub fn put(&mut self, item: Item)
         requires room { deque_len self.old.queue < deque_capacity self.old.queue }
         requires goes_on { closes item ≡ false }

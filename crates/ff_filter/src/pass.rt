@@ -1,3 +1,4 @@
+//! The function that gives each item as it came.
 ghost use Rattle.std.specs.Prelude.{◌≡◌, refl, false};
 ghost use Rattle.ff_stream.specs.declared.item.Lane.TheVariants.{Frames};
 ghost use Rattle.ff_stream.specs.Stream.{opened};

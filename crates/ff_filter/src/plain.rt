@@ -1,3 +1,4 @@
+//! The settings of filters with no option, and of `setpts` and `asetpts`.
 ghost use Rattle.std.specs.Prelude.{◌≡◌};
 
 use crate::options::Settings;

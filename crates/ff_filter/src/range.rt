@@ -1,3 +1,4 @@
+//! The range of times of `trim` and `atrim`.
 ghost use Rattle.std.specs.Prelude.{◌≡◌, ◌<◌, ◌≤◌, ◌^◌, None, Some};
 ghost use Rattle.std.specs.Option.{ForSome};
 

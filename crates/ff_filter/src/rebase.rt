@@ -1,3 +1,4 @@
+//! The function that takes the start of the first item from each time.
 ghost use Rattle.std.specs.Prelude.{◌≡◌, ◌-◌, ◌<◌, ◌^◌, pos, refl, false, Some};
 ghost use Rattle.ff_stream.specs.declared.item.Lane.TheVariants.{Frames};
 ghost use Rattle.ff_stream.specs.Stream.{opened, still_open, whole, broken};

@@ -1,3 +1,4 @@
+//! The trait of a function of one stream that gives at most one item for each.
 ghost use Rattle.std.specs.Prelude.{◌≡◌, OnErr, IfOk, IfErr, IfSome, false};
 ghost use Rattle.ff_stream.specs.declared.item.Item.TheVariants.{End, Broken};
 ghost use Rattle.ff_stream.specs.declared.item.Lane.{Lane};
@@ -10,7 +11,7 @@ ghost use Rattle.ff_filter.specs.Made.{made_of};
 use crate::after::After;
 use ff_stream::{Item, Refused};
 
-/// What a step gives for an item, and how the output stands behind it.
+/// What a step gives for an item, and how the output stands after it.
 #[derive(Drop)]
 pub struct Given {
     /// At most one item, which closes nothing.

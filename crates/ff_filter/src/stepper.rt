@@ -1,3 +1,4 @@
+//! The machine of a function that gives at most one item for each.
 ghost use Rattle.std.specs.Prelude.{◌≡◌, ◌↔◌, ◌||◌, [], not, OnOk, OnErr, IfErr, IsTrue, Some, true, false};
 ghost use Rattle.ff_filter.specs.Views.{closes, Fed, Same, IsSpent};
 ghost use Rattle.ff_filter.specs.Made.{stepper_view, is_over, steps_spent, closing};
@@ -17,7 +18,7 @@ pub struct Stepper<T> {
     pub step: T,
     /// What waits to be pulled.
     pub outlet: Outlet,
-    /// How the output stands behind what waits.
+    /// How the output stands after what waits.
     pub after: After,
     /// Whether the input has closed.
     pub shut: bool,

@@ -1,3 +1,4 @@
+//! The state of framesync, and the time of what it shows next.
 ghost use Rattle.std.specs.Prelude.{◌≡◌, ◌↔◌, ◌<◌, ◌≤◌, ◌^◌, ◌+◌, ℕ, Bool, ◌&&◌, ◌||◌, not, cond, nat_lt, List, length, IsTrue, IsNone, IfSome, IfOk, OnOk, OnErr, IfErr, Ok, Some, None, true, false};
 ghost use Rattle.ff_stream.specs.declared.item.Item.{Item};
 ghost use Rattle.ff_stream.specs.declared.item.Lane.TheVariants.{Frames};
@@ -15,8 +16,8 @@ use ff_frame::{StreamHead, VFrame};
 use ff_stream::{Item, Refused};
 use std::alloc::{AllocError, Global};
 
-/// The machine of framesync: it shows something of the pictures of its inputs at each time at which one of them starts a
-/// picture.
+/// The machine of framesync: it shows something of the frames of its inputs at each time at which one of them starts a
+/// frame.
 #[derive(Drop)]
 pub struct Framesync<S: Stack> {
     /// What is shown.
@@ -38,7 +39,7 @@ pub struct Framesync<S: Stack> {
 }
 
 impl<S: Stack> Framesync<S> {
-    // The first time, not before one, from which on each input has begun; None where one has no picture yet.
+    // The first time, not before one, from which on each input has begun; None where one has no frame yet.
     fn start(&self, from: u64) -> Option<u64>
         ensures none { IsNone result → NoneFrom self.now.head self.now.shortest self.now.inputs.items from }
         ensures start { IfSome result (λ lo. IsStart self.now.head self.now.shortest self.now.inputs.items from lo (length self.now.inputs.items)) }
@@ -53,7 +54,7 @@ impl<S: Stack> Framesync<S> {
         Some(lo)
     }
 
-    // The first time from one on at which an input starts a picture.
+    // The first time from one on at which an input starts a frame.
     fn least(&self, lo: u64) -> Option<u64>
         ensures { LeastOf self.now.head self.now.shortest self.now.inputs.items lo (length self.now.inputs.items) result }
     {
@@ -64,7 +65,7 @@ impl<S: Stack> Framesync<S> {
         least
     }
 
-    // Whether of each input it is known which picture is the last by a time.
+    // Whether of each input it is known which frame is the last by a time.
     fn is_known(&self, time: u64) -> bool
         ensures { result ≡ all_to (length self.now.inputs.items) (is_known (timing_of self.now.shortest self.now.inputs.items) (standing_of self.now.head self.now.inputs.items) time) }
     {

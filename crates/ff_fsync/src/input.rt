@@ -1,3 +1,4 @@
+//! An input of framesync, with the frames that may still be shown.
 ghost use Rattle.std.specs.Prelude.{◌≡◌, ◌<◌, ◌≤◌, ◌^◌, ℕ, ◌||◌, ◌&&◌, not, min, nat_lt, [], true, false, length, nat_le, IfErr, IfSome, IsNone, OnOk, OnErr};
 ghost use Rattle.std.specs.VecDeque.{deque_len, deque_capacity};
 ghost use Rattle.ff_stream.specs.declared.item.Lane.TheVariants.{Frames};
@@ -16,16 +17,16 @@ use std::alloc::{AllocError, Global};
 use std::collections::VecDeque;
 use std::mem::replace;
 
-/// An input of pictures, which keeps what may still be shown: the last picture that was shown, and those after it.
+/// An input of video, which keeps what may still be shown: the last frame that was shown, and those after it.
 #[derive(Drop)]
 pub struct Input {
     /// The head of its stream.
     pub head: StreamHead,
-    /// The pictures, at rising times.
+    /// The frames, at rising times.
     pub queue: VecDeque<VFrame>,
-    /// How the stream stands behind them.
+    /// How the stream stands after them.
     pub after: After,
-    /// The time from which on the next picture may start.
+    /// The time from which on the next frame may start.
     pub next: u64,
     pub ghost filled: { fills_to 0 (items_of queue.items) next ≡ true },
     pub ghost near: { next ≤ 2 ^ 63 },
@@ -58,14 +59,14 @@ impl Input {
         self.after == After::Whole
     }
 
-    /// Whether no picture came.
+    /// Whether no frame came.
     pub fn is_empty(&self) -> bool
         ensures { result ≡ none_waits (items_of self.now.queue.items) }
     {
         self.queue.is_empty()
     }
 
-    /// Makes room for one picture more.
+    /// Makes room for one frame more.
     pub fn reserve(&mut self) -> Result<(), AllocError>
         ensures queue { self.new.queue.items ≡ self.old.queue.items }
         ensures head { self.new.head ≡ self.old.head }
@@ -76,7 +77,7 @@ impl Input {
         self.queue.reserve(1)
     }
 
-    // Takes a picture in, where it starts after those before; another is let go.
+    // Takes a frame in, where it starts after those before; another is let go.
     fn take_frame(&mut self, frame: VFrame)
         requires room { deque_len self.old.queue < deque_capacity self.old.queue }
         requires open { self.old.after ≡ After.More }
@@ -93,7 +94,7 @@ impl Input {
         self.next = start + 1;
     }
 
-    /// Takes an item in. What isn't a picture that starts after those before is let go.
+    /// Takes an item in. What isn't a frame that starts after those before is let go.
     pub fn take_in(&mut self, item: Item)
         requires room { deque_len self.old.queue < deque_capacity self.old.queue }
         requires going { is_over self.old.after ≡ false }
@@ -127,7 +128,7 @@ impl Input {
         Ok(())
     }
 
-    /// Lets all its pictures go.
+    /// Lets all its frames go.
     pub(crate) fn clear(&mut self)
         ensures side { side_by self.new.head self.new.queue.items self.new.after self.new.next ≡ emptied (side_by self.old.head self.old.queue.items self.old.after self.old.next) }
     {
@@ -148,14 +149,14 @@ impl Input {
         discard(item);
     }
 
-    /// Whether some picture starts at or after a time.
+    /// Whether some frame starts at or after a time.
     pub fn reaches(&self, time: u64) -> bool
         ensures { result ≡ reaches (items_of self.now.queue.items) time }
     {
         time < self.next
     }
 
-    /// Whether it is known which of its pictures is the last by a time, and may be shown: one starts at or after it; or all
+    /// Whether it is known which of its frames is the last by a time, and may be shown: one starts at or after it; or all
     /// have come, and the output doesn't end with them.
     pub fn is_known(&self, time: u64, shortest: bool) -> bool
         ensures { result ≡ (reaches (items_of self.now.queue.items) time || (whole_mark (mark_after self.now.after) && not shortest)) }
@@ -181,7 +182,7 @@ impl Input {
         self.has_ended(ended) || next <= self.next
     }
 
-    /// Whether the output may end with it: all has come, or counts as if it had; and it has no picture, or the output ends
+    /// Whether the output may end with it: all has come, or counts as if it had; and it has no frame, or the output ends
     /// where it does.
     pub fn may_end(&self, ended: bool, shortest: bool) -> bool
         ensures { result ≡ (whole_if ended (mark_after self.now.after) && (shortest || none_waits (items_of self.now.queue.items))) }
@@ -203,7 +204,7 @@ impl Input {
         self.after == After::More && !self.reaches(time)
     }
 
-    /// Whether its first picture starts by a time.
+    /// Whether its first frame starts by a time.
     pub fn begins_by(&self, time: u64) -> bool
         ensures { result ≡ begun_by (items_of self.now.queue.items) time }
     {
@@ -214,7 +215,7 @@ impl Input {
     }
 
     /// Whether it is no hindrance to something further at a time: it has begun and is known there; or it is open, and has
-    /// begun by then or has no picture yet.
+    /// begun by then or has no frame yet.
     pub fn allows(&self, time: u64, shortest: bool) -> bool
         ensures { result ≡ ((begun_by (items_of self.now.queue.items) time && (reaches (items_of self.now.queue.items) time || (whole_mark (mark_after self.now.after) && not shortest))) || (open_mark (mark_after self.now.after) && (none_waits (items_of self.now.queue.items) || begun_by (items_of self.now.queue.items) time))) }
     {
@@ -241,7 +242,7 @@ impl Input {
         }
     }
 
-    /// When its first picture starts.
+    /// When its first frame starts.
     pub fn start(&self) -> Option<u64>
         ensures none { IsNone result → self.now.queue.items ≡ [] }
         ensures begun { IfSome result (λ s. (u : ℕ) → begun_by (items_of self.now.queue.items) u ≡ nat_le s u) }
@@ -253,7 +254,7 @@ impl Input {
         }
     }
 
-    /// When the first of its pictures starts that doesn't start before a time.
+    /// When the first of its frames starts that doesn't start before a time.
     pub fn start_from(&self, lo: u64) -> Option<u64>
         ensures next { IsNextIn (items_of self.now.queue.items) lo result }
         ensures near { IfSome result (λ t. t < 2 ^ 63) }
@@ -267,7 +268,7 @@ impl Input {
         None
     }
 
-    // Whether its second picture starts by a time.
+    // Whether its second frame starts by a time.
     fn second_by(&self, time: u64) -> bool
         ensures { result ≡ second_starts_by self.now.queue.items time }
     {
@@ -277,7 +278,7 @@ impl Input {
         }
     }
 
-    /// Lets its pictures go before the last one by a time.
+    /// Lets its frames go before the last one by a time.
     pub(crate) fn trim(&mut self, time: u64)
         requires begun { begun_by (items_of self.old.queue.items) time ≡ true }
         ensures trims { Trims time (side_by self.old.head self.old.queue.items self.old.after self.old.next) (side_by self.new.head self.new.queue.items self.new.after self.new.next) }
@@ -290,7 +291,7 @@ impl Input {
         }
     }
 
-    /// Hands out its first picture, and keeps its place by one without planes.
+    /// Hands out its first frame, and keeps its place by one without planes.
     pub(crate) fn lend(&mut self, alloc: Global) -> VFrame
         requires some { 0 < length self.old.queue.items }
         ensures { given_back result (side_by self.new.head self.new.queue.items self.new.after self.new.next)
@@ -300,7 +301,7 @@ impl Input {
         replace(&mut self.queue[0], place)
     }
 
-    /// Takes its first picture back.
+    /// Takes its first frame back.
     pub(crate) fn take_back(&mut self, picture: VFrame)
         requires fills { fills_to 0 (led_by picture (items_of self.old.queue.items)) self.old.next ≡ true }
         ensures { side_by self.new.head self.new.queue.items self.new.after self.new.next
@@ -313,7 +314,7 @@ impl Input {
     }
 }
 
-// A picture at the same time, without planes.
+// A frame at the same time, without planes.
 fn bare(alloc: Global, picture: &VFrame) -> VFrame
     ensures { result.pts ≡ picture.now.pts }
 {

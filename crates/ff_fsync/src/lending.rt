@@ -1,4 +1,4 @@
-// The pictures that are shown are moved out of the inputs for that time, and not copied.
+//! Frames moved out of the inputs while they are shown, so that none is copied.
 ghost use Rattle.std.specs.Prelude.{◌≡◌, ◌≤◌, length, IfOk, OnErr};
 ghost use Rattle.ff_stream.specs.declared.item.Lane.{Lane};
 ghost use Rattle.ff_fsync.specs.Inputs.{all_back};
@@ -9,7 +9,7 @@ use crate::input::Input;
 use ff_frame::VFrame;
 use std::alloc::{AllocError, Global};
 
-/// Moves the first picture of each input out. For want of memory each stays where it is.
+/// Moves the first frame of each input out. For want of memory each stays where it is.
 pub fn lend(inputs: &mut Vec<Input>, alloc: Global) -> Result<Vec<VFrame>, AllocError>
     requires begun { AreBegun (sides_of inputs.old.items) }
     ensures each { IfOk result (λ fs. length fs.items ≡ length inputs.old.items) }
@@ -24,7 +24,7 @@ pub fn lend(inputs: &mut Vec<Input>, alloc: Global) -> Result<Vec<VFrame>, Alloc
     Ok(pictures)
 }
 
-/// Puts pictures that were moved out back to the front of their inputs.
+/// Puts frames that were moved out back to the start of their inputs.
 pub fn restore(inputs: &mut Vec<Input>, mut pictures: Vec<VFrame>)
     requires no_more { length pictures.items ≤ length inputs.old.items }
     requires sound { (lane : Lane) → Sound lane (all_back pictures.items (sides_of inputs.old.items)) }

@@ -2,16 +2,16 @@
 //!
 //! ```text
 //!   input 0  ──a────────b──────────c───────►
-//!   input 1  ─────x─────────y──────────────►        shown: at each time at which an input starts a picture, of each
+//!   input 1  ─────x─────────y──────────────►        shown: at each time at which an input starts a frame, of each
 //!            ─────┬─────┬───┬──────┬───────►        the last one by then, once it is known which one that is
 //!                 ax    bx  by     cy
 //! ```
 //!
 //! Framesync is one part for any number of inputs: `specs/Synced` says on whole streams at which times something is shown, of
-//! which pictures, and when the output is whole or broken. Its machine keeps of each input the picture that is shown and
-//! those after it. What is shown of the pictures is said by a `Stack`.
+//! which frames, and when the output is whole or broken. Its machine keeps of each input the frame that is shown and
+//! those after it. What is shown of the frames is said by a `Stack`.
 //!
-//! `stacks`: Pictures of several inputs, side by side or one below the other.
+//! `stacks`: The frames of several inputs, side by side or one below the other.
 #![tactic(auto)]
 
 mod framesync;

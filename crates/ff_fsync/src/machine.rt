@@ -1,3 +1,4 @@
+//! The machine of framesync as a filter.
 ghost use Rattle.std.specs.Prelude.{◌≡◌, ◌||◌, ◌↔◌, ◌<◌, ◌≤◌, ◌^◌, ◌+◌, List, length, map, IsTrue, IfOk, OnOk, OnErr, IfErr, Ok, Some, None, true, false};
 ghost use Rattle.ff_stream.specs.declared.item.Item.{Item as AnItem};
 ghost use Rattle.ff_stream.specs.declared.item.Item.TheVariants.{Video};
@@ -17,7 +18,7 @@ use ff_stream::{Item, Refused};
 use std::alloc::AllocError;
 
 impl<S: Stack> Framesync<S> {
-    // Lets the pictures of each input go before the last one by the time of what is due.
+    // Lets the frames of each input go before the last one by the time of what is due.
     fn trim(&mut self, time: u64)
         requires due { IsDue (timing_of self.old.shortest self.old.inputs.items) self.old.from (standing_of self.old.head self.old.inputs.items) time }
         ensures led { AreLed self.old.head self.old.inputs.items self.new.inputs.items time (length self.old.inputs.items) }
@@ -35,7 +36,7 @@ impl<S: Stack> Framesync<S> {
 }
 
 impl<S: Stack> Framesync<S> {
-    /// Lets all pictures go that wait.
+    /// Lets all frames go that wait.
     pub(crate) fn let_go(&mut self)
         ensures cleared { KeepsNothing self.new }
         ensures emptied { AreEmptied self.old.head self.old.inputs.items self.new.inputs.items (length self.old.inputs.items) }

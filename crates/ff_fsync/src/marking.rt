@@ -1,3 +1,4 @@
+//! The state of the output after what was fed: open, whole or broken.
 ghost use Rattle.std.specs.Prelude.{◌≡◌, ◌<◌, ◌≤◌, ◌&&◌, ◌||◌, not, length, true, false};
 ghost use Rattle.ff_filter.specs.Made.{mark_after};
 ghost use Rattle.ff_fsync.specs.Ranges.{all_to, any_to};
@@ -121,7 +122,7 @@ impl<S: Stack> Framesync<S> {
         self.some_behind(time) && self.all_allow(time)
     }
 
-    /// How the output stands behind what is shown of all that came.
+    /// How the output stands after what is shown of all that came.
     pub fn mark(&self) -> After
         ensures { mark_after result ≡ synced_mark (timing_of self.now.shortest self.now.inputs.items) (standing_of self.now.head self.now.inputs.items) }
     {

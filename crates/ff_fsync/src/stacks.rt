@@ -1,4 +1,4 @@
-//! Pictures of several inputs, side by side or one below the other.
+//! The video frames of several inputs, side by side or one below the other.
 //!
 //! ```text
 //!   input 0  ──a────────b──────────c───────►
@@ -7,9 +7,9 @@
 //!                 ax    bx  by     cy               VStack   a above x, and so on
 //! ```
 //!
-//! Which pictures are shown together, and when, is framesync's (`ff_fsync`); how the planes of a stack lie is `ff_planes`'.
-//! `specs/stacks/Shapes` says what a picture of the stack is, `specs/stacks/Stacks` which stack arguments and heads make, or why they are
-//! refused, and `specs/stacks/Stacked` how its machine is seen, with the limits of every stream behind it.
+//! Which frames are shown together, and when, is framesync's (`ff_fsync`); how the planes of a stack lie is `ff_planes`'.
+//! `specs/stacks/Shapes` says what a frame of the stack is, `specs/stacks/Stacks` which stack arguments and heads make, or why they are
+//! refused, and `specs/stacks/Stacked` how its machine is seen, within the limits of every stream.
 
 mod configured;
 mod heads;

@@ -1,3 +1,4 @@
+//! Whole numbers that the arguments of `concat` and `join` give.
 ghost use Rattle.std.specs.Prelude.{◌≡◌, ◌≤◌, false, IfSome};
 ghost use Rattle.ff_filter.specs.Options.{option_of as option_at};
 ghost use Rattle.ff_joins.specs.Arguments.{ranged as ranged_of, or_else, gives, last_number as last_number_of, times_from};

@@ -1,3 +1,4 @@
+//! The machine of `concat`.
 ghost use Rattle.std.specs.Prelude.{◌≡◌, ◌↔◌, ◌<◌, length, IsTrue, true};
 ghost use Rattle.ff_filter.specs.Views.{IsSpent};
 ghost use Rattle.ff_joins.specs.Segmented.{over_at, segments_view, segments_spent, is_settled};

@@ -1,3 +1,4 @@
+//! The arguments of `concat`, and its configuration by the heads of its inputs.
 ghost use Rattle.std.specs.Prelude.{◌≡◌, ◌<◌, ◌∷◌, [], length, IfOk, IfErr, true, false};
 ghost use Rattle.ff_frame.specs.declared.config.ConfigError.TheVariants.{NoMemory};
 ghost use Rattle.ff_joins.specs.Arguments.{each_head};
@@ -19,7 +20,7 @@ pub struct ConcatSettings {
     pub inputs: usize,
     /// Whether they are asked to be video.
     pub video: bool,
-    /// Whether they are asked to be sound.
+    /// Whether they are asked to be audio.
     pub sound: bool,
     /// How many arguments that say the kind are still to come.
     pub kinds_left: usize,

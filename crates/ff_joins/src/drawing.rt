@@ -1,3 +1,4 @@
+//! The steps by which `concat` draws items from its current segment and goes on to the next.
 ghost use Rattle.std.specs.Prelude.{◌≡◌, ◌≢◌, ◌<◌, ◌≤◌, ◌+◌, ◌||◌, length, true, false, Some, None, Ok, OnOk, OnErr, IfErr, IfSome};
 ghost use Rattle.std.specs.VecDeque.{deque_len, deque_capacity};
 ghost use Rattle.ff_stream.specs.declared.item.Item.{Item as AnItem};
@@ -138,7 +139,7 @@ impl Segments {
         }
     }
 
-    // Keeps what comes of a segment behind the current one.
+    // Keeps what comes of a segment after the current one.
     fn keep(&mut self, port: usize, item: Item) -> Result<(), Refused>
         requires there { port < length self.old.inlets.items }
         requires open { over_at self.old.inlets.items port ≡ false }
@@ -172,7 +173,7 @@ impl Segments {
         Ok(())
     }
 
-    // Closes the current segment, and draws what waits behind it to the output.
+    // Closes the current segment, and draws what waits after it to the output.
     fn close(&mut self, item: Item, after: After) -> Result<(), Refused>
         requires says { closing item ≡ Some after }
         requires open { is_over_by self.old.after ≡ false }

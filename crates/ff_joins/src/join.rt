@@ -1,3 +1,4 @@
+//! The state of `join`.
 ghost use Rattle.std.specs.Prelude.{◌≡◌, ◌<◌, length, true};
 ghost use Rattle.ff_joins.specs.Lots.{lots, has_started};
 
@@ -23,7 +24,7 @@ pub struct Join {
     pub ended: bool,
     /// Whether the output isn't wanted any more.
     pub stopped: bool,
-    /// How the output stands behind what was given.
+    /// How the output stands after what was given.
     pub after: After,
     pub ghost there: { 0 < length inlets.items },
     pub ghost started: { has_started first (lots inlets.items 0) ≡ true },

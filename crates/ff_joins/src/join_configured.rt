@@ -1,3 +1,4 @@
+//! The configuration of `join` by its arguments and the heads of its inputs.
 ghost use Rattle.std.specs.Prelude.{◌≡◌, ◌<◌, ◌∷◌, [], length, IfOk, IfErr};
 ghost use Rattle.ff_frame.specs.declared.config.ConfigError.TheVariants.{NoMemory};
 ghost use Rattle.ff_filter.specs.Options.{IsMade, IsRefused};

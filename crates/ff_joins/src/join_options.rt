@@ -1,3 +1,4 @@
+//! The arguments of `join`, and the head of its output.
 ghost use Rattle.std.specs.Prelude.{◌≡◌, ◌<◌, length, IfOk};
 ghost use Rattle.ff_filter.specs.Options.{is_sound as sound_head};
 ghost use Rattle.ff_joins.specs.Arguments.{each_head};
@@ -37,7 +38,7 @@ impl Settings for JoinSettings {
     }
 }
 
-// Whether a head is one of sound.
+// Whether a head is one of audio.
 fn is_sound(head: &StreamHead) -> bool
     ensures { result ≡ sound_head head.now }
 {
@@ -47,7 +48,7 @@ fn is_sound(head: &StreamHead) -> bool
     }
 }
 
-// Whether each head is one of sound.
+// Whether each head is one of audio.
 fn are_sound(heads: &[StreamHead]) -> bool
     ensures { result ≡ each_head sound_head heads.now }
 {
@@ -59,7 +60,7 @@ fn are_sound(heads: &[StreamHead]) -> bool
     true
 }
 
-// The rate and the bits of a head of sound.
+// The rate and the bits of an audio head.
 pub(crate) fn rate_and_bits(head: &StreamHead) -> (u32, u8)
     ensures { (result.0 ≡ rate_of head.now) × (result.1 ≡ bits_of head.now) }
 {
@@ -90,7 +91,7 @@ fn are_alike(first: &StreamHead, heads: &[StreamHead]) -> bool
     true
 }
 
-// The channels of a head of sound.
+// The channels of an audio head.
 pub(crate) fn channels(head: &StreamHead) -> u8
     ensures { result ≡ channels_of_head head.now }
 {

@@ -1,3 +1,4 @@
+//! The steps by which `join` makes frames of the sample frames that wait.
 ghost use Rattle.std.specs.Prelude.{◌≡◌, ◌↔◌, ◌≤◌, ◌<◌, ◌*◌, ◌^◌, ◌||◌, IsTrue, ℤ, List, length, false, true, Some, None, Ok, OnOk, OnErr, IfOk, IfErr, IfSome};
 ghost use Rattle.ff_stream.specs.declared.item.Item.{Item as AnItem};
 ghost use Rattle.ff_stream.specs.declared.item.Lane.TheVariants.{Frames};
@@ -104,7 +105,7 @@ impl Join {
         }))
     }
 
-    // Gives the frame of so many sample frames, behind which the output stands so; or breaks off, where the frame passes a limit.
+    // Gives the frame of so many sample frames, after which the output stands so; or breaks off, where the frame passes a limit.
     fn give(&mut self, count: usize, after: After) -> Result<Item, AllocError>
         requires all { HaveAll self.old count }
         requires few { count ≤ 1024 }
@@ -129,7 +130,7 @@ impl Join {
         Ok(item)
     }
 
-    // How the output stands behind the fewest sample frames that wait on one of the inputs.
+    // How the output stands after the fewest sample frames that wait on one of the inputs.
     fn standing(&self, count: usize) -> After
         ensures { StandsSo self.now count result }
     {

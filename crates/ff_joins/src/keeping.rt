@@ -1,3 +1,4 @@
+//! The sample frames that an input of `join` keeps.
 ghost use Rattle.std.specs.Prelude.{◌≡◌, ◌≤◌, ◌+◌, ◌*◌, ◌/◌, ◌++◌, [], length, take, drop, true, false, OnOk, OnErr, IfErr};
 ghost use Rattle.std.specs.VecDeque.{deque_len, deque_capacity};
 ghost use Rattle.ff_filter.specs.Joins.{Flow, before};
@@ -15,7 +16,7 @@ use ff_stream::{Item, Refused};
 use std::alloc::Global;
 use std::collections::VecDeque;
 
-// Puts the first samples behind the others.
+// Puts the first samples after the others.
 fn append(samples: &mut VecDeque<i32>, more: &[i32], count: usize)
     requires there { count ≤ length more.now }
     requires room { deque_len samples.old + count ≤ deque_capacity samples.old }

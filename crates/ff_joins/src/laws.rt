@@ -32,21 +32,21 @@ pub fn segments_keep_the_broken_rule()
     ensures { (n : ℕ) → Item → KeepsBrokenRule (AreSo n) (segments_of n) }
 {}
 
-/// Two segments of one picture each: from 0 for 3 ticks, and from 1 for 2; the second picture then starts at 4.
+/// Two segments of one frame each: from 0 for 3 ticks, and from 1 for 2; the second frame then starts at 4.
 pub fn the_second_segment_is_shifted()
     ensures { (f g : VFrame) → concatenated 2 (two_whole (picture_at f 0 3) (picture_at g 1 2)) ≡ two_pictures (picture_at f 0 3) (picture_at g 4 2) }
 {}
 
-/// Where no input breaks off, neither do segments one after another, nor streams of sound side by side.
+/// Where no input breaks off, neither do segments one after another, nor audio streams side by side.
 pub fn unbroken_inputs_make_no_break()
     ensures segments { (n : ℕ) (ss : Ports) → ((p : ℕ) → IsUnbroken (ss p)) → IsUnbroken (concatenated n ss) }
     ensures sound { (n : ℕ) (channels : ℕ → ℕ) (rate bits all : ℕ) (ss : Ports) → ((p : ℕ) → IsUnbroken (ss p))
         → IsUnbroken (side_to_side n channels rate bits all ss) }
 {}
 
-/// Valid segments of one head, one after another within the limits, are a valid stream of that head. Of valid streams of sound, of
+/// Valid segments of one head, one after another within the limits, are a valid stream of that head. Of valid audio streams, of
 /// one rate and one size of samples and of at most 8 channels in all, the frames side by side are in shape for a head of these; so
-/// behind its limits the output of `join` is valid for the head that it is given.
+/// within its limits the output of `join` is valid for the head that it is given.
 pub fn valid_streams_make_valid_ones()
     ensures segments { (h : StreamHead) (n : ℕ) (ss : Ports) → IsBase (base_of_head h) → ((p : ℕ) → p < n → IsValid (Frames h) (ss p))
         → IsValid (Frames h) (within (passes_limits (Frames h)) (concatenated n ss)) }
@@ -61,13 +61,13 @@ pub fn valid_streams_make_valid_ones()
         (side_to_side (length hs) (channels_at (h ∷ hs)) (rate_of head) (bits_of head) (channels_of head) ss)) }
 {}
 
-/// Streams of sound side by side: streams further on give streams further on.
+/// Audio streams side by side: streams further on give streams further on.
 pub fn sound_further_on_is_joined_further_on()
     ensures { (n : ℕ) (channels : ℕ → ℕ) (rate bits all : ℕ) (ss ts : Ports) → ((p : ℕ) → LiesBelow (ss p) (ts p))
         → LiesBelow (side_to_side n channels rate bits all ss) (side_to_side n channels rate bits all ts) }
 {}
 
-/// Streams of sound side by side keep the broken rule.
+/// Audio streams side by side keep the broken rule.
 pub fn joined_sound_keeps_the_broken_rule()
     ensures { (n : ℕ) (channels : ℕ → ℕ) (rate bits all : ℕ)
         → KeepsBrokenRule (AreMany n channels rate bits all) (joined_list n channels rate bits all) }

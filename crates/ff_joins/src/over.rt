@@ -1,3 +1,4 @@
+//! The check whether a stream goes on no further.
 ghost use Rattle.std.specs.Prelude.{◌≡◌};
 ghost use Rattle.ff_filter.specs.Made.{is_over as is_over_by};
 

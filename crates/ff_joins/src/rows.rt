@@ -1,3 +1,4 @@
+//! Samples of several inputs, interleaved by channel.
 ghost use Rattle.std.specs.Prelude.{◌≡◌, ◌⊎◌, ◌≤◌, ◌<◌, ◌++◌, ◌*◌, ◌^◌, ℕ, map, length, true, false, OnOk, IfOk};
 ghost use Rattle.ff_filter.specs.declared.after.After.{After as AnAfter};
 ghost use Rattle.ff_joins.specs.JoinCuts.{width_to};
@@ -10,7 +11,7 @@ use ff_filter::After;
 use ff_frame::Samples;
 use std::alloc::{AllocError, Global};
 
-// Puts the samples at one place of an input behind the others.
+// Puts the samples at one place of an input after the others.
 #[tactic(auto, using(crate::proofs::Framing::cell_there))]
 fn push_cell(out: &mut Vec<i32>, inlet: &SoundInlet, row: usize) -> Result<(), AllocError>
     requires { row < inlet.now.count }
@@ -23,7 +24,7 @@ fn push_cell(out: &mut Vec<i32>, inlet: &SoundInlet, row: usize) -> Result<(), A
     Ok(())
 }
 
-// Puts the samples at one place of all inputs behind the others.
+// Puts the samples at one place of all inputs after the others.
 fn push_row(out: &mut Vec<i32>, inlets: &[SoundInlet], row: usize) -> Result<(), AllocError>
     requires { (p : ℕ) → p < length inlets.now → row < (lots inlets.now p).count }
     ensures { OnOk result (out.new.items ≡ out.old.items ++ row_to (lots inlets.now) (length inlets.now) row) }
@@ -85,7 +86,7 @@ pub fn fewest(inlets: &[SoundInlet]) -> usize
     least
 }
 
-// Whether so many sample frames wait on an input, and it stands so behind them.
+// Whether so many sample frames wait on an input, and it stands so after them.
 fn stands_so(inlet: &SoundInlet, count: usize, after: After) -> bool
     ensures yes { result ≡ true → (inlet.now.count ≡ count) × (inlet.now.after ≡ after) }
     ensures no { result ≡ false → inlet.now.count ≡ count → inlet.now.after ≡ after → ⊥ }
@@ -93,7 +94,7 @@ fn stands_so(inlet: &SoundInlet, count: usize, after: After) -> bool
     inlet.count == count && inlet.after == after
 }
 
-/// Whether an input on which so many sample frames wait stands so behind them.
+/// Whether an input on which so many sample frames wait stands so after them.
 pub fn any_stands(inlets: &[SoundInlet], count: usize, after: After) -> bool
     ensures yes { result ≡ true → (p : ℕ) × (p < length inlets.now) × ((lots inlets.now p).count ≡ count) × ((lots inlets.now p).after ≡ after) }
     ensures no { result ≡ false → (p : ℕ) → p < length inlets.now → (lots inlets.now p).count ≡ count → (lots inlets.now p).after ≡ after → ⊥ }

@@ -1,9 +1,10 @@
+//! The segments of `concat`, with what waits of each.
 ghost use Rattle.std.specs.Prelude.{◌<◌, length};
 
 use ff_filter::{After, Inlet, Outlet};
 use ff_frame::StreamHead;
 
-/// Segments one after another: what can be given of the current one waits on the output, what came of those behind it waits
+/// Segments one after another: what can be given of the current one waits on the output, what came of those after it waits
 /// on the inputs.
 #[derive(Drop)]
 pub struct Segments {
@@ -21,7 +22,7 @@ pub struct Segments {
     pub last: u128,
     /// What waits to be pulled.
     pub outlet: Outlet,
-    /// How the output stands behind what waits.
+    /// How the output stands after what waits.
     pub after: After,
     pub ghost there: { current < length inlets.items },
 }

@@ -1,3 +1,4 @@
+//! An audio input that keeps sample frames until they can be used.
 ghost use Rattle.std.specs.Prelude.{◌≡◌, ◌*◌, length};
 ghost use Rattle.ff_joins.specs.JoinOptions.{channels_of};
 
@@ -5,7 +6,7 @@ use ff_filter::After;
 use ff_frame::StreamHead;
 use std::collections::VecDeque;
 
-/// An input of sound that keeps sample frames until they can be used.
+/// An audio input that keeps sample frames until they can be used.
 #[derive(Drop)]
 pub struct SoundInlet {
     /// The head of the input.
@@ -14,7 +15,7 @@ pub struct SoundInlet {
     pub samples: VecDeque<i32>,
     /// How many sample frames they are.
     pub count: usize,
-    /// How the input stands behind them.
+    /// How the input stands after them.
     pub after: After,
     pub ghost rows: { length samples.items ≡ count * channels_of head },
 }

@@ -1,3 +1,4 @@
+//! Times of items within the limits of every stream.
 ghost use Rattle.std.specs.Prelude.{◌≡◌, ◌≤◌, ◌<◌, ◌*◌, ◌^◌, nat_lt, false};
 ghost use Rattle.ff_frame.specs.Heads.{base_of_head};
 ghost use Rattle.ff_stream.specs.declared.item.Lane.TheVariants.{Frames};

@@ -1,3 +1,4 @@
+//! One filter as a machine of a network.
 ghost use Rattle.std.specs.Prelude.{◌≡◌, Bool, List, length, Option, false};
 ghost use Rattle.ff_filter.specs.Joins.{Flow};
 ghost use Rattle.ff_net.specs.declared.fault.Fault.{Fault};
@@ -35,7 +36,7 @@ fn is_break(item: &Item) -> bool
 }
 
 impl<F: Filter> Alone<F> {
-    /// A filter to which nothing was done, as a machine that stands for its own function. Of a function behind limits the
+    /// A filter to which nothing was done, as a machine that stands for its own function. Of a function within limits the
     /// cause is `TooLong`, where a limit cuts what it gives.
     pub fn new(filter: F) -> Alone<F>
         requires new { IsNew (F.view filter) }

@@ -16,7 +16,7 @@ ghost use Rattle.ff_filter.specs.spread.Valid.{GivesValid};
 ghost use Rattle.ff_node_filter.specs.Limiting.{IsLimited};
 
 /// A filter of one input and one output whose function is monotone and calm, and of valid streams gives items in shape, is a
-/// function behind limits, which cut it where an item passes one; so is one whose output ends at once. A filter of several
+/// function within limits, which cut it where an item passes one; so is one whose output ends at once. A filter of several
 /// outputs that gives valid streams of valid ones is one that no limit cuts.
 pub fn filters_are_limited()
     ensures single { (lane_in : Lane) (head : StreamHead) (f : Flow → Flow)

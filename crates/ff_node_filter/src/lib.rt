@@ -8,7 +8,7 @@
 //!
 //! A filter keeps no past: it is seen as what it still gives for what is still to come. `Stands` ties that to a past, on
 //! each output: what comes out, whatever still comes in, is what was given and then the rest. From that come all clauses
-//! and laws of a machine, once for all filters. A function behind limits breaks off without a broken input only where a
+//! and laws of a machine, once for all filters. A function within limits breaks off without a broken input only where a
 //! limit cuts it, so a machine needs no more than two bits to know its fault.
 //!
 //! `best`: A machine that tells which of its inputs is the best one.

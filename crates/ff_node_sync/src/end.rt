@@ -1,3 +1,4 @@
+//! The ends of items as exact times.
 ghost use Rattle.std.specs.Prelude.{◌≡◌, ◌≤◌, ◌^◌, max};
 ghost use Rattle.ff_stream.specs.Times.{ticks};
 ghost use Rattle.ff_filter.specs.Made.{is_over as is_over_by};

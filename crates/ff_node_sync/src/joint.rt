@@ -1,3 +1,4 @@
+//! The node on which the streams of one output come together, with or without `-shortest`.
 ghost use Rattle.std.specs.Prelude.{IfOk, ◌≡◌, map, None};
 ghost use Rattle.ff_stream.specs.declared.item.Lane.TheVariants.{Frames};
 ghost use Rattle.ff_net.specs.Pasts.{start};

@@ -1,3 +1,4 @@
+//! The steps of one stream that others may shorten.
 ghost use Rattle.std.specs.Prelude.{◌≡◌, ◌<◌, [], ◌||◌, OnOk, OnErr, IfErr, IfSome, IsNone, Some, true, false};
 ghost use Rattle.std.specs.VecDeque.{deque_len, deque_capacity};
 ghost use Rattle.ff_stream.specs.declared.item.Item.{Item as AnItem};

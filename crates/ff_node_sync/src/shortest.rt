@@ -1,3 +1,4 @@
+//! The streams of one output under `-shortest`, each up to the end of the shortest.
 ghost use Rattle.std.specs.Prelude.{◌≡◌, ◌↔◌, ◌<◌, length, IsTrue, IfOk, IsNone, Some, None, false};
 ghost use Rattle.ff_stream.specs.declared.item.Item.{Item as AnItem};
 ghost use Rattle.ff_filter.specs.Made.{mark_after};
@@ -107,7 +108,7 @@ impl Shortest {
         }
     }
 
-    // How output p stands behind what is kept of all that came.
+    // How output p stands after what is kept of all that came.
     fn mark(&self, p: usize) -> After
         requires there { p < length self.now.sides.items }
         ensures { mark_after result ≡ mark_now (lines_of self.now.sides.items) p }

@@ -1,3 +1,4 @@
+//! The state of one stream that others may shorten.
 ghost use Rattle.std.specs.Prelude.{◌≡◌, ◌≤◌, ◌^◌, true};
 ghost use Rattle.ff_filter.specs.Views.{none_closes};
 
@@ -13,7 +14,7 @@ pub struct Side {
     pub head: StreamHead,
     /// What isn't given yet of what came, the next item first.
     pub queue: VecDeque<Item>,
-    /// How the stream stands behind that.
+    /// How the stream stands after that.
     pub after: After,
     /// The latest end of what came, in ticks of its time base.
     pub reach: u128,

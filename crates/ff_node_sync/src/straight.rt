@@ -1,3 +1,4 @@
+//! The streams of one output without `-shortest`, as they are.
 ghost use Rattle.std.specs.Prelude.{◌≡◌, ◌↔◌, ◌<◌, length, IsTrue, IfOk};
 ghost use Rattle.ff_filter.specs.Views.{IsSpent};
 ghost use Rattle.ff_node_sync.specs.Lines.{lines_of, lanes_of};

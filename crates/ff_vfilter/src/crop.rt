@@ -1,3 +1,4 @@
+//! The filter `crop`.
 ghost use Rattle.std.specs.Prelude.{◌≡◌, if◌then◌else◌, Some, None, IfOk, IfErr};
 ghost use Rattle.ff_vfilter.specs.Crops.{lies_in};
 
@@ -11,7 +12,7 @@ use ff_lang::Arg;
 use ff_planes::{Rectangle, crop};
 use std::alloc::Global;
 
-/// Shows a part of each picture.
+/// Shows a part of each frame.
 #[derive(Drop)]
 pub struct Crop {
     /// The part.
@@ -49,7 +50,7 @@ impl Paint for Crop {
     }
 }
 
-// Whether a rectangle lies in a picture.
+// Whether a rectangle lies in a frame.
 fn shows(part: Rectangle, frame: &VFrame) -> bool
     ensures { result ≡ lies_in frame.now part }
 {
@@ -102,7 +103,7 @@ impl Crop {
     ghost use Rattle.ff_filter.specs.Options.{IsMade, IsRefused};
     ghost use Rattle.ff_vfilter.specs.Crops.{IsCrop, crop_head, crop_view, crop_part, can_crop};
 
-    // The part that settings show of pictures of this format and size. None where it has no size, or doesn't lie in them.
+    // The part that settings show of frames of this format and size. None where it has no size, or doesn't lie in them.
     fn part_of(format: Format, width: u32, height: u32, settings: CropSettings) -> Option<Rectangle>
         ensures { result ≡ (if can_crop width height (crop_part format width height settings) then Some (crop_part format width height settings) else None) }
     {

@@ -1,3 +1,4 @@
+//! The filter `fps`, by its arguments and the head of its input.
 ghost use Rattle.std.specs.Prelude.{◌≡◌, ◌<◌, ◌^◌, ◌∷◌, [], pos, None, Some, ℕ, IfSome, IsNone, IfOk, IfErr};
 ghost use Rattle.ff_time.specs.Fraction.{Fraction, IsBase, IsLowestOf};
 ghost use Rattle.ff_frame.specs.declared.config.ConfigError.TheVariants.{NoMemory};
@@ -15,7 +16,7 @@ use std::alloc::Global;
 /// The settings of `fps`.
 #[derive(Clone, Copy, Debug)]
 pub struct FpsSettings {
-    /// The time base of the output, which is one over the pictures a second.
+    /// The time base of the output, which is one over the frames a second.
     pub base: Rational,
 }
 
@@ -86,7 +87,7 @@ impl Settings for FpsSettings {
     }
 }
 
-// The same pictures in another time base.
+// The same frames in another time base.
 fn in_base(head: &StreamHead, base: Rational) -> StreamHead
     ensures { result ≡ fps_head (head.now, base) }
 {
@@ -164,7 +165,7 @@ fn rate_and_head(
     }
 }
 
-/// `fps`: pictures at an even rate. Number n shows the last picture whose own time, rounded to a number, is at most n.
+/// `fps`: frames at an even rate. Number n shows the last frame whose own time, rounded to a number, is at most n.
 pub struct Fps {}
 
 impl Fps {
@@ -172,7 +173,7 @@ impl Fps {
     ghost use Rattle.ff_vfilter.specs.FpsOptions.{IsFps};
 
     /// The filter by its arguments and the head of its input; the head of its output beside it, whose time base is one over the
-    /// pictures a second. The option `fps`, which may be given by place, is N or N/D, whole numbers of 1 to 10 digits, and 25
+    /// frames a second. The option `fps`, which may be given by place, is N or N/D, whole numbers of 1 to 10 digits, and 25
     /// where it isn't given. It refuses in this order: `Pads`, `Kind`, `UnknownOption` and `BadOption` by argument.
     pub fn configure(
         alloc: Global,

@@ -1,3 +1,4 @@
+//! The filter `hflip`.
 ghost use Rattle.std.specs.Prelude.{IfOk, IfErr};
 
 use crate::repaint::{Paint, Repaint, agrees};
@@ -7,7 +8,7 @@ use ff_lang::Arg;
 use ff_planes::hflip;
 use std::alloc::Global;
 
-/// `hflip`: each picture mirrored left to right, in its own memory.
+/// `hflip`: each frame mirrored left to right, in its own memory.
 #[derive(Clone, Copy, Debug)]
 pub struct HFlip {}
 

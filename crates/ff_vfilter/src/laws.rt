@@ -26,12 +26,12 @@ ghost use Rattle.ff_filter.specs.declared.range.Range.{Range};
 ghost use Rattle.ff_filter.specs.Sound.{IsSound};
 ghost use Rattle.ff_vfilter.specs.Trims.{trimmed};
 
-/// Of a valid stream the pictures within a range are in shape for the same way; an unbroken one doesn't break off.
+/// Of a valid stream the frames within a range are in shape for the same way; an unbroken one doesn't break off.
 pub fn pictures_kept_are_sound()
     ensures { (lane : Lane) (range : Range) → IsSound lane lane (λ s. trimmed range s) }
 {}
 
-/// Of a valid stream of pictures `hflip`, `vflip`, `crop` and `pad` make items in shape for their output: pictures of its format
+/// Of a valid video stream `hflip`, `vflip`, `crop` and `pad` make items in shape for their output: frames of its format
 /// and size with all their samples, with the times of those that came; an unbroken one doesn't break off.
 pub fn pictures_painted_are_valid()
     ensures hflip { (tb : Fraction) (format : Format) (width height sar_num sar_den : ℕ)
@@ -65,7 +65,7 @@ pub fn pictures_keep_the_broken_rule()
         → KeepsBrokenRule (λ (ss : List Flow). IsValid lane (stream_at ss 0)) (λ (ss : List Flow). even scale (stream_at ss 0)) }
 {}
 
-/// At an even rate number n shows the last picture whose own number is at most n, and a number is the time rescaled to the
+/// At an even rate number n shows the last frame whose own number is at most n, and a number is the time rescaled to the
 /// nearest, halves upwards.
 pub fn pictures_at_an_even_rate()
     ensures even { (scale : Scale) → IsBase scale.from → IsBase scale.to
@@ -75,7 +75,7 @@ pub fn pictures_at_an_even_rate()
         → IsRescaled (pos t) from to (pos (nearest (t * (from.num * to.den)) (from.den * to.num))) }
 {}
 
-/// Of a valid stream the pictures at an even rate are in shape for the same head with another time base; an unbroken one doesn't
+/// Of a valid stream the frames at an even rate are in shape for the same head with another time base; an unbroken one doesn't
 /// break off.
 pub fn pictures_at_an_even_rate_are_sound()
     ensures { (scale : Scale) (tb base : Fraction) (format : Format) (width height sar_num sar_den : ℕ)

@@ -5,7 +5,7 @@
 //!                                          feed │ pull │ stop │ spent
 //! ```
 //!
-//! Each filter is a function on whole streams, in `specs/`, behind the limits of every stream. `configure` says which
+//! Each filter is a function on whole streams, in `specs/`, within the limits of every stream. `configure` says which
 //! function it is by its arguments, or refuses; its machine meets `ff_filter::Filter`.
 #![tactic(auto)]
 

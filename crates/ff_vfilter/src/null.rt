@@ -1,3 +1,4 @@
+//! The filter `null`.
 ghost use Rattle.std.specs.Prelude.{IfOk, IfErr};
 ghost use Rattle.ff_filter.specs.Options.{is_video, IsMade, IsRefused};
 ghost use Rattle.ff_filter.specs.Plain.{IsPass, pass_view};

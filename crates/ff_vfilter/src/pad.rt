@@ -1,3 +1,4 @@
+//! The filter `pad`.
 ghost use Rattle.std.specs.Prelude.{◌≡◌, ◌↔◌, false, IsNone, IfSome, IfOk, IfErr};
 ghost use Rattle.ff_frame.specs.Video.{IsSide};
 ghost use Rattle.ff_planes.specs.Parts.{IsPart};
@@ -12,14 +13,14 @@ use ff_lang::Arg;
 use ff_planes::{Rectangle, pad};
 use std::alloc::Global;
 
-/// Shows each picture in a rectangle of its size, on black.
+/// Shows each frame in a rectangle of its size, on black.
 #[derive(Drop)]
 pub struct Pad {
     /// Columns of the result.
     pub width: u32,
     /// Rows of the result.
     pub height: u32,
-    /// Where the picture lies.
+    /// Where the frame lies.
     pub part: Rectangle,
     /// Where the memory of the results comes from.
     pub alloc: Global,
@@ -101,7 +102,7 @@ impl Pad {
     ghost use Rattle.ff_filter.specs.Options.{IsMade, IsRefused};
     ghost use Rattle.ff_vfilter.specs.Pads.{IsPad, pad_head, pad_view, pad_of, can_pad};
 
-    // What settings make of pictures of this format and size. None where the larger one has no size, or doesn't hold them.
+    // What settings make of frames of this format and size. None where the larger one has no size, or doesn't hold them.
     fn of(
         alloc: Global,
         head: &StreamHead,

@@ -1,3 +1,4 @@
+//! The machine of `fps`, which gives frames at an even rate.
 ghost use Rattle.std.specs.Prelude.{◌≡◌, length, ◌<◌, ◌≤◌, ◌^◌, ◌⊎◌, ◌↔◌, OnOk, OnErr, Some, None, Ok, IfErr, IsTrue, ◌||◌, true, false};
 ghost use Rattle.ff_stream.specs.declared.item.Item.{Item as AnItem};
 ghost use Rattle.ff_stream.specs.declared.item.Lane.TheVariants.{Frames};
@@ -23,7 +24,7 @@ const LAST_SECOND: u128 = 1_000_000_000;
 
 const MOST_ITEMS: u128 = 1 << 40;
 
-/// Gives pictures at an even rate, within the limits of every stream.
+/// Gives frames at an even rate, within the limits of every stream.
 #[derive(Drop)]
 pub struct Rate {
     /// Where the memory of copies comes from.
@@ -32,7 +33,7 @@ pub struct Rate {
     pub head: StreamHead,
     /// The head of its output.
     pub given: StreamHead,
-    /// The picture that is shown, and how far.
+    /// The frame that is shown, and how far.
     pub showing: Showing,
     /// What waits on its input.
     pub input: Inlet,
@@ -53,7 +54,7 @@ pub enum Work {
     Waits,
 }
 
-// Whether a picture of this number passes a limit, where so many were given before it.
+// Whether a frame of this number passes a limit, where so many were given before it.
 fn is_late(given: &StreamHead, before: u128, number: u64) -> bool
     requires { before < 2 ^ 65 }
     ensures { result ≡ is_late_by given.now before number }
@@ -63,7 +64,7 @@ fn is_late(given: &StreamHead, before: u128, number: u64) -> bool
     (MOST_ITEMS < before + 1) | (LAST_SECOND * (tb.den() as u128) < end * (tb.num() as u128))
 }
 
-// The same of the picture itself.
+// The same of the frame itself.
 fn is_long(given: &StreamHead, before: u64, number: u64) -> bool
     requires { number < 2 ^ 62 }
     ensures { (f : AFrame) → result ≡ passes_limits (Frames given.now) before (shown number f) }
@@ -71,7 +72,7 @@ fn is_long(given: &StreamHead, before: u64, number: u64) -> bool
     is_late(given, before as u128, number)
 }
 
-// Whether a picture of these numbers passes a limit, where so many were given before the first: the last of them does.
+// Whether a frame of these numbers passes a limit, where so many were given before the first: the last of them does.
 fn is_cut(given: &StreamHead, before: u64, span: Option<Span>) -> bool
     ensures { result ≡ is_cut_by given.now before span }
 {
@@ -88,7 +89,7 @@ fn is_cut(given: &StreamHead, before: u64, span: Option<Span>) -> bool
 }
 
 impl Rate {
-    // The next picture, where one is due; the closing item where it would pass a limit.
+    // The next frame, where one is due; the closing item where it would pass a limit.
     fn give(&mut self) -> Result<Option<Item>, AllocError>
         requires { self.old.ended ≡ false }
         ensures gave { (x : AnItem) → result ≡ Ok (Some x) → Gave (seen self.old) (seen self.new) 0 x }
@@ -151,7 +152,7 @@ impl Rate {
         }
     }
 
-    // Shows the picture that comes next.
+    // Shows the frame that comes next.
     fn take_up(&mut self, frame: VFrame)
         requires unknown { self.old.showing.ahead ≡ Ahead.Unknown }
         requires due { (self.old.showing.picture ≡ None) ⊎ (number_of self.old.showing.scale frame ≤ self.old.showing.number) }
@@ -234,7 +235,7 @@ impl Rate {
         discard(item);
     }
 
-    // Goes on until a picture is due, or nothing is known.
+    // Goes on until a frame is due, or nothing is known.
     fn step(&mut self) -> Result<Work, AllocError>
         requires { self.old.ended ≡ false }
         ensures same { result ≡ Ok Work.On → Same (seen self.old) (seen self.new) }

@@ -1,3 +1,4 @@
+//! The function of a stream that changes each video frame by itself.
 ghost use Rattle.std.specs.Prelude.{◌≡◌, refl, false, IsTrue, IfOk, IfErr};
 ghost use Rattle.ff_frame.specs.declared.video.VFrame.{VFrame};
 ghost use Rattle.ff_frame.specs.Video.{IsVideo};
@@ -10,21 +11,21 @@ use ff_filter::{After, Given, Step};
 use ff_frame::{StreamHead, VFrame};
 use ff_stream::{Item, Refused};
 
-/// What becomes of each picture.
+/// What becomes of each frame.
 pub trait Paint {
-    /// The picture that becomes of a picture.
+    /// The frame that becomes of a frame.
     ghost painted: { Self → VFrame → VFrame };
 
-    /// What becomes of this picture. For want of memory it comes back as it was.
+    /// What becomes of this frame. For want of memory it comes back as it was.
     fn paint(&self, frame: VFrame) -> Result<VFrame, VFrame>
         ensures made { IfOk result (λ f. f ≡ painted self.now frame) }
         ensures refused { IfErr result (λ f. f ≡ frame) };
 }
 
-/// The function of a stream that gives what becomes of each picture; other items pass.
+/// The function of a stream that gives what becomes of each frame; other items pass.
 #[derive(Drop)]
 pub struct Repaint<P: Paint> {
-    /// What becomes of a picture.
+    /// What becomes of a frame.
     pub paint: P,
     /// The head of its input.
     pub head: StreamHead,
@@ -32,7 +33,7 @@ pub struct Repaint<P: Paint> {
     pub shown: StreamHead,
 }
 
-/// Whether the fields of a picture agree.
+/// Whether the fields of a frame agree.
 pub(crate) fn agrees(frame: &VFrame) -> bool
     ensures is { result ≡ fields_agree frame.now }
     ensures video { IsTrue result → IsVideo frame.now.format frame.now.width frame.now.height frame.now.planes }

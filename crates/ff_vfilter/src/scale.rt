@@ -1,3 +1,4 @@
+//! Times of the input of `fps` as frame numbers of its output.
 ghost use Rattle.std.specs.Prelude.{◌≡◌, ◌<◌, ◌≤◌, ◌*◌, ◌^◌, ◌+ℤ◌, ◌<ℤ◌, pos};
 ghost use Rattle.ff_stream.specs.Times.{ticks};
 ghost use Rattle.ff_time.specs.Fraction.{IsBase};
@@ -7,10 +8,10 @@ use ff_filter::ticks_of;
 use ff_frame::VFrame;
 use ff_time::Rational;
 
-/// The time base of the pictures that come, and that of those that are given at an even rate, of which each lasts a tick.
+/// The time base of the frames that come, and that of those that are given at an even rate, of which each lasts a tick.
 #[derive(Clone, Copy, Debug)]
 pub struct Scale {
-    /// The time base of the pictures that come.
+    /// The time base of the frames that come.
     pub from: Rational,
     /// The time base of those that are given.
     pub to: Rational,
@@ -35,7 +36,7 @@ fn nearest(p: u128, q: u128) -> u128
     (2 * p + q) / (2 * q)
 }
 
-// When a picture ends.
+// When a frame ends.
 fn end_of(frame: &VFrame) -> i128
     ensures is { result ≡ frame.now.pts +ℤ frame.now.duration }
     ensures near { result <ℤ pos (2 ^ 64) }
@@ -53,7 +54,7 @@ fn end_ticks(frame: &VFrame) -> u128
 }
 
 impl Scale {
-    // So many ticks, as a number of pictures.
+    // So many ticks, as a number of frames.
     #[tactic(auto, using(crate::proofs::Scaling::product_below))]
     fn in_pictures(self, ticks: u128) -> u64
         requires { ticks < 2 ^ 64 }
@@ -67,7 +68,7 @@ impl Scale {
         nearest(ticks * scale, unit).min(1 << 62) as u64
     }
 
-    /// A picture's own number.
+    /// A frame's own number.
     pub fn number_of(self, frame: &VFrame) -> u64
         ensures is { result ≡ own_number self frame.now }
         ensures few { result ≤ 2 ^ 62 }
@@ -75,7 +76,7 @@ impl Scale {
         self.in_pictures(ticks_of(frame.pts) as u128)
     }
 
-    /// The number at a picture's end.
+    /// The number at a frame's end.
     pub fn end_number(self, frame: &VFrame) -> u64
         ensures is { result ≡ last_number self frame.now }
         ensures few { result ≤ 2 ^ 62 }

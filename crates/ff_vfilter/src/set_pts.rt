@@ -1,3 +1,4 @@
+//! The filter `setpts`.
 ghost use Rattle.std.specs.Prelude.{IfOk, IfErr};
 ghost use Rattle.ff_filter.specs.Options.{is_video, IsMade, IsRefused};
 ghost use Rattle.ff_filter.specs.Plain.{IsRebase, rebase_view};
@@ -9,7 +10,7 @@ use ff_frame::{ConfigError, StreamHead};
 use ff_lang::Arg;
 use std::alloc::Global;
 
-/// `setpts=PTS-STARTPTS`: the time of the first picture is taken from each.
+/// `setpts=PTS-STARTPTS`: the time of the first frame is taken from each.
 pub struct SetPts {}
 
 impl SetPts {

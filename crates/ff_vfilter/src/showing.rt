@@ -1,3 +1,4 @@
+//! The frame that `fps` shows, and the one that comes next.
 ghost use Rattle.std.specs.Prelude.{◌≡◌, ◌<◌, ◌≤◌, ◌^◌, ◌+◌, Some, IfOk, OnErr};
 ghost use Rattle.ff_vfilter.specs.Rates.{shown};
 ghost use Rattle.ff_vfilter.specs.RateViews.{limit_of, Shown};
@@ -14,7 +15,7 @@ use std::alloc::{AllocError, Global};
 pub enum Ahead {
     /// Nothing was looked at.
     Unknown,
-    /// This picture.
+    /// This frame.
     Picture(VFrame),
     /// Nothing more: all has come.
     Whole,
@@ -34,12 +35,12 @@ impl Ahead {
     }
 }
 
-/// The picture that is shown, and how far.
+/// The frame that is shown, and how far.
 #[derive(Drop)]
 pub struct Showing {
     /// How times become numbers.
     pub scale: Scale,
-    /// The picture that is shown, if there is one.
+    /// The frame that is shown, if there is one.
     pub picture: Option<VFrame>,
     /// The number that is shown next.
     pub number: u64,
@@ -49,7 +50,7 @@ pub struct Showing {
     pub ahead: Ahead,
 }
 
-// The picture as this number.
+// The frame as this number.
 fn numbered(mut frame: VFrame, number: u64) -> Item
     requires { number ≤ 2 ^ 62 }
     ensures { result ≡ shown number frame }
@@ -60,7 +61,7 @@ fn numbered(mut frame: VFrame, number: u64) -> Item
 }
 
 impl Showing {
-    /// Below which number the picture is shown, as far as is known.
+    /// Below which number the frame is shown, as far as is known.
     pub fn limit(&self) -> u64
         ensures is { result ≡ limit_of self.now.scale self.now.picture self.now.ahead }
         ensures few { result ≤ 2 ^ 62 }
@@ -75,7 +76,7 @@ impl Showing {
         }
     }
 
-    /// The numbers that are shown of the picture and of the one that comes next, as far as is known.
+    /// The numbers that are shown of the frame and of the one that comes next, as far as is known.
     pub fn span(&self) -> Option<Span>
         ensures { result ≡ span_ahead self.now }
     {
@@ -92,7 +93,7 @@ impl Showing {
         }
     }
 
-    /// The picture as the next number, which is the last that it has; the picture itself.
+    /// The frame as the next number, which is the last that it has; the frame itself.
     pub fn show_last(&mut self, frame: VFrame) -> Item
         requires last { self.old.number + 1 ≡ limit_of self.old.scale (Some frame) self.old.ahead }
         requires few { self.old.number < 2 ^ 62 }
@@ -106,7 +107,7 @@ impl Showing {
         numbered(frame, number)
     }
 
-    /// The picture as the next number, of several; a copy.
+    /// The frame as the next number, of several; a copy.
     pub fn show_one(&mut self, alloc: Global, frame: VFrame) -> Result<Item, AllocError>
         requires due { self.old.number < limit_of self.old.scale (Some frame) self.old.ahead }
         requires few { self.old.number < 2 ^ 62 }

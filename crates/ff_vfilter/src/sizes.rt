@@ -1,3 +1,4 @@
+//! The sizes and places that the arguments of `crop` and `pad` give, on the grid of chroma.
 ghost use Rattle.std.specs.Prelude.{◌≡◌};
 ghost use Rattle.ff_vfilter.specs.Sizes.{on_columns as columns_on, on_rows as rows_on, size_of, place_of, is_side as is_a_side, sized as head_sized};
 

@@ -1,20 +1,21 @@
+//! The frame numbers of the output of `fps` at which a frame of its input is shown.
 ghost use Rattle.std.specs.Prelude.{◌≡◌};
 ghost use Rattle.ff_vfilter.specs.RateCuts.{span_to, span_by};
 
 use crate::scale::Scale;
 use ff_stream::Item;
 
-/// The numbers that are shown of some pictures.
+/// The numbers that are shown of some frames.
 #[derive(Clone, Copy, Debug)]
 pub struct Span {
     /// The first of them.
     pub first: u64,
-    /// The one behind the last of them.
+    /// The one after the last of them.
     pub next: u64,
 }
 
 impl Span {
-    /// The numbers that are shown once a picture of this number comes; from that on where it is the first.
+    /// The numbers that are shown once a frame of this number comes; from that on where it is the first.
     pub fn with_number(span: Option<Span>, number: u64) -> Span
         ensures { result ≡ span_to span number }
     {
@@ -30,7 +31,7 @@ impl Span {
         }
     }
 
-    /// The numbers that are shown once an item comes: pictures alone count.
+    /// The numbers that are shown once an item comes: frames alone count.
     pub fn with_item(scale: Scale, span: Option<Span>, item: &Item) -> Option<Span>
         ensures { result ≡ span_by scale span item.now }
     {

@@ -1,3 +1,4 @@
+//! The filter `split`.
 ghost use Rattle.std.specs.Prelude.{IfOk, IfErr};
 ghost use Rattle.ff_filter.specs.Options.{is_video, IsRefused};
 ghost use Rattle.ff_filter.specs.spread.Many.{AreMade};

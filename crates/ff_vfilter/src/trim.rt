@@ -1,3 +1,4 @@
+//! The filter `trim`.
 ghost use Rattle.std.specs.Prelude.{◌≡◌, IfOk, IfErr, Some, false};
 ghost use Rattle.ff_stream.specs.declared.item.Lane.TheVariants.{Frames};
 
@@ -10,7 +11,7 @@ use ff_lang::Arg;
 use ff_stream::{Item, Refused};
 use std::alloc::Global;
 
-/// `trim`: the pictures from a start to below an end. The output ends at the first picture at or past the end.
+/// `trim`: the frames from a start to below an end. The output ends at the first frame at or past the end.
 #[derive(Drop)]
 pub struct Trim {
     /// The head of its input and of its output.

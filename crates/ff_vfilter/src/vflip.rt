@@ -1,3 +1,4 @@
+//! The filter `vflip`.
 ghost use Rattle.std.specs.Prelude.{IfOk, IfErr};
 
 use crate::repaint::{Paint, Repaint, agrees};
@@ -7,7 +8,7 @@ use ff_lang::Arg;
 use ff_planes::vflip;
 use std::alloc::Global;
 
-/// `vflip`: each picture mirrored top to bottom, in its own memory.
+/// `vflip`: each frame mirrored top to bottom, in its own memory.
 #[derive(Clone, Copy, Debug)]
 pub struct VFlip {}
 

@@ -1,3 +1,4 @@
+//! The trait of what each of several outputs gets of an item.
 ghost use Rattle.std.specs.Prelude.{◌≡◌, ℕ, List, IfOk, false};
 ghost use Rattle.ff_stream.specs.declared.item.Item.{Item as AnItem};
 ghost use Rattle.ff_stream.specs.declared.item.Lane.{Lane};

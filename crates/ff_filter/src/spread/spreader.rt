@@ -1,3 +1,4 @@
+//! The machine of one input and several outputs.
 ghost use Rattle.std.specs.Prelude.{◌≡◌, ◌↔◌, length, IsTrue, IfOk};
 ghost use Rattle.ff_filter.specs.Views.{IsSpent};
 ghost use Rattle.ff_filter.specs.Made.{is_over};

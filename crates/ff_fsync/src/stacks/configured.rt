@@ -1,3 +1,4 @@
+//! The configuration of `hstack` and `vstack` by their arguments and the heads of their inputs.
 ghost use Rattle.std.specs.Prelude.{◌≡◌, IfOk, IfErr};
 ghost use Rattle.ff_filter.specs.Options.{IsMade, IsRefused};
 ghost use Rattle.ff_frame.specs.declared.config.ConfigError.TheVariants.{NoMemory};
@@ -48,7 +49,7 @@ fn with_length(direction: Direction, length: u32, head: &StreamHead) -> StreamHe
     }
 }
 
-// How pictures are stacked into those of a head.
+// How frames are stacked into those of a head.
 fn shape_for(direction: Direction, head: &StreamHead) -> Shape
     ensures { result ≡ shape_of direction head.now }
 {

@@ -1,3 +1,4 @@
+//! The checks whether streams of given heads can be stacked.
 ghost use Rattle.std.specs.Prelude.{◌≡◌, ◌<◌, true, IfOk, map};
 ghost use Rattle.ff_stream.specs.declared.item.Lane.TheVariants.{Frames};
 ghost use Rattle.ff_filter.specs.Options.{is_video};
@@ -13,7 +14,7 @@ use ff_frame::{Format, StreamHead};
 use ff_time::Rational;
 use std::alloc::{AllocError, Global};
 
-/// Whether all of these streams are of pictures.
+/// Whether all of these streams are video.
 pub(crate) fn all_video(heads: &[StreamHead]) -> bool
     ensures { result ≡ each_of is_video heads.now }
 {
@@ -33,7 +34,7 @@ fn same_base(a: Rational, b: Rational) -> bool
     a.num() == b.num() && a.den() == b.den()
 }
 
-// How long pictures are in the direction of stacking.
+// How long frames are in the direction of stacking.
 fn along(direction: Direction, head: &StreamHead) -> u32
     ensures { result ≡ size_along direction head.now }
 {
@@ -46,7 +47,7 @@ fn along(direction: Direction, head: &StreamHead) -> u32
     }
 }
 
-// How long pictures are in the other direction.
+// How long frames are in the other direction.
 fn across(direction: Direction, head: &StreamHead) -> u32
     ensures { result ≡ size_across direction head.now }
 {
@@ -59,7 +60,7 @@ fn across(direction: Direction, head: &StreamHead) -> u32
     }
 }
 
-// Whether pictures of two streams can be stacked.
+// Whether frames of two streams can be stacked.
 fn alike(direction: Direction, a: &StreamHead, b: &StreamHead) -> bool
     ensures { result ≡ are_alike direction a.now b.now }
 {
@@ -80,7 +81,7 @@ fn alike(direction: Direction, a: &StreamHead, b: &StreamHead) -> bool
     }
 }
 
-/// Whether pictures of these streams can be stacked on those of one.
+/// Whether frames of these streams can be stacked on those of one.
 pub(crate) fn all_alike(direction: Direction, first: &StreamHead, heads: &[StreamHead]) -> bool
     ensures { result ≡ each_of (are_alike direction first.now) heads.now }
 {
@@ -106,7 +107,7 @@ fn on_grid(direction: Direction, format: Format, number: u32) -> bool
     }
 }
 
-// Whether pictures of a stream are as long as whole pixels of Cb and of Cr are.
+// Whether frames of a stream are as long as whole pixels of Cb and of Cr are.
 fn head_on_grid(direction: Direction, head: &StreamHead) -> bool
     ensures { result ≡ head_on_grid direction head.now }
 {

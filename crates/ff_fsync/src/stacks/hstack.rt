@@ -1,3 +1,4 @@
+//! The filter `hstack`.
 ghost use Rattle.std.specs.Prelude.{IfOk, IfErr};
 ghost use Rattle.ff_filter.specs.Options.{IsMade, IsRefused};
 ghost use Rattle.ff_fsync.specs.declared.stacks.shape.Direction.TheVariants.{Beside};
@@ -11,13 +12,13 @@ use ff_frame::{ConfigError, StreamHead};
 use ff_lang::Arg;
 use std::alloc::Global;
 
-/// `hstack`: the pictures of several inputs side by side.
+/// `hstack`: the frames of several inputs side by side.
 pub struct HStack {}
 
 impl HStack {
     /// The filter by its arguments and the heads of its inputs; the head of its output beside it. The options, in this order
     /// of places, are `inputs`, a whole number of 2 to 16, and 2 where it isn't given; and `shortest`, 0 or 1, and 0 where it
-    /// isn't given. It refuses in this order: `Pads` where there aren't so many inputs, `Kind` where one is sound,
+    /// isn't given. It refuses in this order: `Pads` where there aren't so many inputs, `Kind` where one is audio,
     /// `UnknownOption` and `BadOption` by argument, `Mismatch` where time bases, formats or heights differ, and `BadSize` where
     /// the widths come to more than 16,384, or that of an input but the last is odd where two columns share a sample of Cb.
     pub fn configure(

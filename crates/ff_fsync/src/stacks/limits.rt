@@ -1,3 +1,4 @@
+//! The limits of every stream, for stacks.
 ghost use Rattle.std.specs.Prelude.{◌≡◌, ◌≤◌, ◌+◌, ◌^◌, ◌≤ℤ◌, pos, negsuc, false};
 ghost use Rattle.ff_stream.specs.Times.{end_of, ticks};
 ghost use Rattle.ff_fsync.specs.stacks.Limits.{long_at};

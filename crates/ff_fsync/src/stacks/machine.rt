@@ -1,3 +1,4 @@
+//! The machine of `hstack` and `vstack`, within the limits of every stream.
 ghost use Rattle.std.specs.Prelude.{◌≡◌, ◌↔◌, ◌<◌, ◌^◌, nat_le, cond, [], ◌∷◌, length, IsTrue};
 ghost use Rattle.ff_stream.specs.declared.item.Lane.TheVariants.{Frames};
 ghost use Rattle.ff_stream.specs.Times.{ticks};
@@ -21,7 +22,7 @@ use ff_stream::{Item, Refused};
 use std::alloc::AllocError;
 use std::collections::VecDeque;
 
-// The same, where this is the next picture of the first input.
+// The same, where this is the next frame of the first input.
 fn lasts_on(lasts: u64, picture: &VFrame, time: u64) -> u64
     requires time { time < 2 ^ 63 }
     requires near { lasts < 2 ^ 63 }
@@ -35,7 +36,7 @@ fn lasts_on(lasts: u64, picture: &VFrame, time: u64) -> u64
     }
 }
 
-// How long what is made of pictures of which those of the first input are these is shown at a time.
+// How long what is made of frames of which those of the first input are these is shown at a time.
 fn lasts_by(queue: &VecDeque<VFrame>, time: u64) -> u64
     requires { time < 2 ^ 63 }
     ensures is { result ≡ lasts_at time (frames_of (last_by (items_of queue.now.items) time)) }
@@ -64,7 +65,7 @@ impl Stacked {
         lasts_by(&self.sync.inputs[0].queue, time)
     }
 
-    // Whether of what is due one picture passes a limit.
+    // Whether of what is due one frame passes a limit.
     fn is_cut(&self) -> bool
         ensures { result ≡ is_cut_of self.now }
     {

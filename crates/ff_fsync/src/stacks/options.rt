@@ -1,3 +1,4 @@
+//! The arguments of `hstack` and `vstack`.
 ghost use Rattle.std.specs.Prelude.{◌≡◌, false};
 ghost use Rattle.ff_fsync.specs.stacks.Options.{counted, inputs_of, gives_inputs};
 

@@ -1,3 +1,4 @@
+//! The plan of a stack: what its arguments and heads make.
 ghost use Rattle.std.specs.Prelude.{◌≡◌};
 ghost use Rattle.ff_frame.specs.Video.{IsSide};
 ghost use Rattle.ff_fsync.specs.stacks.Shapes.{shape_of};
@@ -8,7 +9,7 @@ use ff_frame::StreamHead;
 /// What arguments and heads make a stack.
 #[derive(Clone, Copy, Debug)]
 pub struct Plan {
-    /// How the pictures are stacked.
+    /// How the frames are stacked.
     pub shape: Shape,
     /// The head of the stack.
     pub head: StreamHead,

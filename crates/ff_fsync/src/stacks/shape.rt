@@ -1,3 +1,4 @@
+//! The direction and the size of a stack.
 ghost use Rattle.std.specs.Prelude.{◌≡◌, ◌≤◌, true};
 ghost use Rattle.ff_planes.specs.declared.component.Component.TheVariants.{Luma, Blue};
 ghost use Rattle.ff_fsync.specs.Synced.{each_of};
@@ -5,7 +6,7 @@ ghost use Rattle.ff_fsync.specs.stacks.Shapes.{same_format as is_same_format, is
 
 use ff_frame::{Format, VFrame};
 
-/// In which direction pictures are stacked.
+/// In which direction frames are stacked.
 #[derive(Clone, Copy, Debug, PartialEq, Eq)]
 pub enum Direction {
     /// Side by side, the first at the left.
@@ -14,12 +15,12 @@ pub enum Direction {
     Below,
 }
 
-/// How pictures are stacked, and what that makes.
+/// How frames are stacked, and what that makes.
 #[derive(Clone, Copy, Debug)]
 pub struct Shape {
     /// In which direction.
     pub direction: Direction,
-    /// The format of each picture and of the stack.
+    /// The format of each frame and of the stack.
     pub format: Format,
     /// Columns of the stack.
     pub width: u32,
@@ -40,7 +41,7 @@ pub(crate) fn same_format(a: Format, b: Format) -> bool
 }
 
 impl Direction {
-    /// How long a picture is in this direction, in pixels of Y.
+    /// How long a frame is in this direction, in pixels of Y.
     fn luma_along(self, picture: &VFrame) -> u32
         ensures { result ≡ along self picture.now.format Luma picture.now }
     {
@@ -50,7 +51,7 @@ impl Direction {
         }
     }
 
-    /// How long a picture is in this direction, in pixels of Cb.
+    /// How long a frame is in this direction, in pixels of Cb.
     fn chroma_along(self, format: Format, picture: &VFrame) -> u32
         requires columns { picture.now.width ≤ 16384 }
         requires rows { picture.now.height ≤ 16384 }
@@ -64,7 +65,7 @@ impl Direction {
 }
 
 impl Shape {
-    // Whether a picture is of this format and as high, or as wide, as the stack.
+    // Whether a frame is of this format and as high, or as wide, as the stack.
     fn is_like(self, picture: &VFrame) -> bool
         ensures { result ≡ is_like self picture.now }
     {
@@ -87,7 +88,7 @@ impl Shape {
         same_format(picture.format, self.format) && across
     }
 
-    // Whether all of these pictures are.
+    // Whether all of these frames are.
     fn are_like(self, pictures: &[VFrame]) -> bool
         ensures { result ≡ each_of (is_like self) pictures.now }
     {
@@ -112,7 +113,7 @@ impl Shape {
         luma == long as u128 && chroma == half as u128
     }
 
-    // Whether these pictures fill the stack.
+    // Whether these frames fill the stack.
     fn is_filled(self, pictures: &[VFrame]) -> bool
         requires columns { self.width ≤ 16384 }
         requires rows { self.height ≤ 16384 }
@@ -128,7 +129,7 @@ impl Shape {
         self.is_full(luma, chroma)
     }
 
-    /// Whether these pictures fit: each is of this format and as high, or as wide, as the stack, and they fill it.
+    /// Whether these frames fit: each is of this format and as high, or as wide, as the stack, and they fill it.
     pub fn fits(self, pictures: &[VFrame]) -> bool
         requires columns { self.width ≤ 16384 }
         requires rows { self.height ≤ 16384 }

@@ -1,3 +1,4 @@
+//! The stack that is shown of the frames of all inputs.
 ghost use Rattle.std.specs.Prelude.{◌≡◌, ◌<◌, ◌^◌, true, IfOk, [], ◌∷◌};
 ghost use Rattle.ff_frame.specs.Video.{IsSide};
 ghost use Rattle.ff_fsync.specs.stacks.Shapes.{end_ticks, fits_stack, planes_by, stacked_planes, lasts as lasts_at};
@@ -8,10 +9,10 @@ use ff_frame::{Bytes, VFrame};
 use ff_planes::{hstack, vstack};
 use std::alloc::{AllocError, Global};
 
-// The most ticks that a picture is shown.
+// The most ticks that a frame is shown.
 const LONGEST: u64 = 9_223_372_036_854_775_807;
 
-/// Stacks pictures of one format.
+/// Stacks frames of one format.
 #[derive(Drop)]
 pub struct Stacking {
     /// How, and what that makes.
@@ -22,7 +23,7 @@ pub struct Stacking {
     pub ghost rows: { IsSide shape.height },
 }
 
-// When a picture ends, in ticks from 0; what lies before 0 counts as 0.
+// When a frame ends, in ticks from 0; what lies before 0 counts as 0.
 fn end_of(picture: &VFrame) -> u64
     ensures { result ≡ end_ticks picture.now }
 {
@@ -30,7 +31,7 @@ fn end_of(picture: &VFrame) -> u64
     if end < 0 { 0 } else { end as u64 }
 }
 
-/// How long what is made of pictures of which this is the first is shown at a time.
+/// How long what is made of frames of which this is the first is shown at a time.
 pub(crate) fn lasts_of(time: u64, picture: &VFrame) -> u64
     requires { time < 2 ^ 63 }
     ensures is { result ≡ lasts_at time (picture.now ∷ []) }
@@ -42,7 +43,7 @@ pub(crate) fn lasts_of(time: u64, picture: &VFrame) -> u64
     if lasts < LONGEST { lasts } else { LONGEST }
 }
 
-// How long what is made of pictures is shown at a time.
+// How long what is made of frames is shown at a time.
 fn lasts(time: u64, pictures: &[VFrame]) -> u64
     requires { time < 2 ^ 63 }
     ensures is { result ≡ lasts_at time pictures.now }
@@ -55,7 +56,7 @@ fn lasts(time: u64, pictures: &[VFrame]) -> u64
 }
 
 impl Stacking {
-    // The planes of pictures that fit.
+    // The planes of frames that fit.
     fn planes(&self, pictures: &[VFrame]) -> Result<Vec<u8>, AllocError>
         requires { fits_stack self.now.shape pictures.now ≡ true }
         ensures { IfOk result (λ out. out.items ≡ planes_by self.now.shape.direction self.now.shape pictures.now) }
@@ -79,7 +80,7 @@ impl Stacking {
         }
     }
 
-    // The planes of the stack, where the pictures fit; else none.
+    // The planes of the stack, where the frames fit; else none.
     fn any_planes(&self, pictures: &[VFrame]) -> Result<Vec<u8>, AllocError>
         ensures { IfOk result (λ out. out.items ≡ stacked_planes self.now.shape pictures.now) }
     {

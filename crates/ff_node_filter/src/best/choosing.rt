@@ -1,4 +1,4 @@
-// Which input is the best one.
+//! The choice of the best input.
 ghost use Rattle.std.specs.Prelude.{◌≡◌, ◌<◌, ◌+◌, cond, Some, IfSome, length};
 ghost use Rattle.ff_node_filter.specs.best.Inputs.{closed_at, kept_of, kept_to};
 

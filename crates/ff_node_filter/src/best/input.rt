@@ -1,3 +1,4 @@
+//! The end of the last item of an input, by which inputs are compared.
 ghost use Rattle.std.specs.Prelude.{◌≡◌, ◌<◌, ◌/◌, ◌^◌, pos, ◌*◌, ◌*ℤ◌, None, false, IfSome};
 ghost use Rattle.std.specs.Option.{ForSome};
 ghost use Rattle.ff_frame.specs.Heads.{base_of_head};

@@ -1,3 +1,4 @@
+//! The best input of a graph, and the events that tell of it.
 ghost use Rattle.std.specs.Prelude.{◌≡◌, ℕ, ◌<◌, ◌≤◌, ◌^◌, [], ◌∷◌, ◌++◌, List, unwrap_or, length, IfOk, IfSome, OnOk, Some, None};
 ghost use Rattle.std.specs.VecDeque.{deque_len, deque_capacity};
 ghost use Rattle.ff_time.specs.Fraction.{Fraction};

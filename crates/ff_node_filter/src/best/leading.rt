@@ -1,3 +1,4 @@
+//! A machine that tells the scheduler its best input.
 ghost use Rattle.std.specs.Prelude.{◌≡◌, ◌≤◌, ◌^◌, map, length, None, IfOk, IfErr};
 ghost use Rattle.ff_stream.specs.declared.item.Lane.TheVariants.{Frames};
 ghost use Rattle.ff_net.specs.Pasts.{Task, Past, start, no_events};
