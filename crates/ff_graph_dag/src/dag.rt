@@ -1,3 +1,4 @@
+//! Filters that feed one another, as one filter.
 ghost use Rattle.std.specs.Prelude.{◌≡◌, ℕ, IfOk, replicate, false};
 ghost use Rattle.ff_filter.specs.Joins.{Ports};
 ghost use Rattle.ff_graph_dag.specs.Parts.{AreNew, composed};

@@ -1,3 +1,4 @@
+//! A filter of a graph, with one item that waits before each input.
 ghost use Rattle.std.specs.Prelude.{◌≡◌, ℕ, ◌<◌, length, slice_set, replicate, is_some, not, IfOk, Option, None, Ok, Some, OnOk, OnErr, true, false, refl};
 ghost use Rattle.ff_filter.specs.Joins.{silence, Ports};
 ghost use Rattle.ff_stream.specs.Ports.{nothing};

@@ -5,7 +5,7 @@
 //!                       ──1─────────────────►          ──5──►
 //! ```
 //!
-//! Input i of the graph is edge i; behind these stands an edge for each input that a filter feeds, and then one for each output of
+//! Input i of the graph is edge i; after these stands an edge for each input that a filter feeds, and then one for each output of
 //! the graph. A plan that is made so is one whose edges fit together (`ff_graph_dag`).
 
 mod ends;

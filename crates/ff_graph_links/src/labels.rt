@@ -2,7 +2,7 @@
 //!
 //! A label at an input pad names the output pad of a complex graph that has it, else a stream of an input, so graphs feed graphs.
 //! `specs/labels/Labels` says which labels a graph takes and gives, `specs/labels/Names` what is wrong with names and labels, and what comes first,
-//! `specs/labels/Order` which graph feeds which, which lies on a loop, and in which order they stand: each behind those that feed it, else
+//! `specs/labels/Order` which graph feeds which, which lies on a loop, and in which order they stand: each after those that feed it, else
 //! by number.
 
 mod alone;

@@ -1,4 +1,4 @@
-//! An order of things in which each comes behind those that feed it.
+//! An order of things in which each comes after those that feed it.
 //!
 //! ```text
 //!   0 ◄── 2 ◄── 1        0, 2, 1: of those whose feeders were all taken, the lowest is taken next

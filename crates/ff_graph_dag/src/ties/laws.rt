@@ -1,4 +1,4 @@
-//! What follows of the definitions alone.
+//! Laws of the ways to an output. Each is a function that does nothing: its clauses hold of all values.
 ghost use Rattle.std.specs.Prelude.{◌≡◌, ◌<◌, ℕ, List, length, slice_index_or};
 ghost use Rattle.ff_graph_dag.specs.declared.graph.Node.{Node};
 ghost use Rattle.ff_graph_dag.specs.declared.graph.Plan.{Plan};

@@ -1,3 +1,4 @@
+//! The edges on the way to each output.
 ghost use Rattle.std.specs.Prelude.{◌≡◌, ◌<◌, ℕ, List, Bool, true, false, Some, length, slice_get, slice_set, replicate, IfOk};
 ghost use Rattle.ff_graph_dag.specs.declared.graph.Port.{Port as APort};
 ghost use Rattle.ff_graph_dag.specs.declared.graph.Wire.{Wire as AWire};

@@ -1,3 +1,4 @@
+//! The ports at the two ends of each edge.
 ghost use Rattle.std.specs.Prelude.{◌≡◌, ◌++◌, Some, map, length, IfOk, OnOk};
 ghost use Rattle.ff_graph_dag.specs.wiring.Wires.{ends_of, starts_of, numbers, is_at as is_port_at, edge_of as edge_at_port};
 
@@ -36,7 +37,7 @@ fn add_pads(starts: &mut Vec<Option<Port>>, pads: &[Port]) -> Result<(), AllocEr
     Ok(())
 }
 
-/// Where each edge starts, those of the graph's outputs behind the others.
+/// Where each edge starts, those of the graph's outputs after the others.
 pub fn starts(alloc: Global, wires: &[Wire], pads: &[Port]) -> Result<Vec<Option<Port>>, AllocError>
     ensures { IfOk result (λ starts. starts.items ≡ starts_of wires.now pads.now) }
 {

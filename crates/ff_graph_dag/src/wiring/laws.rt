@@ -1,4 +1,4 @@
-//! What follows of the definitions alone.
+//! Laws of plans. Each is a function that does nothing: its clauses hold of all values.
 ghost use Rattle.std.specs.Prelude.{◌≡◌, ◌<◌, ℕ, Bool, List, [], Option, Some, None, length, map, slice_get, slice_index_or};
 ghost use Rattle.std.specs.List.{position_or_len};
 ghost use Rattle.ff_stream.specs.declared.item.Lane.{Lane};
@@ -29,7 +29,7 @@ pub fn wired_plans_solve()
         → Solves fed opens ext (map (λ s. s.view) ss) σ → slice_get p.pads.items q ≡ Some f → composed p ss ext q ≡ σ f }
 {}
 
-/// Filters that are taken one by one, each behind those that feed it, solve the filters by their places.
+/// Filters that are taken one by one, each after those that feed it, solve the filters by their places.
 pub fn filters_in_order_solve()
     ensures { (order : List ℕ) (sources : List (List (Option APad))) (opens : List APad) (ext : Ports) (vs : List View)
         → IsForward sources order → length vs ≡ length order
@@ -38,7 +38,7 @@ pub fn filters_in_order_solve()
         → Solves (placed order sources) (placed_pads order opens) ext vs (λ f. flows_from sources opens ext no_flows order vs (pad_at order f)) }
 {}
 
-/// An order in which each filter comes behind those that feed it goes forward in a drawing where these are among them, and has each filter.
+/// An order in which each filter comes after those that feed it goes forward in a drawing where these are among them, and has each filter.
 pub fn orders_go_forward()
     ensures forward { (feeders : List (List ℕ)) (sources : List (List (Option APad))) (order : List ℕ) → IsOrder feeders order
         → ((f i : ℕ) (from : APad) → source_at sources f i ≡ Some (Some from) → (j : ℕ) × (slice_get (slice_index_or feeders f []) j ≡ Some from.filter))
@@ -72,7 +72,7 @@ pub fn drawn_plans_mean()
         → slice_get outs q ≡ Some out → composed p ss ext q ≡ flows_from sources opens ext no_flows order (map (λ s. s.view) ss) out }
 {}
 
-/// Filters whose functions are behind limits make a graph whose function is behind limits; it is cut where a limit of one of them cuts.
+/// Filters whose functions are within limits make a graph whose function is within limits; it is cut where a limit of one of them cuts.
 pub fn graphs_are_limited()
     ensures { (sources : List (List (Option APad))) (opens : List APad) (ins : List Lane) (lanes : APad → Option Lane) (outs : List Lane) (os : List APad) (ks : List ℕ)
         (vs : List View) (cs : List (List Flow → Bool)) → Leave lanes os outs → AreLimited sources opens ins lanes ks vs cs

@@ -1,3 +1,4 @@
+//! Pads and sources by the places of their filters in an order.
 ghost use Rattle.std.specs.Prelude.{◌≡◌, ◌++◌, [], map, slice_index_or, IfOk};
 ghost use Rattle.ff_graph_links.specs.pads.Links.{pads_in};
 ghost use Rattle.ff_graph_dag.specs.wiring.Wires.{feeds_in};

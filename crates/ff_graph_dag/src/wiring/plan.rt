@@ -1,3 +1,4 @@
+//! The plan of a drawing of filters.
 ghost use Rattle.std.specs.Prelude.{◌≡◌, ◌-◌, ◌≤◌, ℕ, length, IfOk};
 ghost use Rattle.ff_graph_dag.specs.ties.Tied.{IsTied};
 ghost use Rattle.ff_graph_links.specs.pads.Links.{pads_in};

@@ -1,3 +1,4 @@
+//! The edges that lead to filters.
 ghost use Rattle.std.specs.Prelude.{◌≡◌, ◌++◌, None, Some, map, IfOk, OnOk};
 ghost use Rattle.ff_graph_dag.specs.wiring.Wires.{feeds_in, entering, links_at, links_from, wires_of};
 

@@ -1,4 +1,4 @@
-// A simple graph by itself: its labels, which name pads of its own alone, and the names of its filters.
+//! The labels and filter names of a simple graph by itself.
 ghost use Rattle.std.specs.Prelude.{◌≡◌, ◌+◌, ◌^◌, ◌<◌, ◌≤◌, ◌++◌, [], None, IfOk, IfErr, OnOk, length};
 ghost use Rattle.ff_graph_links.specs.labels.Labels.{filters_of, ins_of, outs_of};
 ghost use Rattle.ff_graph_links.specs.labels.Names.{own_fault, twice_in, unknown_filter, IsFaultOf};

@@ -1,3 +1,4 @@
+//! The faults of names and labels.
 ghost use Rattle.std.specs.Prelude.{◌≡◌};
 ghost use Rattle.ff_graph_links.specs.declared.labels.fault.LabelFault.TheVariants.{NoMemory};
 

@@ -1,3 +1,4 @@
+//! The trait that says which filters and streams there are.
 ghost use Rattle.std.specs.Prelude.{◌≡◌, ℕ, Bool, List, IfOk};
 
 use std::alloc::{AllocError, Global};

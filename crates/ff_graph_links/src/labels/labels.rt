@@ -1,4 +1,4 @@
-// Which labels a graph takes and gives.
+//! The labels that a graph takes and gives.
 ghost use Rattle.std.specs.Prelude.{◌≡◌, ◌<◌, ◌≤◌, true, false, length};
 ghost use Rattle.std.specs.List.{AllByRecursion};
 ghost use Rattle.ff_lang.specs.declared.graph.Graph.{Graph};
@@ -98,7 +98,7 @@ pub(crate) fn gives_to(from: &Graph, to: &Graph) -> bool
     false
 }
 
-// How many filters a graph may have: its text has no more bytes.
+// How many filters a graph may have: its string has no more bytes.
 const MOST: usize = 65_536;
 
 fn is_short(graph: &Graph) -> bool
@@ -116,7 +116,7 @@ fn is_short(graph: &Graph) -> bool
     true
 }
 
-/// Whether each graph has at most 65,536 filters, as all have that were read of a text of so many bytes.
+/// Whether each graph has at most 65,536 filters, as all have that were read of a string of so many bytes.
 pub fn are_short(graphs: &[Graph]) -> bool
     ensures yes { result ≡ true → AllByRecursion (λ (g : Graph). length (filters_of g) ≤ 65536) graphs.now }
     ensures no { result ≡ false → AllByRecursion (λ (g : Graph). length (filters_of g) ≤ 65536) graphs.now → ⊥ }

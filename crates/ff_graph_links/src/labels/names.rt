@@ -1,4 +1,4 @@
-// The first fault of names and labels.
+//! The first fault of the names and labels of complex graphs.
 ghost use Rattle.std.specs.Prelude.{◌≡◌, ◌⊎◌, ◌+◌, ◌^◌, ◌<◌, ◌≤◌, ◌++◌, ◌||◌, true, false, [], None, IfOk, IfErr, OnOk, length};
 ghost use Rattle.std.specs.List.{AllByRecursion};
 ghost use Rattle.ff_lang.specs.declared.graph.Graph.{Graph};

@@ -1,4 +1,4 @@
-// Which graphs feed which, their order and their loops.
+//! The order of graphs that feed one another, and their loops.
 ghost use Rattle.std.specs.Prelude.{◌≡◌, ◌<◌, ◌^◌, ◌||◌, All, IfOk, length, map, slice_index_or, false};
 ghost use Rattle.ff_graph_links.specs.labels.Order.{below, feeds, cell, reaches, comes_behind, first_on_loop, on_loop};
 ghost use Rattle.ff_graph_links.specs.labels.Order.{feeders_to as fed_from, feeders_by, order_by, graph_order};
@@ -86,7 +86,7 @@ fn is_next_step(rows: &[Vec<bool>], from: usize, to: usize, behind: &[bool]) -> 
     has_mark(rows, from, to) || is_reached(rows, to, behind)
 }
 
-// The graphs that come behind one in a step more than the marked ones.
+// The graphs that come after one in a step more than the marked ones.
 fn step_on(
     alloc: Global,
     rows: &[Vec<bool>],
@@ -112,7 +112,7 @@ fn no_marks(alloc: Global, count: usize) -> Result<Vec<bool>, AllocError>
     Ok(none)
 }
 
-// Whether a graph comes behind itself.
+// Whether a graph comes after itself.
 fn comes_back(alloc: Global, rows: &[Vec<bool>], graph: usize) -> Result<bool, AllocError>
     requires { graph < length rows.now }
     ensures { IfOk result (λ back. back ≡ comes_behind (cell (marks rows.now)) (length rows.now) (length rows.now) graph graph) }
@@ -214,7 +214,7 @@ fn order_of(alloc: Global, rows: &[Vec<bool>]) -> Result<Vec<u32>, AllocError>
     numbers(alloc, things.as_slice())
 }
 
-/// The numbers of graphs in the order of their nodes: each behind those that feed it, else by number. Where a loop keeps graphs from
+/// The numbers of graphs in the order of their nodes: each after those that feed it, else by number. Where a loop keeps graphs from
 /// having an order, these aren't there.
 pub fn graphs_in_order(alloc: Global, graphs: &[Graph]) -> Result<Vec<u32>, AllocError>
     requires { length graphs.now < 2 ^ 32 }

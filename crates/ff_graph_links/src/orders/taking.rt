@@ -1,3 +1,4 @@
+//! Things taken one by one, each after those that feed it.
 ghost use Rattle.std.specs.Prelude.{◌≡◌, ◌<◌, ℕ, List, length, replicate, slice_set, IfOk, IfSome, IsNone, Ok, None, Some, is_some, not, true, false};
 ghost use Rattle.ff_graph_links.specs.orders.Orders.{is_taken as taken_is, are_taken as are_all_taken, is_ready as ready_is, lists, IsOrder, IsLowestOrder, left};
 ghost use Rattle.ff_graph_links.specs.orders.Orders.{first_ready, order_of, loops};
@@ -57,7 +58,7 @@ fn none_taken(alloc: Global, count: usize) -> Result<Vec<bool>, AllocError>
     Ok(taken)
 }
 
-/// Things one by one, each behind those that feed it (`feeders` by the number of the thing), and of those that can be taken next the
+/// Things one by one, each after those that feed it (`feeders` by the number of the thing), and of those that can be taken next the
 /// lowest first, until none can. Where things feed one another in a loop, or one is fed by what isn't there, these are too few.
 pub(crate) fn in_order(alloc: Global, feeders: &[Vec<usize>]) -> Result<Vec<usize>, AllocError>
     ensures { IfOk result (λ things. things.items ≡ order_of (lists feeders.now)) }

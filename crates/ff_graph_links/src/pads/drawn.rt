@@ -1,3 +1,4 @@
+//! The filters of a graph with their pads, as they are written.
 ghost use Rattle.std.specs.Prelude.{◌≡◌, slice_get};
 ghost use Rattle.ff_graph_links.specs.pads.Links.{seen, all_seen, place_from, giver_from, next_pad as next_pad_of, chained as chained_to};
 
@@ -19,7 +20,7 @@ pub struct Drawn<'a> {
     pub filter: &'a Filter,
     /// How many input pads it has.
     pub inputs: usize,
-    /// How many of its output pads there are for filters behind it in its chain, those with a label counted too.
+    /// How many of its output pads there are for filters after it in its chain, those with a label counted too.
     pub outputs: usize,
     /// Whether a filter stands before it in its chain.
     pub follows: bool,
@@ -50,7 +51,7 @@ pub fn giver(drawn: &[Drawn<'_>], label: &str) -> Option<Pad>
     None
 }
 
-// The output pad of a filter that feeds the input pad of this number among those without a label of the one behind it.
+// The output pad of a filter that feeds the input pad of this number among those without a label of the one after it.
 fn next_pad(drawn: &[Drawn<'_>], filter: usize, number: usize) -> Option<Pad>
     ensures { result ≡ next_pad_of filter (slice_get (all_seen drawn.now) filter) number }
 {

@@ -1,3 +1,4 @@
+//! The filters that feed each filter.
 ghost use Rattle.std.specs.Prelude.{◌≡◌, ◌++◌, [], IfOk, OnOk};
 ghost use Rattle.ff_graph_links.specs.pads.Links.{seen, all_seen, filter_and, first_fed, givers, feeders_of, feeders_from, filters_in};
 

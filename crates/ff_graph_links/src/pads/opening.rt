@@ -1,3 +1,4 @@
+//! The input pads that no filter of the graph feeds.
 ghost use Rattle.std.specs.Prelude.{◌≡◌, ◌++◌, IfOk, OnOk};
 ghost use Rattle.ff_graph_links.specs.pads.Links.{pads_in, opens_at, opens_from};
 

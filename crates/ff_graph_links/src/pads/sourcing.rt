@@ -1,3 +1,4 @@
+//! The output pad that feeds each input pad.
 ghost use Rattle.std.specs.Prelude.{◌≡◌, IfOk};
 ghost use Rattle.ff_graph_links.specs.pads.Links.{seen, all_seen, source_of, sources_of, sources_from, pads_in};
 
