@@ -6,8 +6,8 @@ ghost use Rattle.ff_command.specs.Help.{left, all_lines, concerned, taken, effec
 ghost use Rattle.ff_command.specs.Help.{codec_lines, filter_line, filters, filter_lines, filters_text, help_text, version_text};
 
 use ff_filters::{FILTERS, FilterName, takes_sound};
-use ff_frame::Codec;
 use ff_format::{FORMATS, FileFormat};
+use ff_frame::Codec;
 use ff_words::{AUDIO_CODECS, Concern, Kind, OPTIONS, VIDEO_CODECS};
 use std::alloc::{AllocError, Global};
 

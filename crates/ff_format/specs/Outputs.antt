@@ -1,4 +1,4 @@
--- A format as it is written: which streams it takes, how it writes them, and that it can write what its row takes.
+-- A format as it is written: which streams it can write, and how; and what it owes, that it can write what its row takes.
 use Rattle.std.specs.Prelude.{◌≡◌, ℕ, ◌≤◌, true, List, [], ◌∷◌, length, None}
 use Rattle.ff_time.specs.Fraction.{Fraction}
 use Rattle.ff_frame.specs.Codecs.{IsFlacCodec}
@@ -25,21 +25,30 @@ abbrev pub layout_of_first : (StreamHead → Layout) → List StreamHead → Lay
 layout_of_first layout [] = no_layout
 layout_of_first layout (head ∷ heads) = layout head
 
--- the bits of a sample that FLAC can code; any number of another codec
-abbrev pub HasBits : Codec → ℕ → Type 0
-HasBits codec bits = IsFlacCodec codec → (4 ≤ bits) × (bits ≤ 24)
-
--- A format whose row takes so much.
-pub record OutputFormat (taken : Taken) : Type 1 where
+-- A format that is written.
+pub record OutputFormat : Type 1 where
   -- it can write packets of streams of these heads,
   pub CanWrite : List StreamHead → Type 0
   -- and how it writes them, by what an output's options say
   pub layout : OutputOptions → List StreamHead → Layout
-  -- It can write a stream of sound that its row takes, of 1 to 8 channels, where the codec can code so many bits,
+
+-- a format of one stream alone
+abbrev pub of_one : (StreamHead → Type 0) → (StreamHead → Layout) → OutputFormat
+of_one Takes layout = record { CanWrite = IsAlone Takes; layout = λ options heads. layout_of_first layout heads }
+
+-- ---- what it owes
+
+-- the bits of a sample that FLAC can code; any number of another codec
+abbrev pub HasBits : Codec → ℕ → Type 0
+HasBits codec bits = IsFlacCodec codec → (4 ≤ bits) × (bits ≤ 24)
+
+-- It can write what its row takes.
+pub record WritesTaken (taken : Taken) (format : OutputFormat) : Type 0 where
+  -- a stream of sound of 1 to 8 channels, where the codec can code so many bits,
   pub sound : (tb : Fraction) (rate bits channels : ℕ) (codec : Codec) → 1 ≤ channels → channels ≤ 8 → HasBits codec bits
-      → takes_sound taken.sound codec rate ≡ true → CanWrite (Audio tb rate bits channels codec ∷ [])
-  -- one of pictures, where its row takes such,
-  pub pictures : (tb : Fraction) (format : Format) (width height sar_num sar_den : ℕ)
-      → taken.pictures ≡ true → CanWrite (Video tb format width height sar_num sar_den ∷ [])
-  -- and any streams, where its row takes several.
-  pub several : (heads : List StreamHead) → 2 ≤ length heads → length heads ≤ taken.streams → CanWrite heads
+      → takes_sound taken.sound codec rate ≡ true → format.CanWrite (Audio tb rate bits channels codec ∷ [])
+  -- one of pictures,
+  pub pictures : (tb : Fraction) (pixels : Format) (width height sar_num sar_den : ℕ)
+      → taken.pictures ≡ true → format.CanWrite (Video tb pixels width height sar_num sar_den ∷ [])
+  -- and any streams, where it takes several
+  pub several : (heads : List StreamHead) → 2 ≤ length heads → length heads ≤ taken.streams → format.CanWrite heads

@@ -89,7 +89,11 @@ fn is_signed_so(form: PcmForm, signed_bytes: bool) -> bool
     ensures { result ≡ signed_so signed_bytes form.depth form.signed }
 {
     match form.depth {
-        PcmDepth::Bits8 => if signed_bytes { form.signed } else { !form.signed },
+        PcmDepth::Bits8 => if signed_bytes {
+            form.signed
+        } else {
+            !form.signed
+        },
         PcmDepth::Bits16 | PcmDepth::Bits24 | PcmDepth::Bits32 => form.signed,
     }
 }

@@ -9,10 +9,10 @@ use crate::head_reader::HeadReader;
 use crate::one_of::OneOf;
 use crate::walk::InputWalk;
 use ff_flac_dec::{Flac, FlacCut, FlacHead, FlacWalk};
+use ff_format::FileFormat;
 use ff_frame::HeadEnd;
 use ff_reader::HeadFormat;
 use ff_wav::{Wav, WavCut, WavHead, WavWalk};
-use ff_format::FileFormat;
 use ff_y4m::{Y4mCut, Y4mHead, read_head};
 
 /// The head of an input: what comes before its packets, in the format that it has. WAV (RIFF WAVE), YUV4MPEG2 (yuv4mpeg(5)), FLAC

@@ -4,8 +4,8 @@ ghost use Rattle.ff_input.specs.Formats.{IsHead, input_head};
 
 use crate::formats::InputHead;
 use crate::walk::InputWalk;
-use ff_frame::HeadEnd;
 use ff_format::FileFormat;
+use ff_frame::HeadEnd;
 
 /// The head of an input that begins with these bytes, and where `whole` ends with them: in this format, or without one in the
 /// format whose first word the input has. Unsupported at 0 where it has that of none, and in a format that isn't read; else

@@ -9,8 +9,8 @@ ghost use Rattle.ff_input.specs.Places.{Reached, IsReached};
 use crate::first_word::FirstWord;
 use crate::formats::{AnyWalk, InputHead, start_of, told_by_words};
 use crate::head_reader::HeadReader;
-use ff_frame::HeadEnd;
 use ff_format::FileFormat;
+use ff_frame::HeadEnd;
 
 /// How far the head of an input was read.
 #[derive(Drop)]

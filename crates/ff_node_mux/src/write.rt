@@ -8,8 +8,8 @@ ghost use Rattle.ff_format.specs.Layouts.{IsBeyond};
 ghost use Rattle.ff_format.specs.Patches.{replacing, StandsIn};
 ghost use Rattle.ff_node_mux.specs.Writing.{text_before, Replaces, EndsAs};
 
-use ff_host::{Sink, SinkError};
 use ff_format::{Patch, Writer};
+use ff_host::{Sink, SinkError};
 use ff_net::Fault;
 use std::alloc::{AllocError, Global};
 

@@ -10,9 +10,9 @@ ghost use Rattle.ff_node_mux.specs.Writing.{Alike, Took, Wrote, WroteAll, Stuck,
 use crate::merge::Interleave;
 use crate::write::{text_before, write, write_end, write_packet};
 use ff_filter::discard;
+use ff_format::Writer;
 use ff_frame::Totals;
 use ff_host::Sink;
-use ff_format::Writer;
 use ff_net::Fault;
 use ff_stream::{Item, Refused};
 use std::alloc::Global;

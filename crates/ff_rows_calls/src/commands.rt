@@ -3,13 +3,11 @@ use crate::lang::show;
 use crate::maps::show_map;
 use crate::table::{Stop, text_of};
 use crate::words::{Words, read_number};
+use ff_format::{FORMATS, FileFormat};
 use ff_frame::{Codec, HashKind};
 use ff_lang::Graph;
 use ff_time::TimeCut;
-use ff_format::{FORMATS, FileFormat};
-use ff_words::{
-    Command, InputJob, Job, OutputJob, Solo, WordError, WordKind, read_words,
-};
+use ff_words::{Command, InputJob, Job, OutputJob, Solo, WordError, WordKind, read_words};
 use std::alloc::{AllocError, Global};
 
 fn name_of_format(format: FileFormat) -> &'static str {

@@ -3,10 +3,10 @@ use crate::heads::{is_whole, show_end, show_flac, show_stream, show_wav, show_y4
 use crate::runs::Runs;
 use crate::table::Stop;
 use crate::words::Words;
+use ff_format::FileFormat;
 use ff_frame::HeadEnd;
 use ff_input::{InputHead, InputWalk, OneOf, read_input_head};
 use ff_lists::front;
-use ff_format::FileFormat;
 use std::alloc::Global;
 
 fn format_of(word: &str) -> Result<Option<FileFormat>, Stop> {

@@ -3,7 +3,7 @@ use Rattle.std.proofs.Common.{◌≡◌, ℕ, ◌+◌, ◌≤◌, true, List, �
 use Rattle.std.specs.Prelude.{◌*◌, ◌-◌, ◌%◌, Bool, false, ◌&&◌, Option}
 use Rattle.ff_format.specs.Formats.{same_order, signed_so, taken_by, takes_coding}
 use Rattle.ff_format.specs.Layouts.{Layout, bytes_in, finished}
-use Rattle.ff_format.specs.Outputs.{OutputFormat, IsAlone, layout_of_first}
+use Rattle.ff_format.specs.Outputs.{OutputFormat, WritesTaken, of_one}
 use Rattle.ff_format.specs.declared.format.FileFormat.TheVariants as format
 use Rattle.ff_frame.specs.Codecs.{coding_of, sample_bytes}
 use Rattle.ff_frame.specs.declared.coding.ByteOrder.{ByteOrder}
@@ -30,7 +30,7 @@ wav_layout head = record {
   longest = Some longest;
 }
 
-pub sign_taken : (depth : PcmDepth) (sign : Bool) → signed_so false depth sign ≡ true → IsWavSign depth sign
+sign_taken : (depth : PcmDepth) (sign : Bool) → signed_so false depth sign ≡ true → IsWavSign depth sign
 sign_taken Bits8 true e = cc
 sign_taken Bits8 false e = tt
 sign_taken Bits16 true e = tt
@@ -40,21 +40,23 @@ sign_taken Bits24 false e = cc
 sign_taken Bits32 true e = tt
 sign_taken Bits32 false e = cc
 
-pub form_taken : (depth : PcmDepth) (sign : Bool) (order : ByteOrder) → (same_order LittleEndian order && signed_so false depth sign) ≡ true
+form_taken : (depth : PcmDepth) (sign : Bool) (order : ByteOrder) → (same_order LittleEndian order && signed_so false depth sign) ≡ true
     → IsWavForm depth sign order
 form_taken depth sign LittleEndian e = sign_taken depth sign e
 form_taken depth sign BigEndian e = cc
 
-pub wav_taken : (coding : Coding) (rate : ℕ) → takes_coding (taken_by format.Wav).sound coding rate ≡ true → IsWavCoding coding
+wav_taken : (coding : Coding) (rate : ℕ) → takes_coding (taken_by format.Wav).sound coding rate ≡ true → IsWavCoding coding
 wav_taken (Pcm form) rate e = form_taken form.depth form.signed form.order e
 wav_taken Flac rate e = cc
 wav_taken RawVideo rate e = cc
 
 -- one stream of WAV's linear PCM
-abbrev pub wav_format : OutputFormat (taken_by format.Wav)
-wav_format = record {
-  CanWrite = IsAlone IsWavCoded;
-  layout = λ options heads. layout_of_first wav_layout heads;
+abbrev pub wav_format : OutputFormat
+wav_format = of_one IsWavCoded wav_layout
+
+-- and it can write what its row takes
+pub wav_writes : WritesTaken (taken_by format.Wav) wav_format
+wav_writes = record {
   sound = λ tb rate bits channels codec some few depth e. wav_taken (coding_of codec) rate e;
   pictures = λ tb f width height sar_num sar_den e. cc;
   several = λ heads some few. absurd (omega (arith, some, few));

@@ -4,8 +4,8 @@ ghost use Rattle.ff_frame.specs.Codecs.{sample_bytes};
 ghost use Rattle.ff_wav.specs.Codecs.{IsWavCoded};
 ghost use Rattle.ff_wav.specs.Header.{le_16, le_32, is_plain, mask_of, fields_of, pcm_guid, extension, riff, wave_format, data_id, plain_format, long_format, format_bytes, header, header_len};
 
-use ff_pcm_cut::size_of_sample;
 use ff_frame::StreamHead;
+use ff_pcm_cut::size_of_sample;
 use std::alloc::{AllocError, Global};
 
 #[tactic(auto, unfolding(crate::specs::Header::le_16))]

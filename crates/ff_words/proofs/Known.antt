@@ -143,19 +143,23 @@ no-option word d = none-in options word refl d
 
 -- ---- values
 
+abbrev Line : Type 0
+Line = List ℕ × List ℕ × FileFormat × Bool × Bool
+
 -- a line that is found by its name is what that name says
-line-is : (list : List (List ℕ × List ℕ × FileFormat × Bool × Bool)) (word : List ℕ) (line : List ℕ × List ℕ × FileFormat × Bool × Bool)
-    → line_named list word ≡ Some line → format_in list word ≡ Some (named line)
+first-line : (l : Line) (list : List Line) (word : List ℕ) (line : Line) (b : Bool) → bytes_eq l.0 word ≡ b → line_named (l ∷ list) word ≡ Some line
+    → (line_named list word ≡ Some line → format_in list word ≡ Some (named line)) → format_in (l ∷ list) word ≡ Some (named line)
+first-line l list word line true t e h =
+    let here : line_named (l ∷ list) word ≡ Some l = ap (λ b. if b then Some l else line_named list word) t in
+    let same : l ≡ line = cc in
+    ap (λ b. if b then Some (named l) else format_in list word) t ∙ ap (λ x. Some (named x)) same
+first-line l list word line false f e h =
+    let there : line_named list word ≡ Some line = sym (ap (λ b. if b then Some l else line_named list word) f) ∙ e in
+    ap (λ b. if b then Some (named l) else format_in list word) f ∙ h there
+
+line-is : (list : List Line) (word : List ℕ) (line : Line) → line_named list word ≡ Some line → format_in list word ≡ Some (named line)
 line-is [] word line e = cc
-line-is (l ∷ list) word line e = pick (bytes_eq l.0 word) refl
-  where
-    pick : (b : Bool) → bytes_eq l.0 word ≡ b → format_in (l ∷ list) word ≡ Some (named line)
-    pick true t =
-        let same : l ≡ line = (let here : line_named (l ∷ list) word ≡ Some l = ap (λ b. if b then Some l else line_named list word) t in cc) in
-        ap (λ b. if b then Some (named l) else format_in list word) t ∙ ap (λ x. Some (named x)) same
-    pick false f =
-        let there : line_named list word ≡ Some line = sym (ap (λ b. if b then Some l else line_named list word) f) ∙ e in
-        ap (λ b. if b then Some (named l) else format_in list word) f ∙ line-is list word line there
+line-is (l ∷ list) word line e = first-line l list word line (bytes_eq l.0 word) refl e (line-is list word line)
 
 abbrev named_as : FileFormat → Named
 named_as f = record { format = f; read = is_read f; written = true }

@@ -4,7 +4,7 @@ use Rattle.std.specs.Coded.{Unit-prop}
 use Rattle.std.proofs.Common.{arith}
 use Rattle.ff_format.specs.Formats.{taken_by}
 use Rattle.ff_format.specs.Layouts.{Layout, finished}
-use Rattle.ff_format.specs.Outputs.{OutputFormat, IsAlone, layout_of_first}
+use Rattle.ff_format.specs.Outputs.{OutputFormat, WritesTaken, of_one}
 use Rattle.ff_format.specs.declared.format.FileFormat.TheVariants as format
 use Rattle.ff_frame.specs.declared.head.StreamHead.{StreamHead}
 use Rattle.ff_frame.specs.declared.head.StreamHead.TheVariants.{Audio, Video}
@@ -23,10 +23,12 @@ y4m_layout head = record {
 }
 
 -- one stream of pictures
-abbrev pub y4m_format : OutputFormat (taken_by format.Y4m)
-y4m_format = record {
-  CanWrite = IsAlone IsVideoHead;
-  layout = λ options heads. layout_of_first y4m_layout heads;
+abbrev pub y4m_format : OutputFormat
+y4m_format = of_one IsVideoHead y4m_layout
+
+-- and it can write what its row takes
+pub y4m_writes : WritesTaken (taken_by format.Y4m) y4m_format
+y4m_writes = record {
   sound = λ tb rate bits channels codec some few depth e. cc;
   pictures = λ tb f width height sar_num sar_den e. tt;
   several = λ heads some few. absurd (omega (arith, some, few));

@@ -2,7 +2,7 @@
 use Rattle.std.specs.Prelude.{◌≡◌, ⊤, ℕ, List, Option}
 use Rattle.ff_format.specs.Formats.{taken_by}
 use Rattle.ff_format.specs.Layouts.{Layout}
-use Rattle.ff_format.specs.Outputs.{OutputFormat}
+use Rattle.ff_format.specs.Outputs.{OutputFormat, WritesTaken}
 use Rattle.ff_format.specs.Patches.{IsInside}
 use Rattle.ff_format.specs.declared.format.FileFormat.{FileFormat}
 use Rattle.ff_format.specs.declared.format.FileFormat.TheVariants as format
@@ -11,15 +11,15 @@ use Rattle.ff_frame.specs.declared.head.StreamHead.{StreamHead}
 use Rattle.ff_frame.specs.declared.totals.Totals.{Totals}
 use Rattle.ff_mux.specs.declared.writers.any.AnyWriter.{AnyWriter}
 use Rattle.ff_mux.specs.declared.writers.any.AnyWriter.TheVariants.{Wav, Flac, Y4m, Hash}
-use Rattle.ff_mux.specs.writers.FlacFile.{flac_format, flac_inside, flac_layout}
-use Rattle.ff_mux.specs.writers.HashFile.{hash_format, hash_layout}
+use Rattle.ff_mux.specs.writers.FlacFile.{flac_format, flac_inside, flac_layout, flac_writes}
+use Rattle.ff_mux.specs.writers.HashFile.{hash_format, hash_layout, hash_writes}
 use Rattle.ff_mux.specs.writers.Writers.{flac_head, hash_kind, hash_heads}
 use Rattle.ff_wav.specs.Header.{written_head, body_size}
-use Rattle.ff_wav.specs.Layout.{wav_format, wav_inside, wav_layout}
-use Rattle.ff_y4m.specs.Layout.{y4m_format, y4m_layout}
+use Rattle.ff_wav.specs.Layout.{wav_format, wav_inside, wav_layout, wav_writes}
+use Rattle.ff_y4m.specs.Layout.{y4m_format, y4m_layout, y4m_writes}
 use Rattle.ff_y4m.specs.Writers.{y4m_head}
 
-abbrev pub format_of : (f : FileFormat) → OutputFormat (taken_by f)
+abbrev pub format_of : FileFormat → OutputFormat
 format_of format.Wav = wav_format
 format_of format.Flac = flac_format
 format_of format.Y4m = y4m_format
@@ -32,6 +32,13 @@ CanWrite f heads = (format_of f).CanWrite heads
 -- how the format is written, for streams of these heads
 abbrev pub layout_of : FileFormat → OutputOptions → List StreamHead → Layout
 layout_of f options heads = (format_of f).layout options heads
+
+-- each can write what its row takes
+pub writes_taken : (f : FileFormat) → WritesTaken (taken_by f) (format_of f)
+writes_taken format.Wav = wav_writes
+writes_taken format.Flac = flac_writes
+writes_taken format.Y4m = y4m_writes
+writes_taken format.FrameHash = hash_writes
 
 -- ---- a writer of any
 

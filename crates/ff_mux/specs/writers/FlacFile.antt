@@ -5,7 +5,7 @@ use Rattle.std.specs.Coded.{Unit-prop, le_prop}
 use Rattle.std.specs.Prelude.{IfSome, unwrap_or}
 use Rattle.ff_format.specs.Formats.{taken_by, takes_coding, takes_sound}
 use Rattle.ff_format.specs.Layouts.{Layout, bytes_in, finished}
-use Rattle.ff_format.specs.Outputs.{OutputFormat, IsAlone, layout_of_first, HasBits}
+use Rattle.ff_format.specs.Outputs.{OutputFormat, HasBits, WritesTaken, of_one}
 use Rattle.ff_format.specs.Patches.{StandsIn}
 use Rattle.ff_format.specs.declared.format.FileFormat.TheVariants as format
 use Rattle.ff_frame.specs.Codecs.{IsFlacCodec, IsFlacCoding, coding_of}
@@ -33,12 +33,12 @@ flac_layout head = record {
   longest = None;
 }
 
-pub flac_taken : (coding : Coding) (rate : ℕ) → takes_coding (taken_by format.Flac).sound coding rate ≡ true → IsFlacCoding coding × (rate ≤ 1048575)
+flac_taken : (coding : Coding) (rate : ℕ) → takes_coding (taken_by format.Flac).sound coding rate ≡ true → IsFlacCoding coding × (rate ≤ 1048575)
 flac_taken (Pcm form) rate e = cc
 flac_taken Flac rate e = (tt, grind (arith, nat_tests))
 flac_taken RawVideo rate e = cc
 
-pub has_room : (codec : Codec) (rate bits channels : ℕ) → 1 ≤ channels → channels ≤ 8 → HasBits codec bits
+has_room : (codec : Codec) (rate bits channels : ℕ) → 1 ≤ channels → channels ≤ 8 → HasBits codec bits
     → IsFlacCoding (coding_of codec) × (rate ≤ 1048575) → HasRoom rate bits channels
 has_room codec rate bits channels some few depth taken = record {
   small_rate = let small = taken.1 in omega (arith, small);
@@ -49,10 +49,12 @@ has_room codec rate bits channels some few depth taken = record {
 }
 
 -- one stream that is coded so, where STREAMINFO has room for it
-abbrev pub flac_format : OutputFormat (taken_by format.Flac)
-flac_format = record {
-  CanWrite = IsAlone CanHold;
-  layout = λ options heads. layout_of_first flac_layout heads;
+abbrev pub flac_format : OutputFormat
+flac_format = of_one CanHold flac_layout
+
+-- and it can write what its row takes
+pub flac_writes : WritesTaken (taken_by format.Flac) flac_format
+flac_writes = record {
   sound = λ tb rate bits channels codec some few depth e. let t = flac_taken (coding_of codec) rate e in (t.0, has_room codec rate bits channels some few depth t);
   pictures = λ tb f width height sar_num sar_den e. cc;
   several = λ heads some few. absurd (omega (arith, some, few));

@@ -3,7 +3,7 @@ use Rattle.std.specs.Prelude.{◌≡◌, ℕ, ◌≤◌, List, [], length, Optio
 use Rattle.std.proofs.Common.{arith}
 use Rattle.ff_format.specs.Formats.{taken_by}
 use Rattle.ff_format.specs.Layouts.{Layout, finished}
-use Rattle.ff_format.specs.Outputs.{OutputFormat}
+use Rattle.ff_format.specs.Outputs.{OutputFormat, WritesTaken}
 use Rattle.ff_format.specs.declared.format.FileFormat.TheVariants as format
 use Rattle.ff_frame.specs.declared.hash.HashKind.{HashKind}
 use Rattle.ff_frame.specs.declared.head.StreamHead.{StreamHead}
@@ -22,10 +22,15 @@ hash_layout kind heads = record {
 }
 
 -- 1 to 16 streams of any kind
-abbrev pub hash_format : OutputFormat (taken_by format.FrameHash)
+abbrev pub hash_format : OutputFormat
 hash_format = record {
   CanWrite = λ heads. (1 ≤ length heads) × (length heads ≤ 16);
   layout = λ options heads. hash_layout options.hash heads;
+}
+
+-- and it can write what its row takes
+pub hash_writes : WritesTaken (taken_by format.FrameHash) hash_format
+hash_writes = record {
   sound = λ tb rate bits channels codec some few depth e. (omega arith, omega arith);
   pictures = λ tb f width height sar_num sar_den e. (omega arith, omega arith);
   several = λ heads some few. (omega (arith, some), few);

@@ -20,7 +20,7 @@ use Rattle.ff_input.specs.Formats.{InputHead, IsHead, any_owes, stream_in}
 use Rattle.ff_input.specs.Streams.{IsInputStream, IsPictures}
 use Rattle.ff_map.specs.declared.map.Kind.TheVariants as kind
 use Rattle.ff_format.specs.Formats.{taken_by, takes_sound}
-use Rattle.ff_mux.specs.writers.AnyWriters.{CanWrite, format_of}
+use Rattle.ff_mux.specs.writers.AnyWriters.{CanWrite, writes_taken}
 use Rattle.ff_pcm.specs.Frames.{IsPcmHead}
 use Rattle.ff_plan_layout.specs.Streams.{audio_codec, coded_bits, most_streams, packed_as, packed_bits, takes_head, takes_kind, takes_sound as sound_taken}
 use Rattle.ff_pcm_cut.specs.Packets as pcm
@@ -137,8 +137,8 @@ has_bits coding.RawVideo bits f = absurd f
 written : (head : StreamHead) (out : OutputJob) → IsFitHead head → takes_head out head ≡ true → CanWrite out.format (packed_as out head ∷ [])
 written (Audio tb rate bits channels from) out fit t =
     let c = audio_codec out out.format in
-    (format_of out.format).sound tb rate (packed_bits c bits) channels c fit.channels.0 fit.channels.1 (has_bits (coding_of c) bits) (sound_in out rate t)
-written (Video tb p width height sar_num sar_den) out fit t = (format_of out.format).pictures tb p width height sar_num sar_den t
+    (writes_taken out.format).sound tb rate (packed_bits c bits) channels c fit.channels.0 fit.channels.1 (has_bits (coding_of c) bits) (sound_in out rate t)
+written (Video tb p width height sar_num sar_den) out fit t = (writes_taken out.format).pictures tb p width height sar_num sar_den t
 
 pub heads_are_written : (hs : List StreamHead) (out : OutputJob) → AllByRecursion (λ h. IsFitHead h × (takes_head out h ≡ true)) hs
     → 1 ≤ length hs → length hs ≤ most_streams out.format → CanWrite out.format (map (λ h. packed_as out h) hs)
@@ -147,4 +147,4 @@ heads_are_written (h ∷ []) out all some few = written h out all.0.0 all.0.1
 heads_are_written (h ∷ g ∷ hs) out all some few =
     let heads = map (λ k. packed_as out k) (h ∷ g ∷ hs) in
     let long : length heads ≡ length (h ∷ g ∷ hs) = length-map (h ∷ g ∷ hs) (λ k. packed_as out k) in
-    (format_of out.format).several heads (omega arith) (subst (λ (n : ℕ). n ≤ most_streams out.format) (sym long) few)
+    (writes_taken out.format).several heads (omega arith) (subst (λ (n : ℕ). n ≤ most_streams out.format) (sym long) few)

@@ -3,6 +3,7 @@ ghost use Rattle.ff_wav.specs.Codecs.{IsWavCoded};
 ghost use Rattle.ff_mux.specs.FlacHead.{CanHold};
 ghost use Rattle.ff_y4m.specs.Header.{IsVideoHead};
 
+use ff_format::{FileFormat, OutputOptions, Writer};
 use ff_frame::{Bytes, Codec, Event, Format, HashKind, Pkt, StreamHead, Ticket, Totals};
 use ff_host::{FailAt, Host, HostCall, MemHost, MemSink, Sink};
 use ff_mux::{AnyWriter, writer_of};
@@ -10,7 +11,6 @@ use ff_net::{Fault, Machine};
 use ff_node_mux::Mux;
 use ff_stream::Item;
 use ff_time::Rational;
-use ff_format::{FileFormat, OutputOptions, Writer};
 use std::alloc::{AllocError, Global};
 
 type OutMux = Mux<MemSink, AnyWriter>;
