@@ -56,8 +56,8 @@ taken _ = []
 
 -- what it does
 abbrev pub effect : Kind → List ℕ
-effect kind.Nothing = codes "no effect: outputs are always replaced, and nothing is asked"
-effect kind.NoStats = codes "no line on standard error says how far the run is"
+effect kind.Nothing = codes "no effect"
+effect kind.NoStats = codes "no line on standard error says how far the run has come"
 effect kind.Level = codes "no effect: quiet, panic, fatal, error, warning, info, verbose or debug"
 effect kind.Complex = codes "a filtergraph over several streams"
 effect kind.Queue = codes "the size of every queue, 1 to 1024 items; 8 without it"
@@ -69,9 +69,9 @@ effect kind.Format = codes "the format of the file"
 effect kind.Start = codes "where the cut starts"
 effect kind.Length = codes "how long the cut is"
 effect kind.Input = codes "an input, which the options before it concern"
-effect kind.Map = codes "streams: F, F:N, F:v, F:a, F:v:N or F:a:N, with ? where they may lack"
-effect kind.AudioCodec = codes "how sound is coded"
-effect kind.VideoCodec = codes "how pictures are coded"
+effect kind.Map = codes "streams: F, F:N, F:v, F:a, F:v:N or F:a:N, with ? where there may be none"
+effect kind.AudioCodec = codes "how audio is coded"
+effect kind.VideoCodec = codes "how video is coded"
 effect kind.VideoGraph = codes "a filtergraph for each video stream by itself"
 effect kind.AudioGraph = codes "a filtergraph for each audio stream by itself"
 effect kind.NoVideo = codes "no video from the inputs"
@@ -131,9 +131,9 @@ filters list = map (λ (l : Bor (List ℕ) × FilterName × Bor (List ℕ) × Bo
 -- by the list by which graphs are read
 unfoldable pub filters_text : List ℕ
 filters_text =
-    line (codes "Filters of pictures, each with its arguments:")
+    line (codes "Video filters, each with its arguments:")
     ++ filter_lines false (filters FILTERS)
-    ++ line (codes "Filters of sound:")
+    ++ line (codes "Audio filters:")
     ++ filter_lines true (filters FILTERS)
 
 -- ---- the texts
@@ -144,9 +144,9 @@ help_text =
     ++ option_lines options
     ++ line (codes "Formats:")
     ++ format_lines file_formats
-    ++ line (codes "Codecs of sound:")
+    ++ line (codes "Audio codecs:")
     ++ codec_lines audio_codecs
-    ++ line (codes "Codecs of pictures:")
+    ++ line (codes "Video codecs:")
     ++ codec_lines video_codecs
     ++ filters_text
     ++ all_lines (map (λ l. l.now) STATUSES)

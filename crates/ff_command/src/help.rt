@@ -12,10 +12,11 @@ use ff_words::{AUDIO_CODECS, Concern, Kind, OPTIONS, VIDEO_CODECS};
 use std::alloc::{AllocError, Global};
 
 /// What stands before the options.
-pub static USAGE: [&'static str; 4] = [
+pub static USAGE: [&'static str; 5] = [
     "ffmpeg [options] {[options of an input] -i INPUT} .. {[options of an output] OUTPUT} ..",
+    "An output that is there already is replaced, and nothing is asked.",
     "",
-    "Options, and what each concerns: all of the command, the file or the output behind it,",
+    "Options, and what each concerns: all of the command, the file or the output after it,",
     "an input itself; or it stands alone:",
 ];
 
@@ -23,8 +24,8 @@ pub static USAGE: [&'static str; 4] = [
 pub static STATUSES: [&'static str; 10] = [
     "Statuses, each but 0 with a line that names its cause:",
     "  0  all was done",
-    "  1  the words ask for nothing",
-    "  2  there is no plan for the words and the inputs",
+    "  1  the command line was refused",
+    "  2  the inputs can't give the streams or filters that were asked for",
     "  3  a file couldn't be opened, read, created, written or closed",
     "  4  an input breaks its format",
     "  5  a stream has more packets than it may have, or lasts too long",
@@ -35,7 +36,7 @@ pub static STATUSES: [&'static str; 10] = [
 
 /// The name, what it is proved with, and the profile.
 pub static PROGRAM: [&'static str; 3] = [
-    "zofimanga: an ffmpeg whose bytes are proved",
+    "zofimanga 0.1.0 for x86-64 Linux: an ffmpeg whose bytes are proved",
     "proved with Rattle, logic dac8208d650f15bf",
     "profile zofimanga of ffmpeg 7: WAV, YUV4MPEG2, FLAC and framehash",
 ];
@@ -74,8 +75,8 @@ fn effect(kind: Kind) -> &'static str
     ensures { result.now ≡ effect_of kind }
 {
     match kind {
-        Kind::Nothing => "no effect: outputs are always replaced, and nothing is asked",
-        Kind::NoStats => "no line on standard error says how far the run is",
+        Kind::Nothing => "no effect",
+        Kind::NoStats => "no line on standard error says how far the run has come",
         Kind::Level => "no effect: quiet, panic, fatal, error, warning, info, verbose or debug",
         Kind::Complex => "a filtergraph over several streams",
         Kind::Queue => "the size of every queue, 1 to 1024 items; 8 without it",
@@ -87,9 +88,9 @@ fn effect(kind: Kind) -> &'static str
         Kind::Start => "where the cut starts",
         Kind::Length => "how long the cut is",
         Kind::Input => "an input, which the options before it concern",
-        Kind::Map => "streams: F, F:N, F:v, F:a, F:v:N or F:a:N, with ? where they may lack",
-        Kind::AudioCodec => "how sound is coded",
-        Kind::VideoCodec => "how pictures are coded",
+        Kind::Map => "streams: F, F:N, F:v, F:a, F:v:N or F:a:N, with ? where there may be none",
+        Kind::AudioCodec => "how audio is coded",
+        Kind::VideoCodec => "how video is coded",
         Kind::VideoGraph => "a filtergraph for each video stream by itself",
         Kind::AudioGraph => "a filtergraph for each audio stream by itself",
         Kind::NoVideo => "no video from the inputs",
@@ -262,9 +263,9 @@ fn push_filters(
 fn push_all_filters(alloc: Global, out: &mut Vec<u8>) -> Result<(), AllocError>
     ensures { OnOk result (out.new.items ≡ out.old.items ++ filters_text) }
 {
-    push_line(out, "Filters of pictures, each with its arguments:")?;
+    push_line(out, "Video filters, each with its arguments:")?;
     push_filters(alloc, out, false, &FILTERS)?;
-    push_line(out, "Filters of sound:")?;
+    push_line(out, "Audio filters:")?;
     push_filters(alloc, out, true, &FILTERS)
 }
 
@@ -278,9 +279,9 @@ pub(crate) fn help(alloc: Global) -> Result<Vec<u8>, AllocError>
     push_options(alloc, &mut out, &OPTIONS)?;
     push_line(&mut out, "Formats:")?;
     push_formats(alloc, &mut out, &FORMATS)?;
-    push_line(&mut out, "Codecs of sound:")?;
+    push_line(&mut out, "Audio codecs:")?;
     push_codecs(alloc, &mut out, &AUDIO_CODECS)?;
-    push_line(&mut out, "Codecs of pictures:")?;
+    push_line(&mut out, "Video codecs:")?;
     push_codecs(alloc, &mut out, &VIDEO_CODECS)?;
     push_all_filters(alloc, &mut out)?;
     push_lines(&mut out, &STATUSES)?;
