@@ -187,8 +187,9 @@ impl ChannelSplit {
     ghost use Rattle.ff_filter.specs.spread.Many.{AreMade};
     ghost use Rattle.ff_afilter.specs.Channels.{IsChannelSplit};
 
-    /// The filter by its arguments, of which it takes none, and the head of its input; beside it a head for each channel, which
-    /// is that of the input with one channel. It refuses in this order: `Pads`, `Kind`, `UnknownOption` of the first argument.
+    /// The filter by its arguments, of which it takes none, and the head of its input. Beside it stands a head for
+    /// each channel: that of the input with one channel. It refuses in this order: `Pads`, `Kind`, `UnknownOption` of
+    /// the first argument.
     pub fn configure(
         alloc: Global,
         args: &[Arg],

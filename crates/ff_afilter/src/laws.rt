@@ -30,7 +30,7 @@ pub fn channels_are_valid()
         → GivesValid (Frames (AudioHead tb rate bits channels codec)) (Frames (AudioHead tb rate bits 1 codec)) (λ s. map_stream (channel_item q) s) }
 {}
 
-/// The audio filters keep the broken rule: a broken input counts as open without a further item, and the output is broken
+/// The audio filters keep the broken rule. A broken input counts as open without a further item. The output is broken
 /// exactly where it is broken off.
 pub fn sound_keeps_the_broken_rule()
     ensures same { (lane : Lane)

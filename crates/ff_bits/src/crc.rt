@@ -10,8 +10,8 @@ use crate::table8::TABLE8;
 use crate::table16::TABLE16;
 use crate::word::whole_word;
 
-/// The sum of a frame header (RFC 9639, section 9.1.8): the remainder of the bytes by x^8 + x^2 + x + 1, which begins
-/// at 0, the most significant bit of a byte first.
+/// The checksum of a frame header (RFC 9639, section 9.1.8): the remainder of the bytes by x^8 + x^2 + x + 1. It
+/// begins at 0, the most significant bit of a byte first.
 pub fn crc8(bytes: &[u8]) -> u8
     ensures remainder { IsRemainder 0x107 8 (bits bytes.now) result }
     ensures exact { result ≡ crc8_of (bits bytes.now) }
@@ -28,8 +28,8 @@ pub fn crc8(bytes: &[u8]) -> u8
     sum
 }
 
-/// The sum of a whole frame (RFC 9639, section 9.3): the remainder of the bytes by x^16 + x^15 + x^2 + 1, which begins
-/// at 0, the most significant bit of a byte first.
+/// The checksum of a whole frame (RFC 9639, section 9.3): the remainder of the bytes by x^16 + x^15 + x^2 + 1. It
+/// begins at 0, the most significant bit of a byte first.
 pub fn crc16(bytes: &[u8]) -> u16
     ensures remainder { IsRemainder 0x18005 16 (bits bytes.now) result }
     ensures exact { result ≡ crc16_of (bits bytes.now) }

@@ -9,8 +9,8 @@ ghost use Rattle.ff_bits.specs.Reading.{Done};
 ghost use Rattle.ff_bits.specs.NumberGrammar.{coded_below, of_31_bits, of_36_bits};
 ghost use Rattle.ff_bits.specs.Pieces.{Piece, AreWritable, AreRead, written_pieces, values_in};
 
-/// Values and coded numbers that were written one after the other, in any number and order, are read back as they
-/// were, and nothing else can be read.
+/// Values and coded numbers are read back as they were written one after the other, in any number and order. Nothing
+/// else can be read.
 pub fn what_was_written_is_read()
     ensures read { (pieces : List Piece) (after : List Bool) → AreWritable pieces → AreRead pieces (written_pieces pieces ++ after) (values_in pieces) after }
     ensures only { (pieces : List Piece) (after rest : List Bool) (values : List ℕ) → AreWritable pieces → AreRead pieces (written_pieces pieces ++ after) values rest → (values ≡ values_in pieces) × (rest ≡ after) }
@@ -23,8 +23,9 @@ pub fn coded_numbers_are_apart()
     ensures some { (bits : List Bool) → IsPartOfCode bits → BeginsNoCode bits → ⊥ }
 {}
 
-/// The coded numbers with a first byte below 11111110 are those of at most 31 bits, and the ones with a first byte below 11111111
-/// those of at most 36: a value that is read has no more bits, and each value of so many is read from its shortest form.
+/// The coded numbers with a first byte below 11111110 are those of at most 31 bits. Those with a first byte below
+/// 11111111 are those of at most 36. A value that is read has no more bits. Each value of so many is read from its
+/// shortest form.
 pub fn coded_numbers_have_31_or_36_bits()
     ensures few_31 { (bits rest : List Bool) (v : ℕ) → coded_below of_31_bits bits ≡ Done v rest → v < 2 ^ 31 }
     ensures all_31 { (v : ℕ) (rest : List Bool) → v < 2 ^ 31 → coded_below of_31_bits (shortest v ++ rest) ≡ Done v rest }

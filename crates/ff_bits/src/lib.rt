@@ -1,5 +1,5 @@
-//! Bits of bytes: a reader and a writer that take the most significant bit first, the coded numbers of a FLAC frame
-//! header, and the sums that find damage (RFC 9639).
+//! Bits of bytes: a reader and a writer, coded numbers and checksums (RFC 9639). The most significant bit of a byte
+//! comes first. The coded numbers are those of a FLAC frame header.
 //!
 //! To a contract a reader is the list of the bits that are left, and a writer the list of those that were written.
 #![tactic(auto)]

@@ -25,8 +25,8 @@ impl<'a> BitReader<'a> {
         Ok(value)
     }
 
-    /// The coded number that comes next, in a form whose first byte is below this end: 0xfe for at most 31 bits of
-    /// value, 0xff for 36.
+    /// The coded number that comes next, in a form whose first byte is below this end. The end 0xfe stands for at
+    /// most 31 bits of value, 0xff for 36.
     pub fn number_below(&mut self, end: u64) -> Result<u64, BitEnd>
         requires some { 0xc0 < end }
         requires form { end ≤ 0xff }

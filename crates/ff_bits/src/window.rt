@@ -101,8 +101,8 @@ impl<'a> BitWindow<'a> {
         Some(read)
     }
 
-    /// The next four codes where the word holds them whole: of each how many zeros stand before its one, and the value of the
-    /// `n` bits after that. None leaves the window.
+    /// The next four codes where the word holds them whole. Each is the count of the zeros before its one, and the
+    /// value of the `n` bits after that. None leaves the window.
     #[inline(always)]
     pub fn four(&mut self, n: u32) -> Option<((u32, u64), (u32, u64), (u32, u64), (u32, u64))>
         requires { n ≤ 57 }
@@ -130,8 +130,8 @@ impl<'a> BitWindow<'a> {
     }
 }
 
-/// The code that a word begins with, the word turned so that it begins with what stands after the code, and how many bits long
-/// the code is. What the word is turned by comes last in it, where no bits are held.
+/// The code that a word begins with, the word turned, and how many bits long the code is. The word is turned so that
+/// it begins with what stands after the code. What the word is turned by comes last in it, where no bits are held.
 #[inline(always)]
 fn turned(word: u64, n: u32) -> ((u32, u64), u64, u32)
     requires { n ≤ 57 }
@@ -147,7 +147,8 @@ fn turned(word: u64, n: u32) -> ((u32, u64), u64, u32)
     ((zeros, word & ((1u64 << n) - 1)), word, len)
 }
 
-/// The code whose one stands at place `high` of a word that holds all of it, the word after it, and how many bits that holds.
+/// The code whose one stands at place `high` of a word that holds all of it. Beside it stand the word after it, and
+/// how many bits that holds.
 #[inline(always)]
 fn taken(word: u64, held: u32, n: u32, high: u32) -> ((u32, u64), u64, u32)
     requires held { held < 64 }
@@ -182,8 +183,8 @@ fn high_in(word: u64, held: u32, n: u32) -> Option<u32>
     Some(high)
 }
 
-/// The word with the bits that follow those that it holds, and how many whole bytes more it holds then: none only where
-/// fewer than eight are left or no more fit in.
+/// The word with the bits that follow those that it holds, and how many whole bytes more it holds then. There are
+/// none only where fewer than eight are left or no more fit in.
 #[inline(always)]
 fn filled(bytes: &[u8], at: usize, word: u64, held: u32) -> (u64, u32)
     requires { IsWindow bytes.now at word held }

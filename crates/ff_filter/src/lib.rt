@@ -6,8 +6,9 @@
 //!   what it gave       what it still gives for what still comes: its view
 //! ```
 //!
-//! A filter is seen as what it still gives for what is still to come. Each call is an equation between two such views:
-//! what was fed stands before what still comes, and what was given before what is still given. No past is kept.
+//! A filter is seen as what it still gives for what is still to come. Each call is an equation between two such
+//! views. What was fed stands before what still comes, and what was given before what is still given. No past is
+//! kept.
 //!
 //! `spread`: Filters of one input and several outputs.
 #![tactic(auto)]

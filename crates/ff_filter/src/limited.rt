@@ -20,8 +20,8 @@ const LAST_SECOND: u128 = 1_000_000_000;
 
 const MOST_ITEMS: u64 = 1 << 40;
 
-/// A function of one stream, cut at the limits of every stream: its output breaks off before the item number 2^40
-/// (counted from 0), and before an item that ends past 1,000,000,000 seconds.
+/// A function of one stream, cut at the limits of every stream. Its output breaks off before item number 2^40,
+/// counted from 0, and before an item that ends past 1,000,000,000 seconds.
 #[derive(Drop)]
 pub struct Limited<A: Step> {
     /// The function.

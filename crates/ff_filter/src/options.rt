@@ -41,9 +41,9 @@ fn option_of<S: Settings>(arg: &Arg, keyed: bool, place: usize) -> Option<usize>
     }
 }
 
-/// What the arguments make of these settings. The first one at fault refuses all: `UnknownOption` for a key that the filter
-/// doesn't have, too many arguments by place, or one without a key after one with a key; `BadOption` for a value that the
-/// option doesn't take.
+/// What the arguments make of these settings. The first one at fault refuses all: `UnknownOption` is for a key that
+/// the filter doesn't have, too many arguments by place, or one without a key after one with a key. `BadOption` is
+/// for a value that the option doesn't take.
 pub fn read_args<S: Settings>(settings: S, args: &[Arg]) -> Result<S, ConfigError>
     ensures read { AreRead S.manual false 0 settings args.now result }
 {

@@ -6,9 +6,9 @@
 //!                    └─► ..
 //! ```
 //!
-//! A `Share` says what each output gets of an item, always one item. Its machine makes that anew for each output that is
-//! wanted but the last, which gets the item itself, turned into its own; an output that was stopped costs nothing. Where
-//! there is no memory for one of them, none gets anything and the item is given back.
+//! A `Share` says what each output gets of an item, always one item. Its machine makes that anew for each output that
+//! is wanted but the last, which gets the item itself, turned into its own. An output that was stopped costs nothing.
+//! Where there is no memory for one of them, none gets anything and the item is given back.
 
 mod copies;
 mod outlets;

@@ -79,8 +79,8 @@ impl<T: Step> Stepper<T> {
         }
     }
 
-    /// Whether nothing more of the input can matter: exactly where it has closed, or where the output isn't wanted or is
-    /// closed by what was fed.
+    /// Whether nothing more of the input can matter. That is exactly where it has closed, or where the output isn't
+    /// wanted or is closed by what was fed.
     pub fn is_spent(&self) -> bool
         ensures exact { IsTrue result ↔ IsSpent (stepper_view (T.lane_in self.now.step) (T.lane_out self.now.step) (T.runs self.now.step) self.now.outlet.queue.items self.now.outlet.ended self.now.outlet.stopped self.now.after self.now.shut) 0 }
         ensures is { result ≡ steps_spent self.now.after self.now.outlet.ended self.now.outlet.stopped }

@@ -20,10 +20,11 @@ use std::alloc::{AllocError, Global};
 
 /// The packets of a FLAC input, from pieces of any size. Each is one frame (RFC 9639, section 9).
 ///
-/// A frame says nowhere how long it is, so `pull` reads the frame in hand from its first byte: once where it is there whole,
-/// and once more for each earlier `pull` that answered NotYet. A frame of n bytes that is fed in pieces of k bytes with a
-/// `pull` after each is read n / k times in part, n * n / (2 * k) bytes together; so feed pieces that are longer than most
-/// frames, or as many bytes as `held` tells before the next `pull`, and each byte is read three times at most.
+/// A frame says nowhere how long it is, so `pull` reads the frame in hand from its first byte. It reads it once where
+/// it is there whole, and once more for each earlier `pull` that answered NotYet. A frame of n bytes that is fed in
+/// pieces of k bytes with a `pull` after each is read n / k times in part. These are n * n / (2 * k) bytes together.
+/// So feed pieces that are longer than most frames, or as many bytes as `held` tells before the next `pull`. Then
+/// each byte is read three times at most.
 #[derive(Drop)]
 pub struct FlacCut {
     alloc: Global,

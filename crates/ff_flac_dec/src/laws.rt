@@ -6,14 +6,14 @@ ghost use Rattle.ff_flac_frame.specs.Frame.{IsStream, IsBytes};
 ghost use Rattle.ff_flac_dec.specs.Info.{IsInfo};
 ghost use Rattle.ff_flac_dec.specs.Units.{IsExact};
 
-/// A cut answers NotYet only where no frame is there and some continuation makes one, and Broken before the input's end only
-/// where none does: what bytes begin with, as the packets are defined by it, is exact.
+/// A cut answers NotYet only where no frame is there and some continuation makes one. It answers Broken before the
+/// input's end only where none does. So what bytes begin with, as the packets are defined by it, is exact.
 pub fn units_are_exact()
     ensures { (s : FlacStream) → IsStream s → (bytes : List ℕ) → IsExact s bytes }
 {}
 
-/// The rate, the channels and the depth that are taken from a block with STREAMINFO are its fields, as the standard lists them
-/// by their widths (RFC 9639, section 8.2).
+/// The rate, the channels and the depth that are taken from a block with STREAMINFO are its fields. The standard
+/// lists them by their widths (RFC 9639, section 8.2).
 pub fn streaminfo_is_its_fields()
     ensures { (bytes : List ℕ) → IsBytes bytes → 38 ≤ length bytes → IsInfo bytes }
 {}

@@ -108,8 +108,8 @@ fn second_depth_of(form: u8, depth: u32) -> u32
     if form == 9 { depth } else { depth + 1 }
 }
 
-/// Left and right, sample frame after sample frame, of two subframes under a channel code from 8 on, by their samples as lists of
-/// their own.
+/// Left and right, sample frame after sample frame, of two subframes under a channel code from 8 on. Their samples
+/// are lists of their own.
 fn joint_of_copies(
     alloc: Global,
     first: &Subframe,

@@ -50,11 +50,12 @@ impl HeadFormat for Flac {
 /// How far a head was read: where the next metadata block begins, and the stream's head, which the first block says.
 pub type FlacWalk = HeadWalk<Flac>;
 
-/// The head of an input that begins with these bytes, and where `whole` ends with them (RFC 9639, sections 6 and 8). The
-/// first fault in the order of reading decides: Unsupported at 0 where the first bytes aren't `fLaC`; Damaged at 4 where the
-/// first metadata block isn't STREAMINFO with its 34 bytes; Unsupported at 18 where the rate is 0, and at 20 where a sample
-/// has fewer than 4 bits or more than 24; Damaged at a block of type 127 and at a second STREAMINFO, and at the input's length
-/// where it ends before the last block does; Unsupported at 2^28 where the head isn't complete within so many bytes.
+/// The head of an input that begins with these bytes, and where `whole` ends with them (RFC 9639, sections 6 and 8).
+/// The first fault in the order of reading decides: Unsupported at 0 where the first bytes aren't `fLaC`. Damaged at
+/// 4 where the first metadata block isn't STREAMINFO with its 34 bytes. Unsupported at 18 where the rate is 0, and at
+/// 20 where a sample has fewer than 4 bits or more than 24. Damaged at a block of type 127 and at a second
+/// STREAMINFO. Damaged at the input's length where it ends before the last block does. Unsupported at 2^28 where the
+/// head isn't complete within so many bytes.
 pub fn read_head(bytes: &[u8], whole: bool) -> Result<FlacHead, HeadEnd>
     // Not yet exactly where the input goes on, and some bytes decide otherwise than others.
     ensures not_yet { (result ≡ Err HeadEnd.NotYet) ↔ ((whole ≡ false) × IsOpen bytes.now) }

@@ -71,8 +71,8 @@ fn each_block<G: Gate + Sync, R: Threads + Sync>(
     )
 }
 
-/// The bytes of each block, in order, as `encode_block` gives them for numbers from `first` on, each coded in a thread of its
-/// own where one can be made. The call for block i enters the gate with i first.
+/// The bytes of each block, in order, as `encode_block` gives them for numbers from `first` on. Each is coded in a
+/// thread of its own where one can be made. The call for block i enters the gate with i first.
 pub fn encode_blocks<G: Gate + Sync, R: Threads + Sync>(
     rt: &R,
     alloc: Global,

@@ -122,8 +122,9 @@ impl Blocks {
         self.ended = true;
     }
 
-    /// The next block. A block has 4,096 sample frames, the last one the rest; it starts as many ticks after the first frame
-    /// fed as there are sample frames before it. None where no block is complete and the input goes on, or all were given.
+    /// The next block. A block has 4,096 sample frames, the last one the rest. It starts as many ticks after the
+    /// first frame fed as there are sample frames before it. None where no block is complete and the input goes on,
+    /// or all were given.
     pub fn pull(&mut self) -> Result<Option<AFrame>, AllocError>
         ensures gives { (fed : List AFrame) (n : ℕ) → Cuts self.old fed n → (b : AFrame) → result ≡ Ok (Some b)
             → Cuts self.new fed (n + 1) × (slice_get (blocks_due (has_ended self.old) fed) n ≡ Some b) }

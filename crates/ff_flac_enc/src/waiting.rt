@@ -4,8 +4,8 @@ ghost use Rattle.std.specs.Prelude.{◌≡◌, ◌≤◌, [], ◌++◌, length, 
 use std::alloc::{AllocError, Global};
 use std::marker::Model;
 
-/// Samples that wait, first in, first out. What was used is let go when more comes and at least as much was used as waits: so what
-/// is copied to a new place is together no longer than what came.
+/// Samples that wait, first in, first out. What was used is let go when more comes and at least as much was used as
+/// waits. So what is copied to a new place is together no longer than what came.
 #[derive(Drop)]
 pub struct Waiting {
     alloc: Global,

@@ -21,8 +21,8 @@ pub fn frames_are_their_bytes()
     ensures { (s : FlacStream) → IsStream s → (bytes : List ℕ) (f : Frame) (n : ℕ) → Begins s bytes f n → Begins s (take n bytes) f n }
 {}
 
-/// A frame's subframes are as many as the stream has channels, and have as many samples and residuals as its block asks,
-/// each within its range.
+/// A frame's subframes are as many as the stream has channels. They have as many samples and residuals as its block
+/// asks, each within its range.
 pub fn frames_are_in_shape()
     ensures { (s : FlacStream) → IsStream s → (bytes : List ℕ) (f : Frame) (n : ℕ) → Begins s bytes f n → IsFrame s f }
 {}

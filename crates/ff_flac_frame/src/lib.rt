@@ -1,13 +1,15 @@
 //! FLAC frames, from their bytes (RFC 9639, section 9).
 //!
-//! `specs/Frame` says what a frame is: readers on the list of an input's bits, one for each part of the grammar, with
-//! three answers: a value, more bits may make one, no bits will. `specs/Facts` says what holds of each frame.
-//! `frame_at` reads the frame that begins some bytes, and `frame_size_at` only how long it is: that one keeps no residual.
+//! `specs/Frame` says what a frame is, by readers on the list of an input's bits, one for each part of the grammar.
+//! Each has three answers: a value, more bits may make one, no bits will. `specs/Facts` says what holds of each
+//! frame. `frame_at` reads the frame that begins some bytes, and `frame_size_at` only how long it is: that one keeps
+//! no residual.
 //!
-//! `specs/Prediction` says how a sample is predicted from those before it. By a fixed predictor, and by a linear one that looks back
-//! two samples at most, `frame_at` restores a subframe's samples in the loop that reads their residuals, since there the processor
-//! waits for the place of the next code and works on a sample meanwhile. `specs/Restored` says what a subframe says of such samples.
-//! By a longer predictor `restore_linear` does it afterwards, which can be in another thread.
+//! `specs/Prediction` says how a sample is predicted from those before it. By a fixed predictor, and by a linear one
+//! that looks back two samples at most, `frame_at` restores samples in the loop that reads residuals. There the
+//! processor waits for the place of the next code, and works on a sample meanwhile. `specs/Restored` says what a
+//! subframe says of such samples. By a longer predictor `restore_linear` does it afterwards, which can be in another
+//! thread.
 #![tactic(auto)]
 
 mod end;

@@ -48,8 +48,8 @@ fn codes_in_word(k: u32) -> u32
 /// Four codes of at most so many low bits mostly stand in a word that is filled up.
 const FOUR_LOW: u32 = 11;
 
-/// The word is filled up where the number of codes that are left has none of these bits: before each four that are read at once,
-/// and else before as many as it mostly holds.
+/// The word is filled up where the number of codes that are left has none of these bits. That is before each four
+/// that are read at once, and else before as many as it mostly holds.
 pub fn fill_mask(k: u32) -> u32 {
     if k <= FOUR_LOW {
         0

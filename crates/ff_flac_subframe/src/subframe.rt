@@ -208,8 +208,8 @@ fn plan_below(
     }
 }
 
-/// The best plan of the constant and of the orders below one, of whose spellings one has so many bits: orders all of whose spellings
-/// have more are passed over.
+/// The best plan of the constant and of the orders below one, of whose spellings one has so many bits. Orders all of
+/// whose spellings have more are passed over.
 fn best_before(
     alloc: Global,
     samples: &[i32],

@@ -156,8 +156,8 @@ impl Input {
         time < self.next
     }
 
-    /// Whether it is known which of its frames is the last by a time, and may be shown: one starts at or after it; or all
-    /// have come, and the output doesn't end with them.
+    /// Whether it is known which of its frames is the last by a time, and may be shown. That is where one starts at
+    /// or after it, or where all have come and the output doesn't end with them.
     pub fn is_known(&self, time: u64, shortest: bool) -> bool
         ensures { result ≡ (reaches (items_of self.now.queue.items) time || (whole_mark (mark_after self.now.after) && not shortest)) }
     {
@@ -182,8 +182,8 @@ impl Input {
         self.has_ended(ended) || next <= self.next
     }
 
-    /// Whether the output may end with it: all has come, or counts as if it had; and it has no frame, or the output ends
-    /// where it does.
+    /// Whether the output may end with it. Then all has come, or counts as if it had, and it has no frame, or the
+    /// output ends where it does.
     pub fn may_end(&self, ended: bool, shortest: bool) -> bool
         ensures { result ≡ (whole_if ended (mark_after self.now.after) && (shortest || none_waits (items_of self.now.queue.items))) }
     {
@@ -214,8 +214,8 @@ impl Input {
         }
     }
 
-    /// Whether it is no hindrance to something further at a time: it has begun and is known there; or it is open, and has
-    /// begun by then or has no frame yet.
+    /// Whether it is no hindrance to something further at a time. Then it has begun and is known there, or it is open
+    /// and has begun by then or has no frame yet.
     pub fn allows(&self, time: u64, shortest: bool) -> bool
         ensures { result ≡ ((begun_by (items_of self.now.queue.items) time && (reaches (items_of self.now.queue.items) time || (whole_mark (mark_after self.now.after) && not shortest))) || (open_mark (mark_after self.now.after) && (none_waits (items_of self.now.queue.items) || begun_by (items_of self.now.queue.items) time))) }
     {

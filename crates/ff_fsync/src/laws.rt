@@ -5,9 +5,9 @@ ghost use Rattle.ff_stream.specs.Breaks.{KeepsBrokenRule};
 ghost use Rattle.ff_fsync.specs.SyncBreaks.{AreRisen};
 ghost use Rattle.ff_fsync.specs.Pictures.{timed, shown_of};
 
-/// Of streams with rising times, what is shown keeps the broken rule: a broken input counts as open without a further item,
-/// and the output is broken exactly where an input is, it isn't whole, and however the inputs go on it gets no further item
-/// and isn't made whole.
+/// Of streams with rising times, what is shown keeps the broken rule. A broken input counts as open without a further
+/// item. The output is broken exactly where an input is, it isn't whole, and no continuation of the inputs gives it
+/// an item or makes it whole.
 pub fn framesync_keeps_the_broken_rule()
     ensures { (n : ℕ) (shortest : Bool) (show : ℕ → List Item → Item) → KeepsBrokenRule (AreRisen (timed n shortest)) (shown_of n shortest show) }
 {}

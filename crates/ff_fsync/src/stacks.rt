@@ -7,9 +7,10 @@
 //!                 ax    bx  by     cy               VStack   a above x, and so on
 //! ```
 //!
-//! Which frames are shown together, and when, is framesync's (`ff_fsync`); how the planes of a stack lie is `ff_planes`'.
-//! `specs/stacks/Shapes` says what a frame of the stack is, `specs/stacks/Stacks` which stack arguments and heads make, or why they are
-//! refused, and `specs/stacks/Stacked` how its machine is seen, within the limits of every stream.
+//! Which frames are shown together, and when, is framesync's (`ff_fsync`); how the planes of a stack lie is
+//! `ff_planes`'. `specs/stacks/Shapes` says what a frame of the stack is. `specs/stacks/Stacks` says which stack
+//! arguments and heads make, or why they are refused. `specs/stacks/Stacked` says how its machine is seen, within the
+//! limits of every stream.
 
 mod configured;
 mod heads;

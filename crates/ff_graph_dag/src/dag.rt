@@ -54,8 +54,8 @@ fn are_over(flags: &Vec<bool>) -> bool
 }
 
 impl<F: Filter + Drop> Dag<F> {
-    /// Filters to which nothing was done, each in its place, fed as the plan says: they stand for the composition of their
-    /// functions, which is the solution of a network of as many parts.
+    /// Filters to which nothing was done, each in its place, fed as the plan says. They stand for the composition of
+    /// their functions, which is the solution of a network of as many parts.
     pub fn new(alloc: Global, places: Vec<Placed<F>>, plan: Plan) -> Result<Dag<F>, AllocError>
         requires sound { Sound plan (spots F.view places.items) }
         requires new { AreNew (spots F.view places.items) }

@@ -5,14 +5,15 @@
 //!                      │   │──edge 2────────────────►│ C │──edge 4──► output 0
 //! ```
 //!
-//! Each edge has a number and one stream; input i of the graph is edge i. Filters stand in an order in which each feeds later
-//! ones only. One item may wait before each input of a filter. To pull at an output is to ask the filter there, and where it
-//! has nothing to move one item along one edge from which that output can be reached, the highest first: so nothing is asked
-//! that the output doesn't need, and nothing piles up in the middle. Where a filter needs no more of an input, the output that feeds
-//! it is stopped, and so on upwards: nothing is kept for an output that is over.
+//! Each edge has a number and one stream; input i of the graph is edge i. Filters stand in an order in which each
+//! feeds later ones only. One item may wait before each input of a filter. To pull at an output is to ask the filter
+//! there. Where that has nothing, one item moves along one edge from which that output can be reached, the highest
+//! first. So nothing is asked that the output doesn't need, and nothing piles up in the middle. Where a filter needs
+//! no more of an input, the output that feeds it is stopped, and so on upwards. So nothing is kept for an output that
+//! is over.
 //!
-//! What a graph still gives is said on all edges at once (`specs/Graphs`), and at the start it is the solution of a network
-//! with a part for each filter (`specs/Parts`).
+//! What a graph still gives is said on all edges at once (`specs/Graphs`). At the start it is the solution of a
+//! network with a part for each filter (`specs/Parts`).
 //!
 //! `ties`: What is read off a plan of filters, edge by edge and port by port, that makes it sound; the edges on the way to each output.
 //!

@@ -5,8 +5,8 @@
 //!                       ──1─────────────────►          ──5──►
 //! ```
 //!
-//! Input i of the graph is edge i; after these stands an edge for each input that a filter feeds, and then one for each output of
-//! the graph. A plan that is made so is one whose edges fit together (`ff_graph_dag`).
+//! Input i of the graph is edge i. After these stands an edge for each input that a filter feeds, and then one for
+//! each output of the graph. A plan that is made so is one whose edges fit together (`ff_graph_dag`).
 
 mod ends;
 mod laws;

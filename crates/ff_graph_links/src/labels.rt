@@ -1,9 +1,9 @@
 //! Names, labels and order of filtergraphs: what a plan asks of a job's graphs before it numbers nodes.
 //!
-//! A label at an input pad names the output pad of a complex graph that has it, else a stream of an input, so graphs feed graphs.
-//! `specs/labels/Labels` says which labels a graph takes and gives, `specs/labels/Names` what is wrong with names and labels, and what comes first,
-//! `specs/labels/Order` which graph feeds which, which lies on a loop, and in which order they stand: each after those that feed it, else
-//! by number.
+//! A label at an input pad names the output pad of a complex graph that has it, else a stream of an input. So graphs
+//! feed graphs. `specs/labels/Labels` says which labels a graph takes and gives. `specs/labels/Names` says what is
+//! wrong with names and labels, and what comes first. `specs/labels/Order` says which graph feeds which, which lies
+//! on a loop, and in which order they stand. Each stands after those that feed it, else by number.
 
 mod alone;
 mod fault;

@@ -30,8 +30,8 @@ impl From<AllocError> for HostError {
 ///
 /// Faults are counted by name and direction. A count stops at 2^64 - 1, and one that stands there is read as risen.
 ///
-/// What was opened and not given back is counted too, exactly: where that count stands at 2^64 - 1, opening is refused
-/// for want of memory, since there is no room to count it.
+/// What was opened and not given back is counted too, exactly. Where that count stands at 2^64 - 1, opening is
+/// refused for want of memory, since there is no room to count it.
 pub trait Host {
     /// What `open_source` gives.
     type Src: Source + Send + Drop;

@@ -1,9 +1,10 @@
 //! Where a run reads and writes.
 //!
-//! A [`Host`] opens a [`Source`] on a name and creates a [`Sink`] on one, and takes both back. Their contracts speak of
-//! what they tell, which is optional: the bytes that a source has left, those that a sink holds, and the files of a
-//! host. Each counts its faults, a host by name and direction, and answers `Failed` only where the count rose. A host
-//! keeps its counts by name in a [`Table`] of [`Marks`]. [`Begun`] is a source of which some bytes were read already.
+//! A [`Host`] opens a [`Source`] on a name and creates a [`Sink`] on one, and takes both back. Their contracts speak
+//! of what they tell, which is optional. That is the bytes that a source has left, those that a sink holds, and the
+//! files of a host. Each counts its faults, a host by name and direction, and answers `Failed` only where the count
+//! rose. A host keeps its counts by name in a [`Table`] of [`Marks`]. [`Begun`] is a source of which some bytes were
+//! read already.
 //!
 //! The hosts in memory are in ff_host, the one over the machine's files in the program.
 //!

@@ -20,8 +20,8 @@ const BUFFER: usize = 65_536;
 
 /// The machine's files. It tells no content, and counts each failure under the file's name.
 ///
-/// While a plain file is read, no sink is created on it, and while one is written, nothing else is opened or created on
-/// it, whatever the name: such a call answers Failed, and the file is left as it is.
+/// While a plain file is read, no sink is created on it. While one is written, nothing else is opened or created on
+/// it, whatever the name. Such a call answers Failed, and the file is left as it is.
 #[derive(Drop)]
 pub struct FileHost<R: Drop> {
     files: R,

@@ -59,8 +59,8 @@ fn number_or(text: &str, least: u64, most: u64, otherwise: u64) -> u64
     }
 }
 
-/// The number from `least` to `most` that the last argument says that gives an option; `otherwise` where that one says none
-/// such, or none gives the option, whatever becomes of the other arguments.
+/// The number from `least` to `most` that the last argument says that gives an option. It is `otherwise` where that
+/// one says none such, or none gives the option, whatever becomes of the other arguments.
 pub fn last_number<S: Settings>(
     args: &[Arg],
     option: usize,

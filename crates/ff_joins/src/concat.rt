@@ -20,8 +20,8 @@ pub struct Concat {
 }
 
 impl Concat {
-    /// Whether nothing more of an input can matter: exactly where it has closed, or where the output isn't wanted or is closed
-    /// by what was fed.
+    /// Whether nothing more of an input can matter. That is exactly where it has closed, or where the output isn't
+    /// wanted or is closed by what was fed.
     pub fn is_spent(&self, port: usize) -> bool
         requires { port < length self.now.segments.inlets.items }
         ensures exact { IsTrue result ↔ IsSpent (segments_view self.now.segments) port }

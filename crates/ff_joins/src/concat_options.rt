@@ -196,10 +196,10 @@ impl Concat {
     ghost use Rattle.ff_filter.specs.Options.{IsMade, IsRefused};
     ghost use Rattle.ff_joins.specs.ConcatOptions.{IsConcat, AreJoined};
 
-    /// The filter by its arguments and the heads of its inputs; the head of its output beside it, which is that of each input.
-    /// The options are `n`, how many segments there are, 2 to 16 and 2 where it isn't given; `v` and `a`, each 0 or 1, of
-    /// which one is 1 and the other 0, and v is 1 where they aren't given. It refuses in this order: `Pads`, `Kind`,
-    /// `UnknownOption` and `BadOption` by argument, `Mismatch` where the heads differ.
+    /// The filter by its arguments and the heads of its inputs; the head of its output beside it, which is that of
+    /// each input. The options are `n`, how many segments there are, and `v` and `a`. `n` is 2 to 16, and 2 where it
+    /// isn't given. Of `v` and `a` one is 1 and the other 0, and v is 1 where they aren't given. It refuses in this
+    /// order: `Pads`, `Kind`, `UnknownOption` and `BadOption` by argument, `Mismatch` where the heads differ.
     pub fn configure(
         alloc: Global,
         args: &[Arg],

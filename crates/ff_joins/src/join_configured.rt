@@ -72,10 +72,10 @@ fn join_of(
 }
 
 impl Join {
-    /// The filter by its arguments and the heads of its inputs; the head of its output beside it, which is that of the first
-    /// input, with the channels of all. The option `inputs` is 2 to 8, and 2 where it isn't given. It refuses in this order:
-    /// `Pads`, `Kind`, `UnknownOption` and `BadOption` by argument, `Mismatch` where rates or bits differ, `BadSize` above 8
-    /// channels in all.
+    /// The filter by its arguments and the heads of its inputs, and the head of its output. That is the head of the
+    /// first input, with the channels of all. The option `inputs` is 2 to 8, and 2 where it isn't given. It refuses
+    /// in this order: `Pads`, `Kind`, `UnknownOption` and `BadOption` by argument, `Mismatch` where rates or bits
+    /// differ, `BadSize` above 8 channels in all.
     pub fn configure(
         alloc: Global,
         args: &[Arg],

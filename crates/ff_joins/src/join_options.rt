@@ -155,10 +155,10 @@ fn head_of_all(heads: &[StreamHead]) -> Result<StreamHead, ConfigError>
     }
 }
 
-/// The head of the output of `join` by its arguments and the heads of its inputs: that of the first input, with the channels of
-/// all. The option `inputs`, which may be given by place, is 2 to 8, and 2 where it isn't given. It refuses in this order:
-/// `Pads`, `Kind`, `UnknownOption` and `BadOption` by argument, `Mismatch` where rates or bits differ, `BadSize` above 8
-/// channels in all.
+/// The head of the output of `join` by its arguments and the heads of its inputs. That is the head of the first
+/// input, with the channels of all. The option `inputs`, which may be given by place, is 2 to 8, and 2 where it isn't
+/// given. It refuses in this order: `Pads`, `Kind`, `UnknownOption` and `BadOption` by argument, `Mismatch` where
+/// rates or bits differ, `BadSize` above 8 channels in all.
 pub fn join_head(args: &[Arg], heads: &[StreamHead]) -> Result<StreamHead, ConfigError>
     ensures is { IsJoin args.now heads.now result }
     ensures some { IfOk result (λ h. 0 < length heads.now) }

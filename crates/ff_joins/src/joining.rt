@@ -302,8 +302,8 @@ impl Join {
         is_over(self.after) || self.is_fed_out()
     }
 
-    /// Whether nothing more of an input can matter: exactly where it has closed, or where the output isn't wanted or is closed
-    /// by what was fed.
+    /// Whether nothing more of an input can matter. That is exactly where it has closed, or where the output isn't
+    /// wanted or is closed by what was fed.
     pub fn is_spent(&self, port: usize) -> bool
         requires { port < length self.now.inlets.items }
         ensures exact { IsTrue result ↔ IsSpent (join_seen self.now) port }

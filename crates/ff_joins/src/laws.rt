@@ -26,8 +26,9 @@ ghost use Rattle.ff_stream.specs.Ports.{IsUnbroken};
 ghost use Rattle.ff_stream.specs.Stream.{LiesBelow};
 ghost use Rattle.ff_filter.specs.Joins.{Ports};
 
-/// Segments one after another keep the broken rule: a broken input counts as open without a further item, and the output is
-/// broken exactly where an input is, it isn't whole, and however the inputs go on it gets no further item and isn't made whole.
+/// Segments one after another keep the broken rule. A broken input counts as open without a further item. The output
+/// is broken exactly where an input is, it isn't whole, and no continuation of the inputs gives it an item or makes
+/// it whole.
 pub fn segments_keep_the_broken_rule()
     ensures { (n : ℕ) → Item → KeepsBrokenRule (AreSo n) (segments_of n) }
 {}
@@ -44,9 +45,9 @@ pub fn unbroken_inputs_make_no_break()
         → IsUnbroken (side_to_side n channels rate bits all ss) }
 {}
 
-/// Valid segments of one head, one after another within the limits, are a valid stream of that head. Of valid audio streams, of
-/// one rate and one size of samples and of at most 8 channels in all, the frames side by side are in shape for a head of these; so
-/// within its limits the output of `join` is valid for the head that it is given.
+/// Valid segments of one head, one after another within the limits, are a valid stream of that head. Take valid audio
+/// streams of one rate and one size of samples, with at most 8 channels in all. Their frames side by side are in
+/// shape for a head of these. So within its limits the output of `join` is valid for the head that it is given.
 pub fn valid_streams_make_valid_ones()
     ensures segments { (h : StreamHead) (n : ℕ) (ss : Ports) → IsBase (base_of_head h) → ((p : ℕ) → p < n → IsValid (Frames h) (ss p))
         → IsValid (Frames h) (within (passes_limits (Frames h)) (concatenated n ss)) }
@@ -73,8 +74,8 @@ pub fn joined_sound_keeps_the_broken_rule()
         → KeepsBrokenRule (AreMany n channels rate bits all) (joined_list n channels rate bits all) }
 {}
 
-/// Two streams of one channel, of 2 and of 3 samples, both whole, side by side: one frame of 2 sample frames of two channels, from
-/// the start of the first.
+/// Two streams of one channel, of 2 and of 3 samples, both whole, stand side by side. The result is one frame of 2
+/// sample frames of two channels, from the start of the first.
 pub fn two_channels_stand_side_by_side()
     ensures { (a b x y z : ℤ) → side_to_side 1 one_channel 48000 16 2 (two_whole (sound_at 5 1 (a ∷ b ∷ [])) (sound_at 0 1 (x ∷ y ∷ z ∷ [])))
         ≡ all_sound (sound_at 5 2 (a ∷ x ∷ b ∷ y ∷ [])) }

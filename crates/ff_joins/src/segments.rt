@@ -4,8 +4,8 @@ ghost use Rattle.std.specs.Prelude.{◌<◌, length};
 use ff_filter::{After, Inlet, Outlet};
 use ff_frame::StreamHead;
 
-/// Segments one after another: what can be given of the current one waits on the output, what came of those after it waits
-/// on the inputs.
+/// Segments one after another. What can be given of the current one waits on the output, what came of those after it
+/// waits on the inputs.
 #[derive(Drop)]
 pub struct Segments {
     /// The head of each input and of the output.

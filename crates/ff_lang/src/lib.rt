@@ -1,8 +1,8 @@
 //! The filtergraph language.
 //!
 //! A string such as `[0:v]trim=end=2,hflip[o]` stands for a `Graph`: chains of filters, each with its labels and
-//! arguments. `specs/Grammar` says which strings are filtergraphs, and which graph each stands for; `read_graph` reads
-//! exactly those, and says of any other string where it leaves the grammar.
+//! arguments. `specs/Grammar` says which strings are filtergraphs, and which graph each stands for. `read_graph`
+//! reads exactly those, and says of any other string where it leaves the grammar.
 #![tactic(auto)]
 
 mod error;

@@ -11,7 +11,7 @@ use crate::parser::Parser;
 use std::alloc::Global;
 
 /// The graph that a string stands for. `Bad` where it is none, with the first byte after which no filtergraph goes
-/// on, or the length where it ends too early (ffmpeg-filters, "Filtergraph syntax").
+/// on. Where the string ends too early, that is its length (ffmpeg-filters, "Filtergraph syntax").
 pub fn read_graph(alloc: Global, text: &str) -> Result<Graph, LangError>
     ensures ok { (graph : Graph) → result ≡ Ok graph → IsGraph text.now graph }
     ensures read { (graph : Graph) → IsGraph text.now graph

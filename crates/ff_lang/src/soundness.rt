@@ -74,8 +74,8 @@ fn chain_ok(chain: &Chain) -> bool
     !filters.is_empty() && filters.iter().all(filter_ok)
 }
 
-/// Whether a graph has a string: there is a chain, none is empty, and each name, key and label is one of the language
-/// (ffmpeg-filters, "Filtergraph syntax").
+/// Whether a graph has a string. Then there is a chain, none is empty, and each name, key and label is one of the
+/// language (ffmpeg-filters, "Filtergraph syntax").
 pub fn graph_ok(graph: &Graph) -> bool
     ensures { IsTrue result ↔ IsSound graph.now }
 {

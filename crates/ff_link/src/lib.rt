@@ -1,8 +1,8 @@
 //! Bounded links between threads, each with one sender and one receiver.
 //!
 //! A link carries the items of one lane, first in first out, from the end that sends to the end that takes. It is two
-//! queues: one of the link's size downwards, for the items, and one of size 1 upwards, for the count that the receiver
-//! sends when it finishes.
+//! queues. One of the link's size goes downwards, for the items. One of size 1 goes upwards, for the count that the
+//! receiver sends when it finishes.
 //!
 //! ```text
 //!              items, at most `size` of them

@@ -32,8 +32,8 @@ pub struct Side<T> {
 
 /// Whether what is sent over a link is claimed to be valid for its lane. No value says so at run time.
 ///
-/// A caller that can't know it, since its source doesn't tell what comes, claims nothing: then the link still carries in
-/// order what it is given.
+/// A caller that can't know it, since its source doesn't tell what comes, claims nothing. Then the link still carries
+/// in order what it is given.
 pub trait Claims {
     ghost use Rattle.std.specs.Prelude.{Bool};
 

@@ -1,7 +1,7 @@
 //! Definitions on lists of bytes and strings that every crate cites, and the few functions on slices that go with them.
 //!
-//! `specs/` has the definitions. `proofs/` has the lemmas: known bytes after several appends (`Written`), the strings of a
-//! list's first items (`Lines`), and one change in a map whose keys are strings (`TextMap`).
+//! `specs/` has the definitions. `proofs/` has the lemmas. They are on known bytes after several appends (`Written`),
+//! the strings of a list's first items (`Lines`), and one change in a map with string keys (`TextMap`).
 #![tactic(auto)]
 
 mod slices;

@@ -9,8 +9,8 @@ use crate::streams::{Stream, StreamRef, has_kind, size};
 use ff_frame::StreamHead;
 use std::alloc::{AllocError, Global};
 
-/// The video stream with the largest width times height and then the audio stream with the most channels, of the kinds that
-/// are wanted; of equals the one of the lowest input, and there the lowest stream.
+/// The video stream with the largest width times height, and then the audio stream with the most channels, of the
+/// kinds that are wanted. Of equals it is the one of the lowest input, and there the lowest stream.
 pub fn best_streams(
     alloc: Global,
     heads: &[Vec<StreamHead>],

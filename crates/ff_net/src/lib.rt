@@ -19,14 +19,14 @@
 //!     has to tell is told, "done" goes back
 //! ```
 //!
-//! Each node has a *pass* of the scheduler's cell (`ff_sched`). A source gives one unit for each grant that its node took
-//! with the pass, and a node tells the cell, with its pass, the events of its machine that are due by what it was fed. So
-//! the log of a pass is what its node was granted, and then what its machine told (`LogStands`). A node whose source may not
-//! be read has nothing to do until others have told more.
+//! Each node has a *pass* of the scheduler's cell (`ff_sched`). A source gives one unit for each grant that its node
+//! took with the pass. A node tells the cell, with its pass, the events of its machine that are due by what it was
+//! fed. So the log of a pass is what its node was granted, and then what its machine told (`LogStands`). A node whose
+//! source may not be read has nothing to do until others have told more.
 //!
-//! The *solution* of a network is the streams that the machines' definitions give, node after node, from whole inputs:
-//! no turn and no wire's size is in it. Whatever the turns were, what a node took is a prefix of its solution, and once
-//! every node is done and none has a fault, a node without outputs was fed the solution itself.
+//! The *solution* of a network is the streams that the machines' definitions give, node after node, from whole
+//! inputs. No turn and no wire's size is in it. Whatever the turns were, what a node took is a prefix of its
+//! solution. Once every node is done and none has a fault, a node without outputs was fed the solution itself.
 //!
 //! Not promised: that a network ever gets done, or that each node gets its turn. Nothing here waits; `ff_net_threads` runs
 //! nodes in threads of their own.

@@ -83,8 +83,8 @@ pub trait Machine {
         requires { port < length (view self.now).in_lanes }
         ensures { IsTrue result ↔ (view self.now).spent port };
 
-    /// The next event to tell. None where each was told that is due by what was fed; a source's events are due once it
-    /// has a fault or each output was stopped or has closed.
+    /// The next event to tell. None where each was told that is due by what was fed. A source's events are due once
+    /// it has a fault or each output was stopped or has closed.
     fn next_event(&mut self) -> Option<Event>
         ensures shape { IsSameShape (view self.old) (view self.new) }
         ensures fares { FaultStep (view self.old) (view self.new) }

@@ -105,8 +105,8 @@ impl<M: Machine> Node<M> {
         }
     }
 
-    /// Whether each input was finished, each output is closed and given or was told that its receiver has finished, and each
-    /// event that is due was told, or memory was refused.
+    /// Whether each input was finished, and each output is closed and given or was told that its receiver has
+    /// finished. Each event that is due was told too, unless memory was refused.
     pub fn is_done(&self) -> bool
         ensures done { result ≡ true → IsDone self.now }
         ensures exact { IsDone self.now → result ≡ true }

@@ -14,10 +14,10 @@ use std::sync::Wait;
 
 /// One turn for each entry.
 ///
-/// Whatever the turns, the nodes meet the solution of the network (`solved`): what a node took lies below it, and with its
-/// breaks where no node with a lower number has a fault; then its own fault of the inputs is the cause of the solution's
-/// streams. Where none has a fault, the machine of each node without outputs that is done was fed the streams of the
-/// solution, and they are whole.
+/// Whatever the turns, the nodes meet the solution of the network (`solved`). What a node took lies below it, and
+/// with its breaks where no node with a lower number has a fault. Then its own fault of the inputs is the cause of
+/// the solution's streams. Where none has a fault, the machine of each node without outputs that is done was fed the
+/// solution's streams, and they are whole.
 pub fn run_serial<R: Wait, M: Machine>(
     rt: &R,
     nodes: &mut [Node<M>],

@@ -1,8 +1,8 @@
 //! Any number of machines as the nodes of a network, on links between threads.
 //!
-//! Machines have numbers, by their places in a list, and an edge leads from an output of one to an input of a later one.
-//! Each edge becomes a link of `ff_link`, each machine a node of `ff_net_threads` at the ends of its links, and each node
-//! runs in a thread of its own.
+//! Machines have numbers, by their places in a list, and an edge leads from an output of one to an input of a later
+//! one. Each edge becomes a link of `ff_link`, and each machine a node of `ff_net_threads` at the ends of its links.
+//! Each node runs in a thread of its own.
 //!
 //! ```text
 //!     machines [m0, m1, m2, m3]      edges [m0.0 -> m1.0,  m0.1 -> m2.0,  m1.0 -> m3.0,  m2.0 -> m3.1]
@@ -20,11 +20,12 @@
 //!            the machines in their order, the fault of the first that has one, and the history of the scheduler
 //! ```
 //!
-//! The edges have to fit the machines (`specs/network/Fits`): at each port stands an edge of its lane, and the edge at each input
-//! leaves an earlier machine. Then what each machine was fed is known by the solution of the network (`specs/network/Runs`),
-//! whatever the sizes of the links and the order of the threads. All nodes share the cell of one scheduler, at which each has a
-//! pass. Once they have ended, their passes give the one history of what was granted and told (`specs/network/Scheduling`): each grant
-//! came where the history before it unchokes the source. That a run ends is not promised.
+//! The edges have to fit the machines (`specs/network/Fits`). At each port stands an edge of its lane, and the edge
+//! at each input leaves an earlier machine. Then the solution of the network tells what each machine was fed
+//! (`specs/network/Runs`), whatever the sizes of the links and the order of the threads. All nodes share the cell of
+//! one scheduler, at which each has a pass. Once they have ended, their passes give the one history of what was
+//! granted and told (`specs/network/Scheduling`). Each grant came where the history before it unchokes the source.
+//! That a run ends is not promised.
 
 mod laws;
 mod node;

@@ -5,9 +5,10 @@
 //!   input 1    ├─b0─┤              best: what it has ends earliest
 //! ```
 //!
-//! A scheduler walks through a graph by its best input, towards the source whose packet the graph waits for. Of the inputs that
-//! haven't closed it is the one whose last item ends earliest, compared exactly over their time bases; an input without an item
-//! goes before each that has one, and of several the lowest is the best. Where all have closed it stays.
+//! A scheduler walks through a graph by its best input, towards the source whose packet the graph waits for. Of the
+//! inputs that haven't closed it is the one whose last item ends earliest, compared exactly over their time bases. An
+//! input without an item goes before each that has one, and of several the lowest is the best. Where all have closed
+//! it stays.
 
 mod choosing;
 mod input;

@@ -15,9 +15,10 @@ ghost use Rattle.ff_filter.specs.spread.Spreads.{spread_start};
 ghost use Rattle.ff_filter.specs.spread.Valid.{GivesValid};
 ghost use Rattle.ff_node_filter.specs.Limiting.{IsLimited};
 
-/// A filter of one input and one output whose function is monotone and calm, and of valid streams gives items in shape, is a
-/// function within limits, which cut it where an item passes one; so is one whose output ends at once. A filter of several
-/// outputs that gives valid streams of valid ones is one that no limit cuts.
+/// A filter of one input and one output whose function is monotone and calm is a function within limits. Of valid
+/// streams it has to give items in shape. A limit cuts it where an item passes one. A filter whose output ends at
+/// once is such a function too. A filter of several outputs that gives valid streams of valid ones is one that no
+/// limit cuts.
 pub fn filters_are_limited()
     ensures single { (lane_in : Lane) (head : StreamHead) (f : Flow → Flow)
         → ((r s : Flow) → LiesBelow r s → LiesBelow (f r) (f s))

@@ -111,8 +111,8 @@ fn joint_filter(alloc: Global, is_shortest: bool, heads: &[StreamHead]) -> Resul
     }
 }
 
-/// The machine of the node on which all streams of one output come together: it shortens each to the end of the shortest, or
-/// gives them as they are. It has no fault of its own.
+/// The machine of the node on which all streams of one output come together. It shortens each to the end of the
+/// shortest, or gives them as they are. It has no fault of its own.
 pub fn joint_machine(
     alloc: Global,
     is_shortest: bool,

@@ -6,8 +6,8 @@ ghost use Rattle.ff_node_filter.specs.Tasks.{IsLawful};
 ghost use Rattle.ff_node_sync.specs.Lines.{IsShortest};
 ghost use Rattle.ff_node_sync.specs.Straights.{IsStraight};
 
-/// Streams further on are shortened to streams further on, whoever isn't told of breaks gets no less, valid streams are shortened to
-/// valid ones, and of unbroken streams none breaks: so a node of it has no fault.
+/// Streams further on are shortened to streams further on, and whoever isn't told of breaks gets no less. Valid
+/// streams are shortened to valid ones, and of unbroken streams none breaks. So a node of it has no fault.
 pub fn shortened_streams_are_lawful()
     ensures { (heads : List StreamHead) (v : View) → IsShortest heads v → IsLawful v.ins v.outs v.rest (λ ss. None) }
 {}

@@ -5,9 +5,9 @@
 //!   stream 1            ├─b0─┼─b1─┼─b2─┼─b3─►     b0 to b2 are kept: they start before T. b3 isn't, and stream 1 is whole
 //! ```
 //!
-//! An item is kept once each other stream has one that ends after its start, compared exactly: so as soon as that is known, and
-//! whatever the streams' time bases. Frames aren't cut. Where the streams are to be given as they are, each goes through by
-//! itself; in either case all of them are one node.
+//! An item is kept once each other stream has one that ends after its start, compared exactly. So it is kept as soon
+//! as that is known, and whatever the streams' time bases. Frames aren't cut. Where the streams are to be given as
+//! they are, each goes through by itself; in either case all of them are one node.
 #![tactic(auto)]
 
 mod end;

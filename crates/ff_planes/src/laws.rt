@@ -34,8 +34,8 @@ pub fn a_crop_undoes_a_pad()
         → cropped format width height part (padded format width height part planes) ≡ planes }
 {}
 
-/// Frames of which all but the last have whole pixels of Cb and of Cr in the direction of stacking fill the columns, or the
-/// rows, of Y, of Cb and of Cr that they have in all.
+/// Frames of which all but the last have whole pixels of Cb and of Cr in the direction of stacking fill the stack.
+/// That is the columns, or the rows, of Y, of Cb and of Cr that they have in all.
 pub fn pictures_on_the_grid_fill_it()
     ensures columns { (format : Format) (fs : List VFrame) → AreOnColumns format fs → FillColumns format (all_columns format fs Luma) fs }
     ensures rows { (format : Format) (fs : List VFrame) → AreOnRows format fs → FillRows format (all_rows format fs Luma) fs }

@@ -11,9 +11,10 @@
 //!  └───────┘
 //! ```
 //!
-//! A frame is the bytes of its planes Y, Cb and Cr one after the other (yuv4mpeg(5), "Frame Format"). `specs/Grid` says
-//! where a pixel lies, and what a frame is whose pixels a function gives; `Flips`, `Parts` and `Stacks` say by such a
-//! function what each of the calls makes. The calls work by whole rows, and where they can in the frame's own memory.
+//! A frame is the bytes of its planes Y, Cb and Cr one after the other (yuv4mpeg(5), "Frame Format"). `specs/Grid`
+//! says where a pixel lies, and what a frame is whose pixels a function gives. `Flips`, `Parts` and `Stacks` say by
+//! such a function what each of the calls makes. The calls work by whole rows, and where they can in the frame's own
+//! memory.
 #![tactic(auto)]
 
 mod component;

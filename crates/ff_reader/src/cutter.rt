@@ -8,8 +8,8 @@ use std::alloc::{AllocError, Global};
 
 /// The packets of a format's input, from pieces of any size.
 ///
-/// A format writes what a head is, which packets follow it and where they break off, and how its state is tied to what it was
-/// fed and gave; whoever reads by a cut is written once, for every format.
+/// A format writes what a head is, which packets follow it and where they break off. It writes how its state is tied
+/// to what it was fed and gave. Whoever reads by a cut is written once, for every format.
 pub trait PacketCut {
     /// What comes before the packets.
     type Head;

@@ -34,8 +34,8 @@ fn found_early<H: Copy>(few: usize, bytes: &[u8]) -> Result<H, HeadFault>
     })
 }
 
-/// The answer of what the first bytes decide, or where they decide nothing: that more are wanted, and of a whole input that it
-/// ends too early, before its format is named in so few bytes or after them.
+/// The answer of what the first bytes decide. Where they decide nothing, more are wanted. A whole input then ends too
+/// early, before its format is named in so few bytes or after them.
 pub fn answer_to<H: Copy>(
     found: Option<Result<H, HeadFault>>,
     few: usize,

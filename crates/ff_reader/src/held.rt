@@ -5,8 +5,9 @@ use std::alloc::{AllocError, Global};
 use std::marker::Model;
 use std::mem::replace;
 
-/// Bytes that wait to be used, first in, first out. What was used is let go at the next growth, at the cost of one copy of what waits
-/// and only where at least as much was used: so the copies are together no longer than the bytes that came.
+/// Bytes that wait to be used, first in, first out. What was used is let go at the next growth, and only where at
+/// least as much was used as waits. That costs one copy of what waits. So the copies are together no longer than the
+/// bytes that came.
 #[derive(Drop)]
 pub struct Held {
     alloc: Global,

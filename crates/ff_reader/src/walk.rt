@@ -105,9 +105,10 @@ impl<F: HeadFormat> HeadWalk<F> {
     }
 }
 
-/// The head of an input that begins with these bytes, and where `whole` ends with them. The first fault in the order of
-/// reading decides: Unsupported at 0 where the first bytes aren't the format's, what a unit says; Damaged at the input's length
-/// where it ends too early; Unsupported at 2^28 where the head isn't complete within so many bytes.
+/// The head of an input that begins with these bytes, and where `whole` ends with them. The first fault in the order
+/// of reading decides: Unsupported at 0 where the first bytes aren't the format's, then what a unit says. Damaged at
+/// the input's length where it ends too early. Unsupported at 2^28 where the head isn't complete within so many
+/// bytes.
 pub fn read_head<F: HeadFormat>(bytes: &[u8], whole: bool) -> Result<F::Head, HeadEnd>
     // Not yet exactly where the input goes on, and some bytes decide otherwise than others.
     ensures not_yet { (result ≡ Err HeadEnd.NotYet) ↔ ((whole ≡ false) × IsOpen (head_by F.grammar) bytes.now) }

@@ -4,8 +4,8 @@ ghost use Rattle.ff_frame.specs.declared.event.Event.{Event};
 ghost use Rattle.ff_sched.specs.Passing.{Scheduler, Passing, IsHistory};
 ghost use Rattle.ff_sched.specs.Laws.{IsPassOf, HasAllOf, events_in};
 
-/// Where one pass alone has the events of a kind, as those of one stream or of one source, they stand in the history as they
-/// stand in its log.
+/// Where one pass alone has the events of a kind, they stand in the history as they stand in its log. Such are those
+/// of one stream or of one source.
 pub fn one_log_keeps_its_order()
     ensures { (kind : Event → Bool) (cell : Scheduler) (passes : List Passing) (events : List Event) (pass : Passing)
         → IsHistory cell passes events → IsPassOf pass passes → HasAllOf kind passes pass.log

@@ -1,8 +1,8 @@
 //! The scheduler: which sources may be read next, and the one history of what happened.
 //!
-//! The output stream that trails furthest decides: its source may be read, and the sources of all streams that are less
-//! than 100,000 microseconds ahead of it. A stream says how far it is when a packet of it is taken to be written. Where it
-//! hangs on a graph, the way to its source goes through the input that the graph waits for.
+//! The output stream that trails furthest decides. Its source may be read, and so may the sources of all streams that
+//! are less than 100,000 microseconds ahead of it. A stream says how far it is when a packet of it is taken to be
+//! written. Where it hangs on a graph, the way to its source goes through the input that the graph waits for.
 //!
 //! The state of this lies in a cell of 20 machine words that all workers of a run share. A worker has a pass of the cell: the right
 //! to add so many events, and the log of those that it added. Each event is one exchange of the words; a grant is one that is

@@ -146,8 +146,8 @@ impl Routes {
         few && self.graphs.are_narrow()
     }
 
-    /// Whether the numbers of an event are in range: its source, stream or graph is there, its input is one of the graph's,
-    /// and its time is below 2^63.
+    /// Whether the numbers of an event are in range. Its source, stream or graph is there, its input is one of the
+    /// graph's, and its time is below 2^63.
     pub fn has(&self, event: Event) -> bool
         ensures yes { result ≡ true → IsInRange self.now event }
         ensures no { result ≡ false → IsInRange self.now event → ⊥ }

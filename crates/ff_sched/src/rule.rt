@@ -10,8 +10,7 @@ use ff_frame::Event;
 use std::collections::LinkedList;
 use std::marker::{Brand, PhantomData};
 
-/// What a pass knows: once the cell is open its routes and its opening state; how many events it may add, the history that
-/// it has seen, what it and the passes that were put to it had seen before, and its own entries. No value of it is made.
+/// What a pass knows of the cell and of its history. No value of it is made.
 pub struct View {
     /// Whether the cell is open, so that its routes and its opening state are fixed.
     pub opened: bool,

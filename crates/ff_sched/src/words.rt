@@ -1,5 +1,5 @@
-//! The 20 machine words of the cell: 16 of last dts (all ones for none), one of marks, one of best inputs, the count,
-//! and one that stays 0.
+//! The 20 machine words of the cell. 16 are last dts (all ones for none). One each holds the marks, the best inputs
+//! and the count, and one stays 0.
 ghost use Rattle.std.specs.Prelude.{◌≡◌, ◌≢◌, ◌+◌, ◌<◌, ◌^◌, ℕ};
 ghost use Rattle.std.specs.Prelude.{length, slice_index, if◌then◌else◌};
 ghost use Rattle.std.specs.Int.{bit_at};

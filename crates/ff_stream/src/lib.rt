@@ -5,10 +5,10 @@
 //!            └──────── a way: its Lane ───────┘
 //! ```
 //!
-//! An item is a frame or a packet, or says that nothing more comes. `specs/` has the streams that travel so: their order
-//! (`Stream`, `Order`, `Ports`), what each item adds to one (`Items`), when one is valid for the way that carries it
-//! (`Times`, `Lanes`), where one is cut for its length (`Within`), and what becomes of a function of streams where an
-//! input breaks off (`Breaks`). The values themselves are those of `ff_frame`.
+//! An item is a frame or a packet, or says that nothing more comes. `specs/` has the streams that travel so. Their
+//! order is in `Stream`, `Order` and `Ports`, and what each item adds to one in `Items`. `Times` and `Lanes` say when
+//! one is valid for the lane that carries it. `Within` says where one is cut for its length, and `Breaks` what
+//! becomes of a function of streams where an input breaks off. The values themselves are those of `ff_frame`.
 //!
 //! `edges`: The edges between the nodes of a plan or a network, and the ports at which they stand.
 #![tactic(auto)]

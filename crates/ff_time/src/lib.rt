@@ -1,9 +1,9 @@
 //! Time bases and times.
 //!
-//! A `Rational` is a time base: a positive fraction in lowest terms, so many seconds a unit. A count
-//! of units is told in another base by `rescale`, two counts are ordered by `compare`, microseconds
-//! become units by `ceil_units`, and a string becomes microseconds by `read_duration`. All is whole
-//! numbers of at most 128 bits, and nothing takes memory.
+//! A `Rational` is a time base: a positive fraction in lowest terms, so many seconds a unit. A count of units is told
+//! in another base by `rescale`, and two counts are ordered by `compare`. Microseconds become units by `ceil_units`,
+//! and a string becomes microseconds by `read_duration`. All is whole numbers of at most 128 bits, and nothing takes
+//! memory.
 //!
 //! The clauses speak of exact fractions and of a grammar of strings; `laws` has what follows from
 //! these definitions.

@@ -172,9 +172,10 @@ impl Fps {
     ghost use Rattle.ff_filter.specs.Options.{IsMade, IsRefused};
     ghost use Rattle.ff_vfilter.specs.FpsOptions.{IsFps};
 
-    /// The filter by its arguments and the head of its input; the head of its output beside it, whose time base is one over the
-    /// frames a second. The option `fps`, which may be given by place, is N or N/D, whole numbers of 1 to 10 digits, and 25
-    /// where it isn't given. It refuses in this order: `Pads`, `Kind`, `UnknownOption` and `BadOption` by argument.
+    /// The filter by its arguments and the head of its input, and the head of its output. The time base of that is
+    /// one over the frames a second. The option `fps`, which may be given by place, is N or N/D, whole numbers of 1
+    /// to 10 digits. It is 25 where it isn't given. It refuses in this order: `Pads`, `Kind`, `UnknownOption` and
+    /// `BadOption` by argument.
     pub fn configure(
         alloc: Global,
         args: &[Arg],

@@ -31,8 +31,9 @@ pub fn pictures_kept_are_sound()
     ensures { (lane : Lane) (range : Range) → IsSound lane lane (λ s. trimmed range s) }
 {}
 
-/// Of a valid video stream `hflip`, `vflip`, `crop` and `pad` make items in shape for their output: frames of its format
-/// and size with all their samples, with the times of those that came; an unbroken one doesn't break off.
+/// Of a valid video stream `hflip`, `vflip`, `crop` and `pad` make items in shape for their output. These are frames
+/// of its format and size with all their samples, with the times of those that came. An unbroken one doesn't break
+/// off.
 pub fn pictures_painted_are_valid()
     ensures hflip { (tb : Fraction) (format : Format) (width height sar_num sar_den : ℕ)
         → IsSound (Frames (VideoHead tb format width height sar_num sar_den)) (Frames (VideoHead tb format width height sar_num sar_den))
@@ -50,7 +51,7 @@ pub fn pictures_painted_are_valid()
         (λ s. repainted (pad_frame w h r) s) }
 {}
 
-/// The filters of video keep the broken rule: a broken input counts as open without a further item, and the output is broken
+/// The video filters keep the broken rule. A broken input counts as open without a further item. The output is broken
 /// exactly where it is broken off.
 pub fn pictures_keep_the_broken_rule()
     ensures same { (lane : Lane)
@@ -65,7 +66,7 @@ pub fn pictures_keep_the_broken_rule()
         → KeepsBrokenRule (λ (ss : List Flow). IsValid lane (stream_at ss 0)) (λ (ss : List Flow). even scale (stream_at ss 0)) }
 {}
 
-/// At an even rate number n shows the last frame whose own number is at most n, and a number is the time rescaled to the
+/// At an even rate number n shows the last frame whose own number is at most n. A number is the time rescaled to the
 /// nearest, halves upwards.
 pub fn pictures_at_an_even_rate()
     ensures even { (scale : Scale) → IsBase scale.from → IsBase scale.to
@@ -75,8 +76,8 @@ pub fn pictures_at_an_even_rate()
         → IsRescaled (pos t) from to (pos (nearest (t * (from.num * to.den)) (from.den * to.num))) }
 {}
 
-/// Of a valid stream the frames at an even rate are in shape for the same head with another time base; an unbroken one doesn't
-/// break off.
+/// Of a valid stream the frames at an even rate are in shape for the same head with another time base. An unbroken
+/// one doesn't break off.
 pub fn pictures_at_an_even_rate_are_sound()
     ensures { (scale : Scale) (tb base : Fraction) (format : Format) (width height sar_num sar_den : ℕ)
         → IsSound (Frames (VideoHead tb format width height sar_num sar_den)) (Frames (VideoHead base format width height sar_num sar_den))

@@ -188,8 +188,8 @@ impl Rate {
         is_cut(&self.given, self.showing.before, self.span())
     }
 
-    /// Whether nothing more of the input can matter: exactly where it has closed, or where the output isn't wanted or is closed
-    /// by what was fed.
+    /// Whether nothing more of the input can matter. That is exactly where it has closed, or where the output isn't
+    /// wanted or is closed by what was fed.
     pub fn is_spent(&self) -> bool
         ensures exact { IsTrue result ↔ IsSpent (seen self.now) 0 }
         ensures is { result ≡ rate_spent self.now }

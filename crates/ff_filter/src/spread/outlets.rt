@@ -76,7 +76,8 @@ fn is_wanted(outlets: &Vec<Outlet>, from: usize) -> bool
     false
 }
 
-/// Puts on each output from this one on what it gets of an item, where it is wanted; or on none, and the item comes back.
+/// Puts on each output from this one on what it gets of an item, where it is wanted. For want of memory it puts
+/// nothing, and the item comes back.
 pub fn spread<S: Share>(
     share: &S,
     outlets: &mut Vec<Outlet>,

@@ -41,8 +41,8 @@ impl<S: Share + Drop> Spreader<S> {
         })
     }
 
-    /// Whether nothing more of the input can matter: exactly where it has closed, or where there are outputs and each one that
-    /// is wanted is closed by what was fed.
+    /// Whether nothing more of the input can matter. That is exactly where it has closed, or where there are outputs
+    /// and what was fed closes each one that is wanted.
     pub fn is_spent(&self) -> bool
         ensures exact { IsTrue result
             ↔ IsSpent (spread_view (S.lane_in self.now.share) (S.lanes_out self.now.share) (S.shared self.now.share)

@@ -15,8 +15,9 @@ ghost use Rattle.ff_fsync.specs.stacks.Examples.{grey, grey_stack, two_streams, 
 ghost use Rattle.ff_fsync.specs.stacks.Heads.{stack_fault};
 ghost use Rattle.ff_fsync.specs.stacks.Stacks.{StackOf, stacked_of, stack_on, AreStreamsOf};
 
-/// A stream with one pixel for two ticks, and one with a pixel for each of them, stacked: a frame of two pixels at each
-/// tick. The first is shown until the frame of the first input ends, though the second comes before that.
+/// A stream with one pixel for two ticks, and one with a pixel for each of them, are stacked. The result is a frame
+/// of two pixels at each tick. The first is shown until the frame of the first input ends, though the second comes
+/// before that.
 pub fn stacks_of_two_pixels()
     ensures beside { stacked_of (grey_stack Beside 2 1) two_streams ≡ whole_of (grey 0 2 2 1 (10 ∷ 20 ∷ []) ∷ grey 1 1 2 1 (10 ∷ 30 ∷ []) ∷ []) }
     ensures below { stacked_of (grey_stack Below 1 2) two_streams ≡ whole_of (grey 0 2 1 2 (10 ∷ 20 ∷ []) ∷ grey 1 1 1 2 (10 ∷ 30 ∷ []) ∷ []) }
@@ -28,8 +29,8 @@ pub fn stacks_keep_valid_streams()
         → IsValid (Frames (VideoHead tb format width height sar_num sar_den)) s → kept 0 s ≡ s }
 {}
 
-/// Of valid streams a stack gives frames of its head's format and size with all their samples, at rising times, and none
-/// ends before one that was shown before it; where no stream breaks off, neither does the stack.
+/// Of valid streams a stack gives frames of its head's format and size with all their samples, at rising times. None
+/// ends before one that was shown before it. Where no stream breaks off, neither does the stack.
 pub fn stacks_of_valid_streams()
     ensures shape { (d : Direction) (h : StreamHead) (hs : List StreamHead) (shortest : Bool) (ss : Ports)
         → stack_fault d h (h ∷ hs) ≡ None → AreStreamsOf (h ∷ hs) ss

@@ -104,8 +104,8 @@ impl Stacked {
         item
     }
 
-    /// Whether nothing more of an input can matter: exactly where it has closed, or where the output isn't wanted or is
-    /// closed by what was fed.
+    /// Whether nothing more of an input can matter. That is exactly where it has closed, or where the output isn't
+    /// wanted or is closed by what was fed.
     pub fn is_spent(&self, port: usize) -> bool
         requires there { port < length (seen self.now).ins }
         ensures exact { IsTrue result ↔ IsSpent (seen self.now) port }

@@ -7,8 +7,8 @@ ghost use Rattle.ff_graph_dag.specs.Graphs.{spot_at, Fits, Sound};
 ghost use Rattle.ff_graph_dag.specs.Parts.{AreNew};
 ghost use Rattle.ff_graph_dag.specs.ties.Tied.{IsTied};
 
-/// A plan whose edges fit together is sound for filters to which nothing was done, each with as many inputs and outputs as
-/// it has edges there.
+/// A plan whose edges fit together is sound for filters to which nothing was done. Each filter has as many inputs and
+/// outputs as it has edges there.
 pub fn tied_plans_are_sound()
     ensures { (p : Plan) (ss : List Spot) → IsTied p → length ss ≡ length p.nodes.items
         → ((k : ℕ) (m : Node) → k < length ss → Fits (spot_at ss k) (slice_index_or p.nodes.items k m)) → AreNew ss → Sound p ss }

@@ -38,7 +38,8 @@ pub fn filters_in_order_solve()
         → Solves (placed order sources) (placed_pads order opens) ext vs (λ f. flows_from sources opens ext no_flows order vs (pad_at order f)) }
 {}
 
-/// An order in which each filter comes after those that feed it goes forward in a drawing where these are among them, and has each filter.
+/// An order in which each filter comes after those that feed it has each filter. It goes forward in a drawing where
+/// the filter of each source is among those that feed.
 pub fn orders_go_forward()
     ensures forward { (feeders : List (List ℕ)) (sources : List (List (Option APad))) (order : List ℕ) → IsOrder feeders order
         → ((f i : ℕ) (from : APad) → source_at sources f i ≡ Some (Some from) → (j : ℕ) × (slice_get (slice_index_or feeders f []) j ≡ Some from.filter))
@@ -62,8 +63,8 @@ pub fn drawings_are_linked()
         → IsLinked (placed order sources) (placed_counts order counts) (placed_pads order opens) (placed_pads order outs) }
 {}
 
-/// The plan of a drawing stands for its filters one after another, where nothing was done to them: on each output of the graph it has the
-/// stream of the pad there.
+/// The plan of a drawing stands for its filters one after another, where nothing was done to them. On each output of
+/// the graph it has the stream of the pad there.
 pub fn drawn_plans_mean()
     ensures { (sources : List (List (Option APad))) (order counts : List ℕ) (opens outs : List APad) (p : Plan) (ss : List Spot) (ext : Ports) (q : ℕ) (out : APad)
         → IsDrawing sources order counts opens outs

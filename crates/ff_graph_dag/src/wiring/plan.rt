@@ -59,8 +59,9 @@ fn unled(
     })
 }
 
-/// The plan of filters that feed one another: `fed` has for each filter which output feeds each of its inputs, `counts` how many
-/// outputs it has, `opens` and `pads` the inputs and outputs of the graph, and `ins` and `outs` what these carry.
+/// The plan of filters that feed one another: `fed` has for each filter which output feeds each of its inputs, and
+/// `counts` how many outputs it has. `opens` and `pads` are the inputs and outputs of the graph, and `ins` and `outs`
+/// say what these carry.
 pub fn wired(
     alloc: Global,
     fed: &[Vec<Option<Port>>],
@@ -98,8 +99,8 @@ pub struct Drawing<'a> {
     pub outs: &'a [Pad],
 }
 
-/// The plan of a drawing: its filters in the order in which they are made, and `ins` and `outs` what the graph's inputs and outputs
-/// carry.
+/// The plan of a drawing, with its filters in the order in which they are made. `ins` and `outs` say what the graph's
+/// inputs and outputs carry.
 pub fn drawn_plan(
     alloc: Global,
     drawing: &Drawing<'_>,

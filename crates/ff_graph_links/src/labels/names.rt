@@ -239,8 +239,8 @@ pub fn labels_given(alloc: Global, graphs: &[Graph]) -> Result<Vec<Text>, AllocE
     Ok(all)
 }
 
-/// Looks at the names and labels of complex graphs: the first fault by graph and filter, at each first its name, then labels that
-/// name nothing, then labels that stand twice.
+/// Looks at the names and labels of complex graphs for the first fault by graph and filter. At each filter its name
+/// comes first, then labels that name nothing, then labels that stand twice.
 pub fn check_labels<K: Known>(alloc: Global, known: &K, graphs: &[Graph]) -> Result<(), LabelFault>
     requires graphs { length graphs.now < 2 ^ 32 }
     requires filters { AllByRecursion (λ (g : Graph). length (filters_of g) ≤ 65536) graphs.now }

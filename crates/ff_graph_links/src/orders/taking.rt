@@ -58,8 +58,9 @@ fn none_taken(alloc: Global, count: usize) -> Result<Vec<bool>, AllocError>
     Ok(taken)
 }
 
-/// Things one by one, each after those that feed it (`feeders` by the number of the thing), and of those that can be taken next the
-/// lowest first, until none can. Where things feed one another in a loop, or one is fed by what isn't there, these are too few.
+/// Things one by one, each after those that feed it, until none can be taken. `feeders` has these by the number of
+/// the thing. Of those that can be taken next the lowest comes first. Where things feed one another in a loop, or one
+/// is fed by what isn't there, these are too few.
 pub(crate) fn in_order(alloc: Global, feeders: &[Vec<usize>]) -> Result<Vec<usize>, AllocError>
     ensures { IfOk result (λ things. things.items ≡ order_of (lists feeders.now)) }
 {

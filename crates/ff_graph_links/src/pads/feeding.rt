@@ -58,8 +58,8 @@ fn feeders_at(
     Ok(feeders)
 }
 
-/// The filters that feed each filter: those that give its labels, also ones for which it has no pad, and the one before it in
-/// its chain where a pad of that feeds one of its own.
+/// The filters that feed each filter. They are those that give its labels, also ones for which it has no pad. The one
+/// before it in its chain is among them where a pad of that feeds one of its own.
 pub fn feeders(alloc: Global, drawn: &[Drawn<'_>]) -> Result<Vec<Vec<usize>>, AllocError>
     ensures { IfOk result (λ all. filters_in all.items ≡ feeders_from (all_seen drawn.now) 0 (all_seen drawn.now)) }
 {

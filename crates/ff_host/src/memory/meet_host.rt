@@ -16,8 +16,8 @@ use crate::{Failed, Host, HostError, Marks, Table, make_room, marks_of, set_mark
 use std::alloc::{AllocError, Global};
 use std::collections::BTreeMap;
 
-/// A host in memory of two inputs that are read at one time: each source's first read that begins at or past an offset
-/// waits until the other's has begun.
+/// A host in memory of two inputs that are read at one time. Each source's first read that begins at or past an
+/// offset waits until the other's has begun.
 ///
 /// The first two sources that it opens meet each other, whatever their names, then the next two, and so on. A name that
 /// is not there opens as an empty source. A source fails where it waited in vain ([`MeetSource`]), and nothing else does.

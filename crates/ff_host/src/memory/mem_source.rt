@@ -69,8 +69,8 @@ impl Source for MemSource {
 
     ghost name = { λ s. Some s.name };
 
-    // It fails exactly where it has failed before, or where this read is planned to, and else fills the buffer as
-    // far as the bytes reach.
+    // It fails exactly where it has failed before, or where this read is planned to. Else it fills the buffer as far
+    // as the bytes reach.
     fn read(&mut self, buf: &mut [u8]) -> Result<usize, Failed>
         requires { 0 < length buf.old }
         ensures exact { IsErr result ↔ FailsNext self.old.failed self.old.planned self.old.reads }

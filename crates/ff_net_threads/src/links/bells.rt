@@ -26,8 +26,8 @@ struct Bell {
     grant: AtomicBool,
 }
 
-/// A bell for each worker and after them one for the caller, and what the workers at each link ask of each other, by the
-/// number of its wire.
+/// A bell for each worker and after them one for the caller. Beside them stands what the workers at each link ask of
+/// each other, by the number of its wire.
 #[derive(Drop)]
 pub struct Bells {
     bells: Vec<Bell>,

@@ -98,8 +98,8 @@ fn taken_before_room(sender: &Sender) -> u64 {
     sender.puts().saturating_sub(sender.size() as u64 / 8)
 }
 
-// While its sender goes on, a receiver is woken for so many items, or for half of what the link holds where that is less: waking
-// it for each takes the sender's time as well.
+// While its sender goes on, a receiver is woken for so many items, or for half of what the link holds where that is
+// less. Waking it for each takes the sender's time as well.
 const BATCH: u64 = 4;
 
 // How many of the items that were put on this link count for its receiver, which asks to be woken for one. Once the sender rests,
@@ -166,8 +166,8 @@ impl<M: Machine> Linked<M> {
         (self.node, self.ins, self.outs)
     }
 
-    /// Whether the node is done, has finished each link that it takes from, and has closed each link that it sends
-    /// over, or was told that its receiver has finished.
+    /// Whether the node is done and has finished each link that it takes from. Each link that it sends over is
+    /// closed, or told it that its receiver has finished.
     pub fn is_done(&self) -> bool
         ensures ended { result ≡ true → HasEnded self.now }
         ensures exact { HasEnded self.now → result ≡ true }
@@ -209,8 +209,8 @@ impl<M: Machine> Linked<M> {
         self.node.logged()
     }
 
-    /// Asks to be woken: once an eighth of what a full link holds is left there, where an output waits for room, and else
-    /// once there is an item to take or, at a source, the scheduler was told something.
+    /// Asks to be woken. Where an output waits for room, that is once an eighth of what a full link holds is left
+    /// there. Else it is once there is an item to take or, at a source, the scheduler was told something.
     pub(crate) fn ask(&self, bells: &Bells, worker: usize) {
         if self.waits_for_room() {
             for end in &self.outs {
@@ -239,8 +239,9 @@ impl<M: Machine> Linked<M> {
         bells.ask_for_grant(worker, false);
     }
 
-    /// Wakes those at the other ends of its links who ask for what was taken and put, and those who wait for a grant, where its
-    /// pass has added events since there were so many. Where the node doesn't rest now, receivers wait for more than one item.
+    /// Wakes those at the other ends of its links who ask for what was taken and put. It wakes those who wait for a
+    /// grant where its pass has added events since there were so many. Where the node doesn't rest now, receivers
+    /// wait for more than one item.
     pub(crate) fn tell(&self, bells: &Bells, logged: u64, rests: bool) {
         for end in &self.ins {
             let count = match &end.taking {
@@ -403,11 +404,11 @@ impl<M: Machine> Linked<M> {
         self.node.stop_finished(&mut self.wires)
     }
 
-    /// One turn: at most one item is taken from each link and one put on each, and a source takes at most one grant from the
-    /// scheduler's cell. Nothing is taken from a link where an item is due, and where one lies between the node and a link no
-    /// grant either. The node tells the cell the events that are due. At the turn's end each output that was told that its
-    /// receiver has finished is stopped, and the link of each input that the node has finished is finished too: where its closing
-    /// item was taken, it is spent, or the node has a fault.
+    /// One turn. At most one item is taken from each link and one put on each, and a source takes at most one grant
+    /// from the scheduler's cell. Nothing is taken from a link where an item is due, and where one lies between the
+    /// node and a link no grant either. The node tells the cell the events that are due. At the turn's end each
+    /// output that was told that its receiver has finished is stopped. The link of each input that the node has
+    /// finished is finished too. That is where its closing item was taken, it is spent, or the node has a fault.
     pub fn turn<R: Wait>(&mut self, rt: &R, cell: &SchedCell) -> Turn
         requires lawful { IsLawful M.view self.old }
         requires cell { IsOf M.view cell.now (node_of self.old) }

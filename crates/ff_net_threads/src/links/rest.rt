@@ -1,15 +1,15 @@
-//! The rest of a worker that has nothing to do. It never yields: on a busy machine a yield gives the processor away
-//! for a whole slice of another program, and a sleep from which it is woken doesn't.
+//! The rest of a worker that has nothing to do. It never yields. On a busy machine a yield gives the processor away
+//! for a whole slice of another program. A sleep from which it is woken doesn't.
 
-/// After so many turns that moved nothing a worker whose link is full no longer spins: it has time, since its receiver has
-/// the whole link to take from.
+/// After so many turns that moved nothing a worker whose link is full no longer spins. It has time, since its
+/// receiver has the whole link to take from.
 pub const SPINS_FOR_ROOM: u32 = 2;
 
 /// One with nothing to take holds up all that come after it.
 pub const SPINS_FOR_ITEMS: u32 = 50;
 
-// The first sleeps of a rest are short, and the others long: a neighbour rings where there is something to do, so what is
-// left for a long sleep to hold up is a ring that came while its worker was changing.
+// The first sleeps of a rest are short, and the others long. A neighbour rings where there is something to do. So a
+// long sleep holds up only a ring that came while its worker was changing.
 const SHORT_SLEEPS: u32 = 8;
 
 const SHORT: u64 = 1;

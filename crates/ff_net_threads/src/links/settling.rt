@@ -156,13 +156,13 @@ pub struct Ran<M> {
     pub settled: Vec<Settled>,
 }
 
-/// Settles the links of nodes that have ended, in a room for at least so many nodes, and gives their machines, their passes and
-/// their faults in the order of the nodes. It asks for no memory, and in the list of passes there is still room for as many as
-/// the room is for.
+/// Settles the links of nodes that have ended, in a room for at least so many nodes. It gives their machines, their
+/// passes and their faults in the order of the nodes. It asks for no memory, and in the list of passes there is still
+/// room for as many as the room is for.
 ///
-/// Where no link leads from two nodes or to two, and each that leads to a node leaves an earlier one, what was taken from
-/// a link is the beginning of what was sent over it, and the rest is at most its size; so the nodes meet the solution of the
-/// network (`solved`), as those of which they came.
+/// No link may lead from two nodes or to two, and each that leads to a node has to leave an earlier one. Then what
+/// was taken from a link is a prefix of what was sent over it, and the rest is at most its size. So the nodes meet
+/// the solution of the network (`solved`), as those of which they came.
 pub fn settle_all<M: Machine + Drop>(nodes: Vec<Linked<M>>, room: Room<M>) -> Ran<M>
     requires ended { AllEnded nodes.items }
     requires linked { (links : ℕ → Link) × AreLinked links nodes.items }

@@ -72,11 +72,12 @@ fn first_fault<M: Machine>(nodes: &[Linked<M>]) -> Option<NodeFault>
     None
 }
 
-/// Runs nodes on links with numbers below `links`, each in a thread of its own until it is done, under the scheduler of this
-/// cell, and settles their links. That this comes isn't claimed. The nodes come back as they were where memory is refused before
-/// the start.
+/// Runs nodes on links with numbers below `links`, each in a thread of its own until it is done, and settles their
+/// links. The scheduler is that of this cell. That this comes isn't claimed. The nodes come back as they were where
+/// memory is refused before the start.
 ///
-/// What holds of streams and of the logs of the passes holds for all tasks that the machines can have, of which there may be none.
+/// What holds of streams and of the logs of the passes holds for all tasks that the machines can have. There may be
+/// none of these.
 pub fn run_net<R: Threads + Wait + Sync, M: Machine + Send + Drop>(
     rt: &R,
     alloc: Global,
@@ -144,13 +145,13 @@ fn closed<M: Drop, R: Wait>(rt: &R, cell: SchedCell, rest: Pass, ended: Ended<M>
     }
 }
 
-/// Runs machines as the nodes of a network, on a new link of this size for each edge, each in a thread of its own until it
-/// is done, under a scheduler that begins in this state with these routes. That this comes isn't claimed. They come back as they
-/// were where memory is refused before the start.
+/// Runs machines as the nodes of a network, on a new link of this size for each edge. Each runs in a thread of its
+/// own until it is done. The scheduler begins in this state with these routes. That this comes isn't claimed. They
+/// come back as they were where memory is refused before the start.
 ///
-/// `C` claims that what the machines are for is known. Where it claims nothing, only that each machine keeps its source or
-/// sink and has the fault of its own device is promised, and that the history is one by the scheduler's rules. There may be fewer
-/// than 2^16 machines, so that the right to add 2^62 events to the history is enough for all.
+/// `C` claims that what the machines are for is known. Where it claims nothing, less is promised. Each machine keeps
+/// its source or sink and has the fault of its own device, and the history is one by the scheduler's rules. There may
+/// be fewer than 2^16 machines, so that the right to add 2^62 events to the history is enough for all.
 pub fn run_network<C: Claims, R: Threads + Wait + Sync, M: Machine + Send + Drop>(
     rt: &R,
     alloc: Global,

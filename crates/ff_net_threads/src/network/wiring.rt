@@ -48,8 +48,9 @@ fn gathered<M: Machine + Drop>(
 // How many events a node may add to the history: more than there are items in streams that are valid.
 const NODE_SHARE: u64 = 1 << 45;
 
-/// The machines as nodes on new links of this size, one for each edge, with the claim that `C` makes; the machine of each
-/// place is the node of this number, and has a pass of the cell. They come back as they were where memory is refused.
+/// The machines as nodes on new links of this size, one for each edge, with the claim that `C` makes. The machine of
+/// each place is the node of this number, and has a pass of the cell. They come back as they were where memory is
+/// refused.
 pub fn wire_up<C: Claims, M: Machine + Drop>(
     alloc: Global,
     machines: Vec<M>,

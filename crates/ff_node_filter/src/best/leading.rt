@@ -27,8 +27,8 @@ pub struct Leading<M: Machine> {
 impl<M: Machine + Drop> Leading<M> {
     ghost use Rattle.ff_node_filter.specs.best.Leaders.{leading_shown};
 
-    /// A machine that is no source and to which nothing was done, as that of the graph of this number, whose inputs carry frames of
-    /// these heads. For want of memory it comes back.
+    /// A machine that is no source and to which nothing was done, as that of the graph of this number. Its inputs
+    /// carry frames of these heads. For want of memory it comes back.
     pub fn new(alloc: Global, graph: u32, heads: &[StreamHead], machine: M) -> Result<Leading<M>, M>
         requires few { length heads.now ≤ 2 ^ 32 }
         requires lanes { (M.view machine).in_lanes ≡ map Frames heads.now }
