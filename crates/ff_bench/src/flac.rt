@@ -1,4 +1,4 @@
-//! Blocks of sound as FLAC frames.
+//! Blocks of audio as FLAC frames.
 
 ghost use Rattle.std.specs.Prelude.{◌≡◌, ◌*◌, ◌≤◌, IfOk, All, length};
 ghost use Rattle.ff_frame.specs.Audio.{FitsBits};

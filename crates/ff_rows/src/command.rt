@@ -1,4 +1,4 @@
-// Rows of the whole command: a run over a host in memory, and what must come of it.
+//! Rows of the whole command: a run over a host in memory, and what must come of it.
 use crate::noting_host::NotingHost;
 use ff_command::status_number;
 use ff_host::{FailAt, Host, HostCall, MemHost};
@@ -43,7 +43,7 @@ pub fn failure_of(alloc: Global, line: &str) -> Result<FailAt, Stop> {
     })
 }
 
-/// Runs the command of these words over these files.
+/// Runs the command of these arguments over these files.
 pub fn run_command<R: Threads + Wait + Sync>(
     rt: &R,
     alloc: Global,
@@ -74,14 +74,14 @@ fn is_status(status: u8, line: &str) -> bool {
     false
 }
 
-// Whether the log gained exactly this text and LF.
+// Whether the log gained exactly this string and LF.
 fn is_log(alloc: Global, log: &[u8], text: &str) -> Result<bool, Stop> {
     let mut line = plain(alloc, text)?;
     line.push(b'\n')?;
     Ok(line.as_slice() == log)
 }
 
-// Whether a file holds a front of the first bytes, or exactly the second ones.
+// Whether a file holds a prefix of the first bytes, or exactly the second ones.
 fn is_front(alloc: Global, bytes: &[u8], line: &str) -> Result<bool, Stop> {
     let (first, second) = halves(line);
     let whole = bytes_of(alloc, first)?;

@@ -1,6 +1,6 @@
-//! Runs tables of rows, tests as lines of text: of the whole command over a host in memory, and of calls of the libraries.
+//! Runs tables of rows, tests as plain lines: of the whole command over a host in memory, and of calls of the libraries.
 //!
-//! Its words name the tables, in the order in which they are run; without words one table is read from standard input. It
+//! Its arguments name the tables, in the order in which they are run; without arguments one table is read from standard input. It
 //! prints each line that doesn't hold with what came in its place, and at last how many rows passed and how many failed.
 #![tactic(auto)]
 
@@ -18,7 +18,7 @@ use std::sync::Wait;
 use std::thread::Threads;
 use std::{env, fs};
 
-// Runs the tables that the words name, and answers whether there was one.
+// Runs the tables that the arguments name, and answers whether there was one.
 fn run_named<R>(rt: &R, runner: &mut Runner) -> Result<bool, Stop>
 where
     R: Threads + Wait + Sync + Env + Files + AllocGlobal,

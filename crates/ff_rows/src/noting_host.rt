@@ -1,4 +1,4 @@
-// A host in memory that notes which names were created.
+//! A host in memory that notes which names were created.
 ghost use Rattle.std.specs.Prelude.{};
 
 use ff_host::{Failed, Host, HostError, MemHost, MemSink, MemSource};

@@ -1,4 +1,4 @@
-// One row: what it gives, what it runs, and what doesn't hold.
+//! One row: what it gives, what it runs, and what doesn't hold.
 use crate::command::{Given, Left, failure_of, given_bytes, run_command, speaks_of_file};
 use ff_host::FailAt;
 use ff_rows_calls::{Stop, answer, bytes_of, escaped, halves, plain, plain_text, plain_words};

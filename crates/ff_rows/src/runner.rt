@@ -1,11 +1,11 @@
-// Runs tables row by row, counts the rows, and keeps what is to be printed.
+//! The runner of tables, which counts the rows and keeps what is to be printed.
 use crate::row::Row;
 use ff_rows_calls::Stop;
 use std::alloc::{AllocError, Global};
 use std::sync::Wait;
 use std::thread::Threads;
 
-/// How many rows passed and failed, and the text of those that failed.
+/// How many rows passed and failed, and the rows that failed as a string.
 #[derive(Drop)]
 pub struct Runner {
     alloc: Global,

@@ -1,3 +1,4 @@
+//! Calls that read and write bits, and of the checksums.
 ghost use Rattle.std.specs.Prelude.{◌<◌, ◌^◌};
 
 use crate::table::Stop;

@@ -1,3 +1,4 @@
+//! Calls of the FLAC encoder on blocks.
 ghost use Rattle.std.specs.Prelude.{◌≤◌, ◌+◌, ◌^◌, IfSome};
 ghost use Rattle.ff_frame.specs.Audio.{IsAudio};
 ghost use Rattle.ff_flac_enc.specs.Frame.{IsBlock};
@@ -29,7 +30,7 @@ fn block(rate: u32, bits: u8, channels: u8, samples: Vec<i32>) -> Option<AFrame>
     if is_audio(&frame) { Some(frame) } else { None }
 }
 
-// What a stream's words `RATE BITS CHANNELS` say.
+// What a stream's arguments `RATE BITS CHANNELS` say.
 #[derive(Clone, Copy)]
 struct Stream {
     rate: u32,
@@ -99,7 +100,7 @@ fn later_of(name: &str) -> Result<Later, Stop> {
     }
 }
 
-// So many sample frames that are made so, for the stream of the first words.
+// So many sample frames that are made so, for the stream of the first arguments.
 fn made_for(words: Words, kind: &str, way: &str, count: u64) -> Result<Vec<i32>, Stop> {
     let Stream { bits, channels, .. } = stream_at(words)?;
     if channels < 1 || bits > 24 || channels > 8 || count > 4096 {
@@ -131,7 +132,7 @@ pub fn encoded_made(words: Words) -> Result<String, Stop> {
     Ok(format!(in words.alloc; "{size} bytes, at last {sum}")?)
 }
 
-// The sample frames of a word: `KIND:COUNT` made so, or `SAMPLE` alone.
+// The sample frames of an argument: `KIND:COUNT` made so, or `SAMPLE` alone.
 fn samples_of(words: Words, word: &str) -> Result<Vec<i32>, Stop> {
     if let Some((kind, count)) = word.split_once(':') {
         return made_for(words, kind, "own", read_number(count)?);
@@ -142,7 +143,7 @@ fn samples_of(words: Words, word: &str) -> Result<Vec<i32>, Stop> {
     }
 }
 
-// Counts the frame of a word `SAMPLES=SIZE`.
+// Counts the frame of an argument `SAMPLES=SIZE`.
 fn count(words: Words, word: &str, counter: &mut Counter) -> Result<(), Stop>
     requires { counted counter.old ≤ 2 ^ 40 }
     ensures { counted counter.new ≤ counted counter.old + 65535 }

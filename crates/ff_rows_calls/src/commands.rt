@@ -1,4 +1,4 @@
-// What the words of a command line ask for, or what is wrong with them.
+//! Calls that read a command line.
 use crate::lang::show;
 use crate::maps::show_map;
 use crate::table::{Stop, text_of};
@@ -153,12 +153,12 @@ fn shown(alloc: Global, read: Result<Command, WordError>) -> Result<String, Stop
     }
 }
 
-/// `command WORD..`: what the words ask for.
+/// `command WORD..`: what the arguments ask for.
 pub fn command(words: Words) -> Result<String, Stop> {
     shown(words.alloc, read_words(words.alloc, words.all()))
 }
 
-// So many words of a text more.
+// So many arguments of a string more.
 fn add_words(words: Words, out: &mut Vec<String>, at: usize) -> Result<(), Stop> {
     let times = read_number(words.text(at)?)?;
     let text = text_of(words.bytes(at.saturating_add(1))?)?;
@@ -168,7 +168,7 @@ fn add_words(words: Words, out: &mut Vec<String>, at: usize) -> Result<(), Stop>
     Ok(())
 }
 
-/// `command_of TIMES BYTES ..`: the same of so many words of a text, then so many of the next, and so on; each text is told
+/// `command_of TIMES BYTES ..`: the same of so many arguments of a string, then so many of the next, and so on; each string is told
 /// as bytes are.
 pub fn made(words: Words) -> Result<String, Stop> {
     let mut made = Vec::new(words.alloc);

@@ -1,3 +1,4 @@
+//! Calls that cut inputs into packets.
 ghost use Rattle.std.specs.Prelude.{◌≤◌, IfOk};
 
 use crate::cutter::Cutter;
@@ -15,15 +16,15 @@ use std::alloc::Global;
 /// How an input is fed.
 #[derive(Clone, Copy, PartialEq, Eq)]
 enum Way {
-    /// Packets are taken behind each piece, and when the input ended.
+    /// Packets are taken after each piece, and when the input ended.
     Soon,
     /// Packets are taken when the input ended.
     Late,
-    /// Packets are taken behind each piece, and the input goes on.
+    /// Packets are taken after each piece, and the input goes on.
     Open,
 }
 
-// The packets that an input gave, what came behind them and then again, and how many bytes are held.
+// The packets that an input gave, what came after them and then again, and how many bytes are held.
 #[derive(Drop)]
 struct Given {
     packets: Vec<Pkt>,
@@ -32,7 +33,7 @@ struct Given {
     held: u64,
 }
 
-// Takes the packets there are, and answers what came behind them.
+// Takes the packets there are, and answers what came after them.
 fn drain<C: PacketCut + Drop>(
     cut: Cutter<C>,
     packets: &mut Vec<Pkt>,
@@ -144,7 +145,7 @@ fn show_last(alloc: Global, last: &Cut) -> Result<String, Stop> {
     Ok(text)
 }
 
-// What came behind the packets, what then came again where that differs, and what is held.
+// What came after the packets, what then came again where that differs, and what is held.
 fn add_end(alloc: Global, text: &mut String, given: &Given) -> Result<(), Stop> {
     let last = show_last(alloc, &given.last)?;
     let again = show_last(alloc, &given.again)?;
@@ -204,7 +205,7 @@ fn cut_text(words: Words, bytes: &[u8], piece: usize) -> Result<String, Stop>
 }
 
 /// `cut FORMAT soon|late|open PIECE BYTES`: the packets of an input that is fed in pieces of this size, each as `packet PLACE
-/// PTS DTS DURATION SIZE`, what comes behind them, and how many bytes are held then. `soon`: packets are taken behind each
+/// PTS DTS DURATION SIZE`, what comes after them, and how many bytes are held then. `soon`: packets are taken after each
 /// piece; `late`: when the input ended; `open`: as `soon`, and the input doesn't end.
 pub fn cut(words: Words) -> Result<String, Stop> {
     let bytes = words.bytes(3)?;
@@ -235,7 +236,7 @@ pub fn cut_pieces(words: Words) -> Result<String, Stop> {
     runs.text()
 }
 
-/// `cut_fronts FORMAT soon|late|open PIECE FROM BYTES`: `cut` for each front of these bytes, from so many bytes to all.
+/// `cut_fronts FORMAT soon|late|open PIECE FROM BYTES`: `cut` for each prefix of these bytes, from so many bytes to all.
 pub fn cut_fronts(words: Words) -> Result<String, Stop> {
     let bytes = words.bytes(4)?;
     let piece = size_at(words, 2)?;

@@ -1,3 +1,4 @@
+//! The cut of an input of any format, for rows.
 ghost use Rattle.std.specs.Prelude.{◌≡◌, ◌+◌, ◌≤◌, ◌^◌, false, length};
 
 use crate::table::Stop;

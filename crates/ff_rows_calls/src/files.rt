@@ -1,4 +1,4 @@
-// Files of packets, as the writers of the formats give them.
+//! Calls of the writers of the formats, on files of packets.
 ghost use Rattle.std.specs.Prelude.{IfOk};
 ghost use Rattle.ff_mux.specs.FlacHead.{CanHold};
 
@@ -13,7 +13,7 @@ use ff_wav::WavPut;
 use ff_y4m::Y4mWriter;
 use std::alloc::Global;
 
-// The packet of this number, a tick long, of the bytes that the word at this place says.
+// The packet of this number, a tick long, of the bytes that the argument at this place says.
 fn packet(words: Words, at: usize, number: i64) -> Result<Pkt, Stop> {
     Ok(Pkt {
         pts: number,
@@ -29,7 +29,7 @@ fn push_hex(alloc: Global, out: &mut String, bytes: &[u8]) -> Result<(), Stop> {
     Ok(())
 }
 
-// What is written of the packets of the words from a place on.
+// What is written of the packets of the arguments from a place on.
 fn write_packets(
     words: Words,
     from: usize,
@@ -50,7 +50,7 @@ fn write_packets(
     Ok(())
 }
 
-// The text as a whole, and behind a blank what takes the place of bytes of it with these totals, and from which place on.
+// The file as a whole, and after a blank what takes the place of bytes of it with these totals, and from which place on.
 fn file_with(
     words: Words,
     from: usize,

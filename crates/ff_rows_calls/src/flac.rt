@@ -1,3 +1,4 @@
+//! Calls that read and decode FLAC frames and heads.
 ghost use Rattle.std.specs.Prelude.{IfOk};
 ghost use Rattle.ff_flac_frame.specs.Frame.{IsStream};
 ghost use Rattle.ff_flac_dec.specs.Streams.{stream_of};
@@ -79,7 +80,7 @@ pub fn frame(words: Words) -> Result<String, Stop> {
     frame_text(words.alloc, &stream_at(words)?, bytes.as_slice())
 }
 
-/// `flac_frame_fronts RATE BITS CHANNELS BYTES`: the same of each front of these bytes, from none to all.
+/// `flac_frame_fronts RATE BITS CHANNELS BYTES`: the same of each prefix of these bytes, from none to all.
 pub fn frame_fronts(words: Words) -> Result<String, Stop> {
     let bytes = words.bytes(3)?;
     let stream = stream_at(words)?;
@@ -116,7 +117,7 @@ fn head_of(stream: FlacStream) -> Result<FlacHead, Stop>
     })
 }
 
-// The sound of the frame with which bytes begin.
+// The audio of the frame with which bytes begin.
 fn decoded(alloc: Global, head: &FlacHead, pts: i64, bytes: &[u8]) -> Result<String, Stop>
     requires { IsStream (stream_of head.now.head) }
 {
@@ -156,7 +157,7 @@ fn sound_in(alloc: Global, stream: FlacStream, time: i64, bytes: &[u8]) -> Resul
     }
 }
 
-/// `flac_walk BYTES`: what one walk over a head answers to each front of these bytes, from none to all, and the offset of
+/// `flac_walk BYTES`: what one walk over a head answers to each prefix of these bytes, from none to all, and the offset of
 /// the block that it reads at last.
 pub fn walk(words: Words) -> Result<String, Stop> {
     let bytes = words.bytes(0)?;

@@ -1,4 +1,4 @@
-// Calls of the framehash muxer: the lines before those of the packets, and the line of a packet.
+//! Calls of the framehash writer: the lines before those of the packets, and the line of a packet.
 use crate::heads::codec_named;
 use crate::table::{Stop, bytes_of, text_of};
 use ff_frame::{Bytes, Format, HashKind, Pkt, StreamHead};
@@ -61,17 +61,17 @@ fn first_lines(alloc: Global, kind: HashKind, heads: &[StreamHead]) -> Result<St
     text_of(HashPut::new(alloc, kind, heads).first()?)
 }
 
-/// The lines before those of the packets of a stream of sound: `RATE CHANNELS CODEC`.
+/// The lines before those of the packets of an audio stream: `RATE CHANNELS CODEC`.
 pub fn sound(alloc: Global, words: &[String]) -> Result<String, Stop> {
     first_lines(alloc, HashKind::Sha256, &[sound_head(words)?])
 }
 
-/// The lines before those of the packets of a stream of pictures: `RATE WIDTH HEIGHT SAR_NUM SAR_DEN`.
+/// The lines before those of the packets of a video stream: `RATE WIDTH HEIGHT SAR_NUM SAR_DEN`.
 pub fn pictures(alloc: Global, words: &[String]) -> Result<String, Stop> {
     first_lines(alloc, HashKind::Sha256, &[picture_head(words)?])
 }
 
-/// The lines before those of the packets of a stream of pictures and one of sound:
+/// The lines before those of the packets of a video stream and an audio stream:
 /// `sha256|md5 RATE WIDTH HEIGHT SAR_NUM SAR_DEN RATE CHANNELS CODEC`.
 pub fn both(alloc: Global, words: &[String]) -> Result<String, Stop> {
     if words.len() != 9 {

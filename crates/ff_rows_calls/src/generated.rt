@@ -1,4 +1,4 @@
-// Calls of the generated inputs.
+//! Calls of the generated inputs.
 ghost use Rattle.std.specs.Prelude.{◌≤◌, IfOk};
 
 use crate::table::Stop;
@@ -23,12 +23,12 @@ fn summary(alloc: Global, bytes: &[u8]) -> Result<String, Stop> {
     Ok(format!(in alloc; "{} bytes, sha256 {digest}", bytes.len())?)
 }
 
-/// `generated_wav SECONDS`: how long the generated sound is, and its digest.
+/// `generated_wav SECONDS`: how long the generated audio is, and its digest.
 pub fn sound(words: Words) -> Result<String, Stop> {
     summary(words.alloc, &gen_wav(words.alloc, seconds(words)?)?)
 }
 
-/// `generated_y4m SECONDS`: the same of the generated pictures.
+/// `generated_y4m SECONDS`: the same of the generated video.
 pub fn moving(words: Words) -> Result<String, Stop> {
     summary(words.alloc, &gen_y4m(words.alloc, seconds(words)?)?)
 }

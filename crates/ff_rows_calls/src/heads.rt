@@ -1,3 +1,4 @@
+//! Calls that read the heads of inputs.
 use crate::runs::Runs;
 use crate::table::Stop;
 use crate::words::Words;
@@ -10,7 +11,7 @@ use ff_words::AUDIO_CODECS;
 use ff_y4m::Y4mHead;
 use std::alloc::Global;
 
-/// The codec of sound of this name.
+/// The audio codec of this name.
 pub fn codec_named(name: &str) -> Result<Codec, Stop> {
     for codec in AUDIO_CODECS.iter() {
         if codec.name() == name {
@@ -104,7 +105,7 @@ pub fn show_end(alloc: Global, length: usize, end: HeadEnd) -> Result<String, St
     Ok(text)
 }
 
-// The head of an input of this format, whether it ends behind these bytes or goes on.
+// The head of an input of this format, whether it ends after these bytes or goes on.
 fn head_of(alloc: Global, format: &str, whole: bool, bytes: &[u8]) -> Result<String, Stop> {
     let told = match format {
         "wav" => match ff_wav::read_head(bytes, whole) {
@@ -127,7 +128,7 @@ fn head_of(alloc: Global, format: &str, whole: bool, bytes: &[u8]) -> Result<Str
     }
 }
 
-/// Whether an input ends behind its bytes.
+/// Whether an input ends after its bytes.
 pub fn is_whole(words: Words, at: usize) -> Result<bool, Stop> {
     match words.text(at)? {
         "whole" => Ok(true),
@@ -136,7 +137,7 @@ pub fn is_whole(words: Words, at: usize) -> Result<bool, Stop> {
     }
 }
 
-/// `head FORMAT whole|begun BYTES`: the head of an input that is these bytes, or goes on behind them.
+/// `head FORMAT whole|begun BYTES`: the head of an input that is these bytes, or goes on after them.
 pub fn head(words: Words) -> Result<String, Stop> {
     let bytes = words.bytes(2)?;
     head_of(
@@ -147,7 +148,7 @@ pub fn head(words: Words) -> Result<String, Stop> {
     )
 }
 
-/// `head_fronts FORMAT whole|begun BYTES`: the same of each front of these bytes, from none to all.
+/// `head_fronts FORMAT whole|begun BYTES`: the same of each prefix of these bytes, from none to all.
 pub fn head_fronts(words: Words) -> Result<String, Stop> {
     let bytes = words.bytes(2)?;
     let (format, whole) = (words.text(0)?, is_whole(words, 1)?);

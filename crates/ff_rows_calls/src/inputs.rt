@@ -1,4 +1,4 @@
-// Heads of inputs, in the format that is given or told by their first bytes.
+//! Calls that read heads in the format that is given, or that their first bytes tell.
 use crate::heads::{is_whole, show_end, show_flac, show_stream, show_wav, show_y4m};
 use crate::runs::Runs;
 use crate::table::Stop;
@@ -40,7 +40,7 @@ fn show_answer(
     }
 }
 
-/// `input FORMAT|any whole|begun BYTES`: the head of an input that is these bytes, or goes on behind them.
+/// `input FORMAT|any whole|begun BYTES`: the head of an input that is these bytes, or goes on after them.
 pub fn head(words: Words) -> Result<String, Stop> {
     let (format, whole) = (format_of(words.text(0)?)?, is_whole(words, 1)?);
     let bytes = words.bytes(2)?;
@@ -48,7 +48,7 @@ pub fn head(words: Words) -> Result<String, Stop> {
     show_answer(words.alloc, bytes.len(), answer)
 }
 
-/// `input_fronts FORMAT|any whole|begun BYTES`: the same of each front of these bytes, from none to all.
+/// `input_fronts FORMAT|any whole|begun BYTES`: the same of each prefix of these bytes, from none to all.
 pub fn head_fronts(words: Words) -> Result<String, Stop> {
     let (format, whole) = (format_of(words.text(0)?)?, is_whole(words, 1)?);
     let bytes = words.bytes(2)?;

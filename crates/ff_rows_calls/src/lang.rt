@@ -1,3 +1,4 @@
+//! Calls that read and print filtergraphs.
 use crate::table::Stop;
 use crate::words::Words;
 use ff_lang::{
@@ -51,7 +52,7 @@ pub fn show(alloc: Global, graph: &Graph) -> Result<String, Stop> {
     Ok(out)
 }
 
-/// `graph TEXT`: the graph of a text.
+/// `graph TEXT`: the graph of a string.
 pub fn graph(words: Words) -> Result<String, Stop> {
     match read_graph(words.alloc, words.text(0)?) {
         Ok(graph) => show(words.alloc, &graph),
@@ -60,7 +61,7 @@ pub fn graph(words: Words) -> Result<String, Stop> {
     }
 }
 
-/// `print TEXT`: the text that is printed of the graph of a text.
+/// `print TEXT`: the string that is printed of the graph of a string.
 pub fn printed(words: Words) -> Result<String, Stop> {
     match read_graph(words.alloc, words.text(0)?) {
         Ok(graph) => Ok(print_graph(words.alloc, &graph)?),
@@ -93,7 +94,7 @@ fn one_filter(words: Words) -> Result<Filter, Stop> {
     })
 }
 
-// The chain of one filter, and behind it an empty one where a fourth word says so.
+// The chain of one filter, and after it an empty one where a fourth argument says so.
 fn add_chains(words: Words, graph: &mut Graph) -> Result<(), Stop> {
     let mut filters = Sequence::new(words.alloc);
     filters.push(one_filter(words)?)?;
@@ -105,8 +106,8 @@ fn add_chains(words: Words, graph: &mut Graph) -> Result<(), Stop> {
     Ok(())
 }
 
-/// `has_text NAME KEY LABEL`: whether the graph `[LABEL]NAME=KEY=1[LABEL]` has a text; `empty` behind them adds a chain
-/// without filters, and no words at all stand for a graph without chains.
+/// `has_text NAME KEY LABEL`: whether the graph `[LABEL]NAME=KEY=1[LABEL]` has a string; `empty` after them adds a chain
+/// without filters, and no arguments at all stand for a graph without chains.
 pub fn has_text(words: Words) -> Result<String, Stop> {
     let mut graph = Graph {
         chains: Sequence::new(words.alloc),

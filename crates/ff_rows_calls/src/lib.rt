@@ -1,6 +1,6 @@
-//! What the library calls answer that the rows of the tables name, and the text of tables: words, escapes, bytes in hex.
+//! What the library calls answer that the rows of the tables name, and the strings of tables: words, escapes, bytes in hex.
 //!
-//! A call takes the words of its row and answers in one line of text, in which an independent reader can write what is wanted.
+//! A call takes the arguments of its row and answers in one line, in which an independent reader can write what is wanted.
 #![tactic(auto)]
 
 mod bits;
@@ -34,7 +34,7 @@ pub use table::{
     Stop, bytes_of, escaped, halves, plain, plain_text, plain_words, printable, text_of,
 };
 
-/// The answer of the library call of this name on these words, as text.
+/// The answer of the library call of this name on these arguments, as a string.
 pub fn answer(alloc: Global, name: &str, arguments: &[String]) -> Result<String, Stop> {
     let words = Words::new(alloc, arguments);
     match name {

@@ -1,4 +1,4 @@
-// Samples that are made, for frames that are too long to be told.
+//! Samples that are made, for frames that are too long to be told.
 ghost use Rattle.std.specs.Prelude.{◌≤◌, ◌<◌};
 
 use std::alloc::{AllocError, Global};

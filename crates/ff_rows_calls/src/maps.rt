@@ -1,4 +1,4 @@
-// Maps, and the streams that are chosen with one or without.
+//! Calls that read maps, and choose streams with a map or without.
 ghost use Rattle.std.specs.Prelude.{◌≡◌, ◌<◌, ◌^◌, true, vec_len};
 ghost use Rattle.std.specs.List.{AllByRecursion};
 
@@ -31,7 +31,7 @@ fn show_pick(alloc: Global, file: u32, pick: Pick) -> Result<String, AllocError>
     }
 }
 
-/// A map: `input FILE`, behind it `stream NUMBER`, or a kind and maybe a number; or `label LABEL`; and then `or none` where it
+/// A map: `input FILE`, after it `stream NUMBER`, or a kind and maybe a number; or `label LABEL`; and then `or none` where it
 /// may name nothing.
 pub fn show_map(alloc: Global, map: &MapSpec) -> Result<String, AllocError> {
     let mut text = match &map.from {
@@ -47,7 +47,7 @@ pub fn show_map(alloc: Global, map: &MapSpec) -> Result<String, AllocError> {
     Ok(text)
 }
 
-/// `map TEXT`: the map of a text.
+/// `map TEXT`: the map of a string.
 pub fn map(words: Words) -> Result<String, Stop> {
     match read_map(words.alloc, words.text(0)?) {
         Ok(map) => Ok(show_map(words.alloc, &map)?),
@@ -91,7 +91,7 @@ fn picture(size: &str) -> Result<StreamHead, Stop> {
     })
 }
 
-// Sound of so many channels is `a2`, pictures of so many columns and rows are `v4x3`.
+// Audio of so many channels is `a2`, video of so many columns and rows are `v4x3`.
 fn head(text: &str) -> Result<StreamHead, Stop> {
     if let Some(channels) = text.strip_prefix('a') {
         return sound(channels);

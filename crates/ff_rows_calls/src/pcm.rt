@@ -1,3 +1,4 @@
+//! Calls that decode and encode linear PCM.
 ghost use Rattle.std.specs.Prelude.{◌≡◌, ◌≤◌, IfOk, IfSome};
 ghost use Rattle.ff_frame.specs.Audio.{IsAudio};
 ghost use Rattle.ff_frame.specs.Codecs.{IsPcmCodec};
@@ -22,7 +23,7 @@ pub fn codec_of(name: &str) -> Result<Codec, Stop>
     }
 }
 
-/// Samples as words, a blank before each.
+/// Samples as numbers, a blank before each.
 pub fn add_samples(alloc: Global, text: &mut String, samples: &[i32]) -> Result<(), Stop> {
     for sample in samples {
         text.push_str(" ")?;

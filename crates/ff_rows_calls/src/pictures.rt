@@ -1,3 +1,4 @@
+//! Calls on raw video frames, and on the first line of YUV4MPEG2.
 ghost use Rattle.std.specs.Prelude.{◌≤◌, IfOk};
 ghost use Rattle.ff_frame.specs.Video.{IsVideo};
 
@@ -27,7 +28,7 @@ fn show(alloc: Global, frame: &VFrame, bytes: &[u8]) -> Result<String, Stop> {
     Ok(format!(in alloc; "{pts} {duration} {format} {width} {height} {hex}")?)
 }
 
-// The planes of a picture as a packet's bytes, decoded, copied and encoded again.
+// The planes of a frame as a packet's bytes, decoded, copied and encoded again.
 fn again(
     alloc: Global,
     tb: Rational,

@@ -1,4 +1,4 @@
-// The plan of a command over inputs with these streams.
+//! Calls that plan a command over inputs with given streams.
 use crate::maps::streams;
 use crate::table::Stop;
 use crate::words::Words;
@@ -144,7 +144,7 @@ fn planned(alloc: Global, job: &Job, heads: &[Vec<StreamHead>]) -> Result<String
     }
 }
 
-/// `plan INPUTS STREAMS.. WORD..`: the plan of the command of these words, where so many inputs have these streams.
+/// `plan INPUTS STREAMS.. WORD..`: the plan of the command of these arguments, where so many inputs have these streams.
 pub fn plan_of(words: Words) -> Result<String, Stop> {
     let alloc = words.alloc;
     let count = words.number(0)?;

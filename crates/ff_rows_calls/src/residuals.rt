@@ -1,3 +1,4 @@
+//! Calls that code residuals and subframes.
 ghost use Rattle.std.specs.Prelude.{◌≡◌, ◌≤◌, true, All};
 ghost use Rattle.ff_frame.specs.Audio.{FitsBits};
 
@@ -21,7 +22,7 @@ fn coded(alloc: Global, us: &[u32], order: usize) -> Result<String, Stop> {
     Ok(format!(in alloc; "{cost} bits {hex}")?)
 }
 
-/// `residual ORDER NUMBER..`: the best coding of residuals behind a predictor of this order, where 0, -1, 1, -2 .. are told as
+/// `residual ORDER NUMBER..`: the best coding of residuals after a predictor of this order, where 0, -1, 1, -2 .. are told as
 /// 0, 1, 2, 3 ..
 pub fn residual(words: Words) -> Result<String, Stop> {
     let order = words.number(0)?;

@@ -1,3 +1,4 @@
+//! Answers to numbers in a row, told in runs.
 use crate::table::Stop;
 use std::alloc::Global;
 

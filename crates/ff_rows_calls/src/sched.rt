@@ -1,4 +1,4 @@
-// The scheduler: the state after events, the sources that may be read, and histories.
+//! Calls of the scheduler: the state after events, the sources that may be read, and histories.
 ghost use Rattle.std.specs.Prelude.{◌≡◌, ◌<◌, true};
 ghost use Rattle.ff_sched.specs.Events.{IsSmall};
 
@@ -152,7 +152,7 @@ pub fn state(words: Words) -> Result<String, Stop> {
     }
 }
 
-/// `unchoked` with the same words: the sources that may be read then, each a bit.
+/// `unchoked` with the same arguments: the sources that may be read then, each a bit.
 pub fn sources(words: Words) -> Result<String, Stop> {
     let routes = routes(words)?;
     if !routes.fit() {
@@ -204,7 +204,7 @@ fn answers(words: Words, node: &mut SchedNode) -> Result<String, Stop> {
     Ok(text)
 }
 
-/// `scheduled` with the same words: what the scheduler in one place answers, a line, and the history that it prints.
+/// `scheduled` with the same arguments: what the scheduler in one place answers, a line, and the history that it prints.
 pub fn scheduled(words: Words) -> Result<String, Stop> {
     let routes = routes(words)?;
     if !routes.fit() {

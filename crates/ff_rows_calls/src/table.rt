@@ -1,4 +1,4 @@
-// The text of tables: words, escapes and bytes in hex.
+//! The strings of tables: words, escapes and bytes in hex.
 use std::alloc::{AllocError, AllocFailed, Global};
 use std::num::ParseIntError;
 use std::{io, str};
@@ -36,7 +36,7 @@ impl From<ParseIntError> for Stop {
     }
 }
 
-/// The first word of a line, and what stands behind one blank.
+/// The first word of a line, and what stands after one blank.
 pub fn halves(line: &str) -> (&str, &str) {
     match line.split_once(' ') {
         Some((word, rest)) => (word, rest),
@@ -56,7 +56,7 @@ fn escape(byte: u8) -> Option<u8> {
     }
 }
 
-/// The bytes of an escaped text.
+/// The bytes of an escaped string.
 pub fn plain(alloc: Global, text: &str) -> Result<Vec<u8>, AllocError> {
     let mut bytes = Vec::with_capacity(alloc, text.len())?;
     let mut escaped = false;
@@ -73,7 +73,7 @@ pub fn plain(alloc: Global, text: &str) -> Result<Vec<u8>, AllocError> {
     Ok(bytes)
 }
 
-/// The text of these bytes.
+/// The string of these bytes.
 pub fn text_of(bytes: Vec<u8>) -> Result<String, Stop> {
     match String::from_utf8(bytes) {
         Ok(text) => Ok(text),
@@ -81,7 +81,7 @@ pub fn text_of(bytes: Vec<u8>) -> Result<String, Stop> {
     }
 }
 
-/// An escaped name, word or text.
+/// An escaped name, word or string.
 pub fn plain_text(alloc: Global, text: &str) -> Result<String, Stop> {
     text_of(plain(alloc, text)?)
 }
@@ -102,7 +102,7 @@ pub fn plain_words(alloc: Global, line: &str) -> Result<Vec<String>, Stop> {
     Ok(words)
 }
 
-/// The bytes of a text in hex.
+/// The bytes of a string in hex.
 pub fn bytes_of(alloc: Global, text: &str) -> Result<Vec<u8>, Stop> {
     match hex::decode(alloc, text) {
         Ok(bytes) => Ok(bytes),
@@ -110,7 +110,7 @@ pub fn bytes_of(alloc: Global, text: &str) -> Result<Vec<u8>, Stop> {
     }
 }
 
-// What stands in a table for a letter of a text or a word, where it isn't the letter.
+// What stands in a table for a letter of a string or a word, where it isn't the letter.
 fn escape_of(letter: char, in_word: bool) -> Option<&'static str> {
     match letter {
         '\n' => Some("\\n"),
@@ -122,7 +122,7 @@ fn escape_of(letter: char, in_word: bool) -> Option<&'static str> {
     }
 }
 
-/// A text, or a name or a word, as it stands in a table.
+/// A string, or a name or a word, as it stands in a table.
 pub fn escaped(alloc: Global, text: &str, in_word: bool) -> Result<String, AllocError> {
     let mut escaped = String::with_capacity(alloc, text.len())?;
     for letter in text.chars() {
@@ -134,7 +134,7 @@ pub fn escaped(alloc: Global, text: &str, in_word: bool) -> Result<String, Alloc
     Ok(escaped)
 }
 
-/// The text of these bytes, where it can be printed: each letter that has no escape is none of control.
+/// The string of these bytes, where it can be printed: each letter that has no escape is none of control.
 pub fn printable(bytes: &[u8]) -> Option<&str> {
     let text = str::from_utf8(bytes).ok()?;
     for letter in text.chars() {

@@ -1,3 +1,4 @@
+//! Calls on times and time bases.
 use crate::table::Stop;
 use crate::words::Words;
 use ff_time::{Rational, TimeError, ceil_units, compare, read_duration, rescale};

@@ -1,3 +1,4 @@
+//! Calls of the header of WAV that is written.
 ghost use Rattle.std.specs.Prelude.{IfOk};
 ghost use Rattle.ff_frame.specs.Codecs.{IsPcmCodec};
 ghost use Rattle.ff_wav.specs.Codecs.{IsWavCodec, IsWavCoded};
@@ -52,7 +53,7 @@ pub fn first(words: Words) -> Result<String, Stop> {
     Ok(hex::encode(words.alloc, bytes.as_slice())?)
 }
 
-// Counts the sizes that the words from this place on say, and adds for each whether it was taken.
+// Counts the sizes that the arguments from this place on say, and adds for each whether it was taken.
 fn count(words: Words, put: &mut WavPut, text: &mut String) -> Result<(), Stop> {
     for at in 2..words.len() {
         let told = match put.add(words.number(at)?) {

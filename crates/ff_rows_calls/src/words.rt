@@ -1,8 +1,9 @@
+//! The arguments of a call, read as numbers, bytes and samples.
 use crate::table::Stop;
 use ff_time::Rational;
 use std::alloc::Global;
 
-/// The words of a call.
+/// The arguments of a call.
 #[derive(Clone, Copy)]
 pub struct Words<'a> {
     pub alloc: Global,
@@ -14,7 +15,7 @@ impl<'a> Words<'a> {
         Words { alloc, words }
     }
 
-    /// How many words there are.
+    /// How many arguments there are.
     pub fn len(&self) -> usize {
         self.words.len()
     }
@@ -24,7 +25,7 @@ impl<'a> Words<'a> {
         self.words
     }
 
-    /// The word at this place.
+    /// The argument at this place.
     pub fn text(&self, at: usize) -> Result<&'a str, Stop> {
         match self.words.get(at) {
             Some(word) => Ok(word.as_str()),
@@ -42,7 +43,7 @@ impl<'a> Words<'a> {
         read_number(self.text(at)?)
     }
 
-    /// The samples of the words from this place on: each a number, or `NUMBER*TIMES`.
+    /// The samples of the arguments from this place on: each a number, or `NUMBER*TIMES`.
     pub fn samples(&self, from: usize) -> Result<Vec<i32>, Stop> {
         let mut out = Vec::new(self.alloc);
         for at in from..self.len() {
@@ -79,8 +80,8 @@ impl<'a> Words<'a> {
         }
     }
 
-    /// The bytes at this place: parts with a `+` between them, each of them hex, or text behind a `'`, and either so many
-    /// times as a number behind a `*` says.
+    /// The bytes at this place: parts with a `+` between them, each of them hex, or a string after a `'`, and either so many
+    /// times as a number after a `*` says.
     pub fn bytes(&self, at: usize) -> Result<Vec<u8>, Stop> {
         let mut out = Vec::new(self.alloc);
         for part in self.text(at)?.split('+') {

@@ -1,4 +1,4 @@
-// A row run on its filter.
+//! A row, run on its filter.
 use crate::play::Play;
 use crate::row::Row;
 use crate::table::Stop;
@@ -112,7 +112,7 @@ fn run_several(row: &mut Row, named: &Named, heads: &[StreamHead]) -> Result<(),
     }
 }
 
-// A row of a filter of sound with one input, or of several inputs.
+// A row of an audio filter with one input, or of several inputs.
 fn run_sound(row: &mut Row, named: &Named, heads: &[StreamHead]) -> Result<(), Stop> {
     let (alloc, args) = (row.alloc, named.args.as_slice());
     match named.name.as_str() {
@@ -142,7 +142,7 @@ fn run_any(row: &mut Row, named: &Named, heads: &[StreamHead]) -> Result<(), Sto
     }
 }
 
-/// Runs a row on the one filter that its text names.
+/// Runs a row on the one filter that its string names.
 pub fn run_row(row: &mut Row) -> Result<(), Stop> {
     let heads = row.ins.clone()?;
     let Ok(graph) = read_graph(row.alloc, row.filter) else {

@@ -1,4 +1,4 @@
-// Heads of streams as a table has them.
+//! The heads of streams, as a table has them.
 use crate::table::{Stop, halves, parted};
 use ff_frame::{Codec, Format, StreamHead};
 use ff_time::Rational;
@@ -31,7 +31,7 @@ pub fn name_of_format(format: Format) -> &'static str {
     }
 }
 
-/// The codecs of sound.
+/// The audio codecs.
 const SOUND: [Codec; 5] = [
     Codec::PcmU8,
     Codec::PcmS16le,
@@ -79,7 +79,7 @@ fn read_sound(text: &str) -> Result<StreamHead, Stop> {
     })
 }
 
-/// The head of a text: `pictures BASE FORMAT COLUMNSxROWS NUM:DEN` or `sound BASE RATE BITS CHANNELS CODEC`.
+/// The head of a string: `pictures BASE FORMAT COLUMNSxROWS NUM:DEN` or `sound BASE RATE BITS CHANNELS CODEC`.
 pub fn read_head(text: &str) -> Result<StreamHead, Stop> {
     match halves(text) {
         ("pictures", rest) => read_pictures(rest),
@@ -88,7 +88,7 @@ pub fn read_head(text: &str) -> Result<StreamHead, Stop> {
     }
 }
 
-/// A head as a text.
+/// A head as a string.
 pub fn show_head(alloc: Global, head: &StreamHead) -> Result<String, AllocError> {
     match *head {
         StreamHead::Video {

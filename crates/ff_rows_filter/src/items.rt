@@ -1,4 +1,4 @@
-// Items as a table has them.
+//! Items, as a table has them.
 use crate::heads::name_of_format;
 use crate::sound::{read_samples, show_samples};
 use crate::table::{Stop, parted};
@@ -6,7 +6,7 @@ use ff_frame::{AFrame, Bytes, Samples, StreamHead, VFrame};
 use ff_stream::Item;
 use std::alloc::{AllocError, Global};
 
-// Bytes in hex, so many times as a number behind a `*` says.
+// Bytes in hex, so many times as a number after a `*` says.
 fn add_part(alloc: Global, out: &mut Vec<u8>, part: &str) -> Result<(), Stop> {
     let (once, times) = match part.split_once('*') {
         Some((once, times)) => (once, times.parse::<u64>()?),
@@ -30,7 +30,7 @@ fn read_bytes(alloc: Global, text: &str) -> Result<Vec<u8>, Stop> {
     Ok(out)
 }
 
-// `TIME+DURATION:PLANES`, a picture of this head.
+// `TIME+DURATION:PLANES`, a video frame of this head.
 fn read_picture(alloc: Global, head: &StreamHead, text: &str) -> Result<Item, Stop> {
     let StreamHead::Video {
         format,
@@ -53,7 +53,7 @@ fn read_picture(alloc: Global, head: &StreamHead, text: &str) -> Result<Item, St
     }))
 }
 
-// `TIME:SAMPLES`, sound of this head.
+// `TIME:SAMPLES`, audio of this head.
 fn read_sound(alloc: Global, head: &StreamHead, text: &str) -> Result<Item, Stop> {
     let StreamHead::Audio {
         rate,
@@ -74,7 +74,7 @@ fn read_sound(alloc: Global, head: &StreamHead, text: &str) -> Result<Item, Stop
     }))
 }
 
-/// The item of a text, on a stream of this head: a frame, `end` or `broken`.
+/// The item of a string, on a stream of this head: a frame, `end` or `broken`.
 pub fn read_item(alloc: Global, head: &StreamHead, text: &str) -> Result<Item, Stop> {
     match text {
         "end" => Ok(Item::End),
@@ -86,7 +86,7 @@ pub fn read_item(alloc: Global, head: &StreamHead, text: &str) -> Result<Item, S
     }
 }
 
-// What a picture has that isn't as its head says.
+// What a video frame has that isn't as its head says.
 fn picture_of_another(
     alloc: Global,
     head: &StreamHead,
@@ -115,7 +115,7 @@ fn show_picture(alloc: Global, head: &StreamHead, frame: &VFrame) -> Result<Stri
     format!(in alloc; "{other}{pts}+{duration}:{planes}")
 }
 
-// What sound has that isn't as its head says.
+// What audio has that isn't as its head says.
 fn sound_of_another(
     alloc: Global,
     head: &StreamHead,
@@ -144,7 +144,7 @@ fn show_sound(alloc: Global, head: &StreamHead, frame: &AFrame) -> Result<String
     format!(in alloc; "{other}{pts}:{samples}")
 }
 
-/// An item as a text, on a stream of this head. What it has that isn't as the head says stands before it in brackets.
+/// An item as a string, on a stream of this head. What it has that isn't as the head says stands before it in brackets.
 pub fn show_item(alloc: Global, head: &StreamHead, item: &Item) -> Result<String, AllocError> {
     match item {
         Item::Video(frame) => show_picture(alloc, head, frame),

@@ -1,7 +1,7 @@
-//! Runs tables of rows on filters: each row configures one by its text and the heads of its inputs, feeds it, pulls, and says
+//! Runs tables of rows on filters: each row configures one by its string and the heads of its inputs, feeds it, pulls, and says
 //! what must come.
 //!
-//! Its words name the tables, in the order in which they are run; without words one table is read from standard input. It
+//! Its arguments name the tables, in the order in which they are run; without arguments one table is read from standard input. It
 //! prints each line that doesn't hold with what came in its place, and at last how many rows passed and how many failed.
 #![tactic(auto)]
 
@@ -21,7 +21,7 @@ use std::rt::{Env, Files};
 use std::{env, fs};
 use table::Stop;
 
-// Runs the tables that the words name, and answers whether there was one.
+// Runs the tables that the arguments name, and answers whether there was one.
 fn run_named<R>(rt: &R, runner: &mut Runner) -> Result<bool, Stop>
 where
     R: Env + Files + AllocGlobal,

@@ -1,4 +1,4 @@
-// One filter, fed and pulled as the lines of its row say.
+//! One filter, fed and pulled as the lines of its row say.
 use crate::heads::show_head;
 use crate::items::{read_item, show_item};
 use crate::table::{Stop, halves};
@@ -63,7 +63,7 @@ impl<F: Filter> Play<'_, F> {
         Ok(String::from_str(self.alloc, text)?)
     }
 
-    // What is next on an output that is wanted; the empty text where nothing is due.
+    // What is next on an output that is wanted; the empty string where nothing is due.
     fn next(&mut self, port: usize) -> Result<String, Stop> {
         let head = head_at(self.outs.as_slice(), port)?;
         if port >= self.filter.outputs() || self.filter.is_stopped(port) {

@@ -1,4 +1,4 @@
-// One row: the text of a filter, the heads of its inputs, and what is done with it and must come.
+//! One row: the string of a filter, the heads of its inputs, and what is done with it and must come.
 use crate::heads::read_head;
 use crate::table::{Stop, halves};
 use ff_frame::StreamHead;

@@ -1,10 +1,10 @@
-// Runs tables row by row, counts the rows, and keeps what is to be printed.
+//! The runner of tables, which counts the rows and keeps what is to be printed.
 use crate::configured::run_row;
 use crate::row::Row;
 use crate::table::Stop;
 use std::alloc::{AllocError, Global};
 
-/// How many rows passed and failed, and the text of those that failed.
+/// How many rows passed and failed, and the rows that failed as a string.
 #[derive(Drop)]
 pub struct Runner {
     alloc: Global,

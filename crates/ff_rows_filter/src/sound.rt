@@ -1,4 +1,5 @@
-// Samples as a table has them: channel by channel with `|` between them, each of them runs of numbers that rise by one.
+//! Samples, as a table has them: channel by channel with `|` between them, each of them runs of numbers that rise by
+//! one.
 use crate::table::Stop;
 use std::alloc::{AllocError, Global};
 
@@ -33,7 +34,7 @@ fn add_row(out: &mut Vec<i32>, channels: &[Vec<i32>], place: usize) -> Result<()
     Ok(())
 }
 
-/// The samples of a text, interleaved by channel.
+/// The samples of a string, interleaved by channel.
 pub fn read_samples(alloc: Global, text: &str) -> Result<Vec<i32>, Stop> {
     let mut channels = Vec::new(alloc);
     let mut most = 0;
@@ -49,7 +50,7 @@ pub fn read_samples(alloc: Global, text: &str) -> Result<Vec<i32>, Stop> {
     Ok(out)
 }
 
-// The text of the runs so far, and the run that goes on.
+// The string of the runs so far, and the run that goes on.
 #[derive(Drop)]
 struct Runs {
     text: String,
@@ -105,7 +106,7 @@ fn show_channel(
     Ok(runs.text)
 }
 
-/// The text of samples that are interleaved by channel.
+/// The string of samples that are interleaved by channel.
 pub fn show_samples(alloc: Global, samples: &[i32], channels: usize) -> Result<String, AllocError> {
     let mut text = String::new(alloc);
     for channel in 0..channels {

@@ -1,4 +1,4 @@
-// The text of tables: words and numbers.
+//! The strings of tables: words and numbers.
 use std::alloc::{AllocError, AllocFailed};
 use std::io;
 use std::num::ParseIntError;
@@ -36,7 +36,7 @@ impl From<ParseIntError> for Stop {
     }
 }
 
-/// The first word of a line, and what stands behind one blank.
+/// The first word of a line, and what stands after one blank.
 pub fn halves(line: &str) -> (&str, &str) {
     match line.split_once(' ') {
         Some((word, rest)) => (word, rest),
@@ -44,7 +44,7 @@ pub fn halves(line: &str) -> (&str, &str) {
     }
 }
 
-/// What stands before and behind the first of a sign.
+/// What stands before and after the first of a sign.
 pub fn parted(text: &str, sign: char) -> Result<(&str, &str), Stop> {
     match text.split_once(sign) {
         Some(parts) => Ok(parts),

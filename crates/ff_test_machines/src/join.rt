@@ -1,3 +1,4 @@
+//! A machine that joins two inputs.
 ghost use Rattle.std.specs.Prelude.{◌≡◌, ◌<◌, ◌≤◌, ◌⊎◌, ◌↔◌, ℕ, length, true, false, None, Some, Ok, Err, ◌∷◌, [], ◌++◌, OnOk, OnErr, IfErr, IsTrue};
 ghost use Rattle.ff_stream.specs.declared.item.Item.{Item};
 ghost use Rattle.ff_stream.specs.Stream.{still_open};

@@ -1,5 +1,5 @@
-// A stream of packets that are told apart by their times and bytes: the one at place n starts at tick n, lasts one
-// tick and has one byte, the last eight bits of n.
+//! A stream of packets that are told apart by their times and bytes. The one at place n starts at tick n, lasts one
+//! tick and has one byte, the last eight bits of n.
 ghost use Rattle.std.specs.Prelude.{◌≡◌, ◌≤◌, IfOk, IfSome};
 ghost use Rattle.ff_test_machines.specs.Packets.{byte_lane, byte_packet, IsWhole};
 

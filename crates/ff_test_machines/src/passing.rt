@@ -1,3 +1,4 @@
+//! Packets sent over a link from one thread to another.
 ghost use Rattle.std.specs.Prelude.{◌≡◌, ◌≤◌, ◌^◌, [], ◌∷◌, ◌++◌, length, IfOk, IfSome, IsTrue};
 ghost use Rattle.ff_stream.specs.Items.{Closes};
 ghost use Rattle.ff_link.specs.Sendings.{Carries};

@@ -1,3 +1,4 @@
+//! A machine of any of the kinds here.
 use crate::join::Join;
 use crate::relay::Relay;
 use crate::source::Source;

@@ -1,3 +1,4 @@
+//! A machine that repeats its input on its outputs.
 ghost use Rattle.std.specs.Prelude.{◌≡◌, ◌<◌, ◌⊎◌, ℕ, length, replicate, true, false, None, Some, Ok, Err, ◌∷◌, []};
 ghost use Rattle.ff_test_machines.specs.Relays.{Relays, is_spent_relay, outs_stopped};
 

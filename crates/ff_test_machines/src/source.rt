@@ -1,3 +1,4 @@
+//! A source that gives the packets of a list.
 ghost use Rattle.std.specs.Prelude.{◌≡◌, ◌<◌, ◌⊎◌, ℕ, length, true, false, None, Some, Ok, Err, ◌∷◌, []};
 ghost use Rattle.ff_test_machines.specs.Lists.{Lists, fault_if, as_count};
 

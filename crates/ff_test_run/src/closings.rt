@@ -1,3 +1,4 @@
+//! Tests of the order in which files are closed.
 use crate::counting_host::CountingHost;
 use crate::runs::{comes_to, input};
 use ff_host::MemHost;

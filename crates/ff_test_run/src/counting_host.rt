@@ -1,4 +1,5 @@
-// A host in memory that counts the calls on it, on its sources and on its sinks, by name and kind, and notes the order of closings.
+//! A host in memory that counts the calls on it, on its sources and on its sinks, by name and kind, and notes the
+//! order of closings.
 ghost use Rattle.std.specs.Prelude.{};
 
 use ff_host::{

@@ -1,4 +1,4 @@
-// The head is written out by hand from the RIFF WAVE layout.
+//! Tests of a demuxer by itself. The head is written out by hand from the RIFF WAVE layout.
 ghost use Rattle.std.specs.Prelude.{◌+◌, ◌<◌, ◌≤◌, ◌^◌, length, IfOk};
 
 use ff_frame::{Bytes, Codec, Event, Pkt, StreamHead, Ticket};

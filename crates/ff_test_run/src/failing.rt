@@ -1,4 +1,4 @@
-// A command's calls on its host fail, each once in a run of its own.
+//! The calls of a command on its host, which fail each once in a run of its own.
 use crate::counting_host::CountingHost;
 use crate::runs::log_of;
 use ff_command::{FileRef, Status};

@@ -1,4 +1,4 @@
-// Each call on the host fails once, in a command of one input and one output.
+//! Tests where each call on the host fails once, in a command of one input and one output.
 use crate::failing::{Job, fails_well};
 use crate::runs::{mono, sized, words_of};
 use ff_host::HostCall;

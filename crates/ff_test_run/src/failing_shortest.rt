@@ -1,4 +1,5 @@
-// Each call on the host fails once, in a command of two inputs, a graph and one output, whose streams end together.
+//! Tests where each call on the host fails once, in a command of two inputs, a graph and one output, under
+//! `-shortest`.
 use crate::failing::{Job, fails_well};
 use crate::runs::words_of;
 use ff_host::HostCall;
@@ -14,7 +15,7 @@ const SOUND: &str = "c93eee2d0db02f10acc7460d9576e122dcf8cd53c4bf8dfcae1b3e74ebc
 /// SHA-256 of 9,216 times the letter b.
 const PICTURE: &str = "35e42ef1926b1fc1601e8530b05492808fb12240e6b23cf525d887f40d9dfce2";
 
-// 3 seconds of stereo sound, of 16 bits and 9,000 sample frames a second.
+// 3 seconds of stereo audio, of 16 bits and 9,000 sample frames a second.
 fn sound(alloc: Global) -> Result<Vec<u8>, AllocError> {
     let mut bytes = Vec::new(alloc);
     bytes.extend_from_slice(
@@ -25,7 +26,7 @@ fn sound(alloc: Global) -> Result<Vec<u8>, AllocError> {
     Ok(bytes)
 }
 
-// 3 seconds of pictures, 4 a second.
+// 3 seconds of video, 4 frames a second.
 fn pictures(alloc: Global) -> Result<Vec<u8>, AllocError> {
     let mut bytes = Vec::new(alloc);
     bytes.extend_from_slice(b"YUV4MPEG2 W96 H64 F4:1\n")?;
@@ -37,7 +38,7 @@ fn pictures(alloc: Global) -> Result<Vec<u8>, AllocError> {
     Ok(bytes)
 }
 
-// The digests of what begins in the first 2 seconds, by the ticks of the sound: a packet of it each 1,024, a picture each 2,250.
+// The digests of what begins in the first 2 seconds, by the ticks of the audio: a packet of it each 1,024, a frame each 2,250.
 fn digests(alloc: Global) -> Result<String, AllocError> {
     let mut text = String::from_str(alloc, HEAD)?;
     for tick in 0..18_000 {
@@ -58,7 +59,7 @@ fn digests(alloc: Global) -> Result<String, AllocError> {
     Ok(text)
 }
 
-// The sound beside the first 2 seconds of the pictures, over queues of this size.
+// The audio beside the first 2 seconds of the video, over queues of this size.
 fn shortest(alloc: Global, size: &str) -> Result<Job, AllocError> {
     let words = [
         "-thread_queue_size",
@@ -114,7 +115,7 @@ fn each_call_of_the_pictures(rt: HostRuntime) -> Result<(), AllocError> {
     Ok(())
 }
 
-// The output is created once, gets its header, the lines of 18 packets and of 8 pictures, and is closed once.
+// The output is created once, gets its header, the lines of 18 packets and of 8 video frames, and is closed once.
 #[test]
 fn each_call_of_the_digests(rt: HostRuntime) -> Result<(), AllocError> {
     let due = [

@@ -1,4 +1,5 @@
-// A source that waits for a sink or fails before it, or gives a few bytes a read. A sink that waits for a source.
+//! A source that waits for a sink or fails before it, or gives a few bytes a read, and a sink that waits for a
+//! source.
 ghost use Rattle.std.specs.Prelude.{◌≡◌, ◌+◌, ◌<◌, ◌≤◌, ℕ, List, length, None, Some, false, string_bytes};
 
 use ff_host::{Failed, Sink, SinkError, Source};
@@ -74,7 +75,7 @@ impl GateSource {
     }
 }
 
-// Fills the front of a buffer from a place on, as far as it and the bytes reach, by at most so many.
+// Fills a prefix of a buffer from a place on, as far as it and the bytes reach, by at most so many.
 fn copy_from(buf: &mut [u8], bytes: &[u8], at: usize, most: usize) -> usize
     ensures within { result ≤ length buf.old }
     ensures length { length buf.new ≡ length buf.old }

@@ -1,4 +1,4 @@
-// A host whose source waits for its sink or fails before it, or gives a few bytes a read.
+//! A host whose source waits for its sink or fails before it, or gives a few bytes a read.
 ghost use Rattle.std.specs.Prelude.{◌≡◌, ◌+◌, ◌<◌, ◌≤◌, ℕ, List, Some, None, IsTrue, string_bytes};
 ghost use Rattle.ff_host.specs.Tally.{marks_at};
 

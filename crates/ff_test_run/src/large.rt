@@ -1,3 +1,4 @@
+//! Tests with a large input.
 use crate::gate::Pace;
 use crate::gate_host::GateHost;
 use crate::runs::{FULL, HEADER, WORDS, comes_to, host_of, input, mono};

@@ -1,3 +1,4 @@
+//! Tests of the line that each status is told by.
 ghost use Rattle.std.specs.Prelude.{◌≢◌};
 
 use ff_command::{FileRef, Status, fault_line, status_number};

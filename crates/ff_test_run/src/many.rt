@@ -1,3 +1,4 @@
+//! Tests with as many inputs and outputs as there may be.
 ghost use Rattle.std.specs.Prelude.{◌<◌};
 
 use crate::runs::{input, log_of};
@@ -18,7 +19,7 @@ fn body(alloc: Global, k: usize) -> Result<Vec<u8>, AllocError>
     vec![in alloc; 100 + k as u8; 3_000]
 }
 
-// The words of as many outputs as inputs, the last input to the first output, with queues of this size.
+// The arguments of as many outputs as inputs, the last input to the first output, with queues of this size.
 fn words(alloc: Global, size: usize) -> Result<Vec<String>, AllocError> {
     let mut words = Vec::new(alloc);
     words.push(String::from_str(alloc, "-thread_queue_size")?)?;
@@ -46,7 +47,7 @@ fn host(alloc: Global) -> Result<QuietHost, AllocError> {
     QuietHost::new(alloc, files)
 }
 
-// Whether output k holds the samples of its input, behind a header of 44 bytes.
+// Whether output k holds the samples of its input, after a header of 44 bytes.
 fn holds(alloc: Global, host: &QuietHost, k: usize) -> Result<bool, AllocError>
     requires { k < 16 }
 {

@@ -1,3 +1,4 @@
+//! Tests with two sources that wait for each other.
 use crate::runs::{comes_to, input};
 use ff_host::MeetHost;
 use std::alloc::{AllocError, Global};

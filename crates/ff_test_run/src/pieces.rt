@@ -1,3 +1,4 @@
+//! Tests with sources that give a few bytes a read.
 use crate::gate::Pace;
 use crate::gate_host::GateHost;
 use crate::runs::{FULL, HEADER, WORDS, comes_to, input};
@@ -8,7 +9,7 @@ use std::thread::Threads;
 /// SHA-256 of one letter a.
 const ONE: &str = "ca978112ca1bbdcafac231b39a23dc4da786eff8147c4e72b9807785afee48bb";
 
-// Whether the command of these words writes this, where each read of its input gives at most so many bytes.
+// Whether the command of these arguments writes this, where each read of its input gives at most so many bytes.
 fn writes<R: Threads + Wait + Sync>(
     rt: &R,
     alloc: Global,

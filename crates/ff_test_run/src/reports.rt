@@ -1,3 +1,4 @@
+//! Tests of reports as values, and of a log that fails.
 use crate::runs::{WORDS, host_of, input, log_of, run};
 use ff_command::{FileRef, Line, Status, exit_number};
 use ff_host::{FailAt, HostCall, MemHost};
@@ -6,7 +7,7 @@ use std::alloc::{AllocError, Global};
 use std::sync::Wait;
 use std::thread::Threads;
 
-// The status of these words over a host with this `in.wav`.
+// The status of these arguments over a host with this `in.wav`.
 fn status_on<R: Threads + Wait + Sync>(
     rt: &R,
     alloc: Global,
@@ -66,7 +67,7 @@ fn failing_log(alloc: Global, number: u32) -> Result<Vec<FailAt>, AllocError> {
     Ok(fails)
 }
 
-// Whether the line of these words, where the append of this number fails, is as said, the log holds this, and the program ends so.
+// Whether the line of these arguments, where the append of this number fails, is as said, the log holds this, and the program ends so.
 fn logs<R: Threads + Wait + Sync>(
     rt: &R,
     alloc: Global,

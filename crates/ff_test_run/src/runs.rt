@@ -1,4 +1,4 @@
-// What the tests share: inputs, words, and one run of the command.
+//! Inputs, command lines and one run of the command, which the tests share.
 use ff_command::{Line, Report, status_number};
 use ff_host::{FailAt, Host, MemHost, MemSink};
 use ff_run::ffmpeg;
@@ -6,7 +6,7 @@ use std::alloc::{AllocError, Global};
 use std::sync::Wait;
 use std::thread::Threads;
 
-/// The words of a command.
+/// The arguments of a command.
 pub const WORDS: [&str; 7] = ["-i", "in.wav", "-c:a", "pcm_u8", "-f", "framehash", "out"];
 
 /// The lines of an output at 8,000 sample frames a second, before those of the packets.
@@ -48,7 +48,7 @@ pub fn mono(alloc: Global, body: &[u8]) -> Result<Vec<u8>, AllocError> {
     sized(alloc, size.saturating_add(36), size, body)
 }
 
-/// Words of these texts.
+/// Arguments of these strings.
 pub fn words_of(alloc: Global, texts: &[&str]) -> Result<Vec<String>, AllocError> {
     let mut words = Vec::new(alloc);
     for text in texts {
@@ -73,7 +73,7 @@ pub fn log_of(alloc: Global, fails: Vec<FailAt>) -> Result<MemSink, AllocError> 
     }
 }
 
-/// Runs the command of these words over this host.
+/// Runs the command of these arguments over this host.
 pub fn run<R: Threads + Wait + Sync, H: Host>(
     rt: &R,
     alloc: Global,
@@ -85,7 +85,7 @@ pub fn run<R: Threads + Wait + Sync, H: Host>(
     Ok(ffmpeg(rt, alloc, &words, host, log))
 }
 
-/// Whether the command of these words over this host comes to this number and logs this text, with a history and reads exactly
+/// Whether the command of these arguments over this host comes to this number and logs this string, with a history and reads exactly
 /// where all was done.
 pub fn comes_to<R: Threads + Wait + Sync, H: Host>(
     rt: &R,

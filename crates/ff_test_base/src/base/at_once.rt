@@ -1,4 +1,4 @@
-// Blocks that are coded at the same time.
+//! Tests of blocks that are coded at the same time.
 ghost use Rattle.std.specs.Prelude.{IfSome};
 ghost use Rattle.ff_flac_enc.specs.Frame.{IsBlock};
 

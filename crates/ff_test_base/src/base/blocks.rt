@@ -1,4 +1,4 @@
-// Frames whose samples count up, as blocks.
+//! Tests of blocks, by frames whose samples count up.
 ghost use Rattle.std.specs.Prelude.{◌≡◌, ◌≤◌, false, Some, None, All, length, IfOk, OnOk};
 ghost use Rattle.ff_frame.specs.Audio.{FitsBits, IsAudio};
 ghost use Rattle.ff_flac_enc.specs.Gathered.{format_of};
@@ -98,7 +98,7 @@ fn feed(blocks: &mut Blocks, frame: AFrame) -> Result<(), AllocError>
     Ok(())
 }
 
-// The blocks of frames of these sizes, each of which starts `gap` ticks behind the one before it: taken as they come, or all
+// The blocks of frames of these sizes, each of which starts `gap` ticks after the one before it: taken as they come, or all
 // at the end.
 fn blocks_of(
     alloc: Global,
@@ -202,7 +202,7 @@ fn sizes(rt: HostRuntime) -> Result<(), AllocError> {
     Ok(())
 }
 
-// Each block starts as many ticks behind the first frame as there are sample frames before it.
+// Each block starts as many ticks after the first frame as there are sample frames before it.
 #[test]
 fn gaps(rt: HostRuntime) -> Result<(), AllocError> {
     let blocks = blocks_of(rt.alloc(), 1, &[4095, 2, 4096], 7, true)?;
@@ -227,7 +227,7 @@ fn next(blocks: &mut Blocks) -> Option<Said>
     }
 }
 
-// Seven pulls, behind no frame, one, two and the end.
+// Seven pulls, after no frame, one, two and the end.
 fn pulls(alloc: Global) -> Result<[Option<Said>; 7], AllocError> {
     let first = frame(alloc, START, 1, 0, 4095)?;
     let second = frame(alloc, START + 4095, 1, 4095, 2)?;

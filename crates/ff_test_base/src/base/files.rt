@@ -1,3 +1,4 @@
+//! Tests of the machine's files as a host.
 ghost use Rattle.std.specs.Prelude.{◌≡◌, List, ℕ};
 
 use ff_host::{Failed, Host, HostError, Sink, SinkError, Source};

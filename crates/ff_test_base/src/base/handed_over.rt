@@ -1,4 +1,4 @@
-// Frames that go from a cut to a decoder.
+//! Tests of frames that go from a cut to a decoder.
 use ff_flac_dec::{FlacCut, FlacHead, FrameReceiver, frame_channel, read_head};
 use ff_frame::{Cut, Pkt};
 use ff_reader::PacketCut;

@@ -1,3 +1,4 @@
+//! Tests of hosts in memory.
 ghost use Rattle.std.specs.Prelude.{◌≡◌};
 
 use ff_host::{
@@ -132,7 +133,7 @@ fn calls_on<H: Host>(host: &mut H, alloc: Global) -> Result<String, AllocError> 
     Ok(letters)
 }
 
-// A file as text.
+// A file as a string.
 fn shown(file: Option<&[u8]>) -> &str {
     match file {
         Some(bytes) => str::from_utf8(bytes).unwrap_or("no text"),

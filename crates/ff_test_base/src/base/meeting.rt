@@ -1,3 +1,4 @@
+//! Tests of sources that wait for each other.
 ghost use Rattle.std.specs.Prelude.{◌≡◌};
 
 use ff_host::{Failed, Host, MeetHost, MeetSource, Source};

@@ -1,3 +1,4 @@
+//! Tests of times.
 use ff_time::TimeCut;
 
 #[test]

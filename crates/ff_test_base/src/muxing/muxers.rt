@@ -1,3 +1,4 @@
+//! Tests of muxers, one format after another.
 ghost use Rattle.std.specs.Prelude.{◌≡◌, IfSome};
 ghost use Rattle.ff_wav.specs.Codecs.{IsWavCoded};
 ghost use Rattle.ff_mux.specs.FlacHead.{CanHold};
@@ -34,7 +35,7 @@ const STREAM: u32 = 2;
 // The bytes of a packet, `abc`.
 const ABC: &str = "616263";
 
-// The first line of pictures of 2 columns and 1 row, and the line of a frame.
+// The first line of video of 2 columns and 1 row, and the line of a frame.
 const PICTURES: &str = "595556344d50454732205732204831204632353a312049702041303a3020436d6f6e6f0a";
 
 const FRAME: &str = "4652414d450a";
@@ -148,7 +149,7 @@ fn digests(alloc: Global, snk: MemSink) -> Result<OutMux, AllocError> {
     made(Mux::new(alloc, STREAM, snk, writer, &heads))
 }
 
-// Sound, and then pictures.
+// Audio, and then video.
 fn two(alloc: Global, snk: MemSink) -> Result<OutMux, AllocError> {
     let Some(first) = sound() else {
         return Err(AllocError);
@@ -240,7 +241,7 @@ fn feed_coded<K: Sink + Drop, W: Writer + Drop>(
     feed_at(mux, 0, last)
 }
 
-// Whether the sink holds the bytes of these texts.
+// Whether the sink holds the bytes of these strings.
 fn holds(alloc: Global, snk: MemSink, texts: [&'static str; 3]) -> Result<bool, AllocError> {
     let held = hex::encode(alloc, snk.bytes())?;
     let mut wanted = String::new(alloc);
@@ -251,7 +252,7 @@ fn holds(alloc: Global, snk: MemSink, texts: [&'static str; 3]) -> Result<bool, 
 }
 
 // Whether so many packets and their end, and no less, spend the muxer's input, with this fault, and its sink then holds the bytes
-// of these texts.
+// of these strings.
 fn leaves(
     alloc: Global,
     mux: OutMux,
@@ -269,7 +270,7 @@ fn leaves(
 
 #[test]
 fn writes_sound(rt: HostRuntime) -> Result<(), AllocError> {
-    // packets, whether the stream breaks, the call that fails; the texts that are held, the fault
+    // packets, whether the stream breaks, the call that fails; the strings that are held, the fault
     for (packets, breaks, call, number, texts, fault) in [
         (0, false, HostCall::Append, 0, [OF_0, "", ""], None),
         (1, false, HostCall::Append, 0, [OF_3, ABC, "00"], None),
@@ -319,7 +320,7 @@ fn writes_sound(rt: HostRuntime) -> Result<(), AllocError> {
 
 #[test]
 fn writes_coded_sound(rt: HostRuntime) -> Result<(), AllocError> {
-    // whether totals are told and the stream breaks, the call that fails; the text before the frame that is held then, the fault
+    // whether totals are told and the stream breaks, the call that fails; the string before the frame that is held then, the fault
     for (tells, breaks, call, number, before, fault) in [
         (true, false, HostCall::Patch, 0, FLAC_TOLD, None),
         (false, false, HostCall::Patch, 0, FLAC_OPEN, None),
@@ -438,7 +439,7 @@ const AT_3: &str = "0,          3,          3,        3,        3, 900150983cd24
 
 #[test]
 fn writes_two_streams(rt: HostRuntime) -> Result<(), AllocError> {
-    // whether the pictures break; the last line that is held then
+    // whether the video breaks; the last line that is held then
     for (breaks, last) in [(false, AT_3), (true, "")] {
         let mut mux = two(rt.alloc(), sink(rt.alloc(), HostCall::Append, 0)?)?;
         let picture = packet(rt.alloc(), 0)?;

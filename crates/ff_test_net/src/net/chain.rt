@@ -1,4 +1,4 @@
-// A source, a relay and a sink, in a chain.
+//! A source, a relay and a sink, in a chain.
 ghost use Rattle.std.specs.Prelude.{◌≡◌, ◌≤◌, ◌^◌, IfOk};
 ghost use Rattle.ff_net_threads.specs.links.Runs.{AllOf};
 ghost use Rattle.ff_test_machines.specs.Packets.{IsWhole, byte_lane};

@@ -1,3 +1,4 @@
+//! Tests of links, in one thread and in two.
 ghost use Rattle.std.specs.Prelude.{◌≡◌, ◌+◌, ◌<◌, ◌^◌, IfSome};
 ghost use Rattle.ff_test_machines.specs.Packets.{byte_packet, Sent};
 

@@ -1,3 +1,4 @@
+//! Tests of a network of five nodes in one thread.
 ghost use Rattle.std.specs.Prelude.{◌≡◌, ◌<◌, ◌≤◌, ◌+◌, ℕ, length, replicate, IfOk, [], ◌∷◌};
 ghost use Rattle.ff_net.specs.declared.wires.Wires.{Wires};
 ghost use Rattle.ff_net.specs.Worlds.{lanes_of};
@@ -283,7 +284,7 @@ fn five_wires(alloc: Global, tb: Rational, size: usize) -> Result<Wires, AllocEr
     Ok(wires)
 }
 
-/// The network of a source, a machine that repeats its items on two outputs, one that ends early behind the first of
+/// The network of a source, a machine that repeats its items on two outputs, one that ends early after the first of
 /// these, one that joins what that gives with the second, and a sink. No more than 99 packets are sent.
 pub fn try_network<R: Wait>(
     rt: &R,

@@ -1,4 +1,4 @@
-// Nodes over new links. All have two wires, of which wire 0 leads from the source and wire 1 to the sink.
+//! Nodes over new links. All have two wires, of which wire 0 leads from the source and wire 1 to the sink.
 ghost use Rattle.std.specs.Prelude.{◌≡◌, ◌≤◌, ◌^◌, ◌∷◌, [], IfOk};
 ghost use Rattle.ff_test_machines.specs.Packets.{IsWhole, byte_lane, byte_packets};
 ghost use Rattle.ff_net.specs.Nodes.{IsOf};

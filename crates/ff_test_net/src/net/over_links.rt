@@ -1,3 +1,4 @@
+//! Tests of a chain in threads, over links of several sizes.
 use crate::net::run::{Outcome, run_chain};
 use ff_test_machines::one_over;
 use std::alloc::Global;

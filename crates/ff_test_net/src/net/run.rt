@@ -1,4 +1,4 @@
-// A run of the chain in threads.
+//! A run of the chain in threads.
 ghost use Rattle.std.specs.Prelude.{◌≡◌, ◌≤◌, ◌^◌, true, slice_index_or, IfSome};
 ghost use Rattle.ff_test_machines.specs.Packets.{IsWhole};
 ghost use Rattle.ff_test_net.specs.net.Chains.{AllSound, WasFed};
@@ -22,7 +22,7 @@ pub struct Outcome {
     pub taken: u32,
     /// Whether these are the first ones, in order.
     pub in_order: bool,
-    /// Whether the end came behind them, and nothing else.
+    /// Whether the end came after them, and nothing else.
     pub ended: bool,
     /// Whether no node has a fault.
     pub sound: bool,

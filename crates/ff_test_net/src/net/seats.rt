@@ -1,4 +1,4 @@
-// A scheduler with one source and no output stream, and passes of its cell.
+//! A scheduler with one source and no output stream, and passes of its cell.
 ghost use Rattle.std.specs.Prelude.{◌≡◌, ◌≤◌, ◌-◌, ◌^◌, IfOk};
 ghost use Rattle.ff_test_net.specs.net.Seats.{IsSeat, AreSeats};
 

@@ -1,3 +1,4 @@
+//! Tests of a relay between two wires.
 ghost use Rattle.std.specs.Prelude.{◌≡◌, ◌<◌, ◌≤◌, ◌+◌, ℕ, length, IfOk, []};
 ghost use Rattle.ff_net.specs.Worlds.{lanes_of};
 ghost use Rattle.ff_net.specs.Serial.{AreOf, AreShaped};

@@ -1,5 +1,4 @@
-// A source, a machine that repeats its items on two outputs, one that ends early behind the first of these, one that joins
-// what that gives with the second, and a sink.
+//! Tests of a network of five machines in threads: a source, a repeater, one that ends early, a join and a sink.
 ghost use Rattle.std.specs.Prelude.{◌≡◌, ◌≤◌, IfOk};
 ghost use Rattle.ff_test_machines.specs.Packets.{byte_lane};
 ghost use Rattle.ff_test_machines.specs.Plains.{IsBelow};

@@ -1,4 +1,5 @@
-// A plain reader of histories of two streams on two sources, of which each stream's packets lie 1,000 microseconds apart.
+//! A plain reader of histories of two streams on two sources, of which each stream's packets lie 1,000 microseconds
+//! apart.
 ghost use Rattle.std.specs.Prelude.{};
 
 use ff_frame::Event;
