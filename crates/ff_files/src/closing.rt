@@ -1,4 +1,4 @@
-// Closing what was opened and created, by number.
+//! Sources and sinks closed, by number.
 ghost use Rattle.std.specs.Prelude.{◌≡◌, ◌<◌, ◌≤◌, ◌-◌, ◌^◌, ℕ, length, vec_len, Some, true, false};
 ghost use Rattle.ff_host.specs.Causes.{Rose, SameCounts, SameElsewhere};
 ghost use Rattle.ff_host.specs.Files.{KeepsFiles, PutsFile};

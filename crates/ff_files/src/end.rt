@@ -1,4 +1,4 @@
-// How a command over files ends.
+//! The ends of a command over files.
 ghost use Rattle.std.specs.Prelude.{◌≡◌};
 ghost use Rattle.ff_files.specs.Ends.{end_of_input, end_of_plan as end_by_plan, end_of_output as end_by_output, end_after};
 
@@ -13,7 +13,7 @@ pub enum RunEnd<R: Drop, F: Copy> {
     Fine,
     /// Opening or reading this input failed.
     InputFailed { input: u32 },
-    /// Creating, writing or closing this output failed. The trace is the one behind the outputs.
+    /// Creating, writing or closing this output failed. The trace is the one after the outputs.
     OutputFailed { output: u32 },
     /// The head of this input breaks its format at this offset.
     Damaged { input: u32, offset: u64 },

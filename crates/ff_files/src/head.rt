@@ -1,4 +1,4 @@
-// Reading the head of an input.
+//! The reader of the head of an input file.
 ghost use Rattle.std.specs.Prelude.{◌≡◌, ◌<◌, ◌≤◌, ◌^◌, List, [], ℕ, length, vec_len, Ok, Err, IfOk, OnOk, IfErr, IfSome};
 ghost use Rattle.std.specs.Io.KnownBytes.{Consumes};
 ghost use Rattle.ff_reader.specs.Heads.{Found};

@@ -1,4 +1,4 @@
-// The inputs of a run: opened by number, each with its head.
+//! The inputs of a run: opened by number, each with its head.
 ghost use Rattle.std.specs.Prelude.{◌≡◌, ◌<◌, ◌≤◌, ◌+◌, ◌^◌, ℕ, List, [], length, vec_len, vec_capacity, IfOk, OnErr, IfErr, OnOk, Ok, Some};
 ghost use Rattle.std.specs.List.{All};
 ghost use Rattle.ff_host.specs.Causes.{SameElsewhere, SameCounts};

@@ -9,7 +9,7 @@
 //! ```
 //!
 //! What an input's head is, and how it is read, an [`InputFile`] says: nothing here but `job` knows formats. What is done between
-//! the opening and the closing is a [`Work`]: it plans by the heads, and runs. One more file may stand behind the outputs, the
+//! the opening and the closing is a [`Work`]: it plans by the heads, and runs. One more file may stand after the outputs, the
 //! trace: the work doesn't get its sink, and what the run has logged is printed into it once all was done.
 #![tactic(auto)]
 

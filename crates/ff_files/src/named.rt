@@ -1,3 +1,4 @@
+//! The trait of what names a file.
 ghost use Rattle.std.specs.Prelude.{◌≡◌, ◌<◌, List, ℕ, length, string_bytes};
 ghost use Rattle.ff_files.specs.Names.{names_of, name_at as name_by};
 

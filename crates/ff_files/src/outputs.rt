@@ -1,4 +1,4 @@
-// The outputs of a run: created by number.
+//! The outputs of a run: created by number.
 ghost use Rattle.std.specs.Prelude.{◌≡◌, ◌<◌, ◌≤◌, ◌+◌, ◌^◌, ℕ, List, [], length, vec_len, vec_capacity, IfOk, IfErr, OnOk, OnErr, IsErrOf, Some};
 ghost use Rattle.ff_host.specs.Causes.{HasCauseOf, SameElsewhere, SameCounts};
 ghost use Rattle.ff_host.specs.Files.{KeepsFiles, KeepsOthers, HoldsNothing};

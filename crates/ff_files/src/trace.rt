@@ -1,4 +1,4 @@
-// The run of a plan, and its log in the file behind those of the outputs.
+//! The run of a plan, and its log in the file after those of the outputs.
 ghost use Rattle.std.specs.Prelude.{◌≡◌, ◌<◌, ◌≤◌, ◌+◌, ◌^◌, ◌++◌, ◌∷◌, ◌⊎◌, [], length, vec_capacity, option_to_list, IfSome};
 ghost use Rattle.std.specs.Io.KnownBytes.{Appends};
 ghost use Rattle.ff_host.specs.Causes.{Rose};
@@ -42,7 +42,7 @@ fn write_log<H, Src: Source + Send + Drop, Snk: Sink + Send + Drop, W: Work<H, S
     }
 }
 
-// Sinks, and one more behind them, in a list with room for all.
+// Sinks, and one more after them, in a list with room for all.
 fn with_last<Snk: Drop>(mut all: Vec<Snk>, snks: Vec<Snk>, last: Snk) -> Vec<Snk>
     requires { (all.items ≡ []) × (length snks.items + 1 ≤ vec_capacity all) }
     ensures { result.items ≡ snks.items ++ last ∷ [] }
@@ -87,7 +87,7 @@ fn run_with_trace<H, Src: Source + Send + Drop, Snk: Sink + Send + Drop, W: Work
     }
 }
 
-// Takes the sink behind those of so many outputs, if there is one.
+// Takes the sink after those of so many outputs, if there is one.
 fn take_trace<Snk: Drop>(snks: &mut Vec<Snk>, count: usize) -> Option<Snk>
     requires { (count ≤ length snks.old.items) × (length snks.old.items ≤ count + 1) }
     ensures all { snks.old.items ≡ snks.new.items ++ option_to_list result }
@@ -96,8 +96,8 @@ fn take_trace<Snk: Drop>(snks: &mut Vec<Snk>, count: usize) -> Option<Snk>
     if count < snks.len() { snks.pop() } else { None }
 }
 
-/// Runs a plan over the sources of the inputs and the sinks of so many outputs. One more sink may stand behind these, that of the
-/// trace: it gains the text of what the run has logged in one append, where all was done.
+/// Runs a plan over the sources of the inputs and the sinks of so many outputs. One more sink may stand after these, that of the
+/// trace: it gains what the run has logged, as a string, in one append, where all was done.
 pub(crate) fn run_traced<
     H,
     Src: Source + Send + Drop,

@@ -1,4 +1,4 @@
-// A command over files, from the names to the files.
+//! A command over files, from the names to the files.
 ghost use Rattle.std.specs.Prelude.{◌≡◌, ◌⊎◌, Option, Some, None, ◌<◌, ◌≤◌, ◌+◌, ◌-◌, ◌^◌, ℕ, List, [], length, vec_len, vec_capacity, IfOk, IfSome};
 ghost use Rattle.std.specs.List.{All};
 ghost use Rattle.ff_host.specs.Files.{Files, KeepsFiles};
@@ -238,13 +238,13 @@ fn run_files<H: Host, I: InputFile, N: Named, W: Work<I::Head, Begun<H::Src>, H:
     }
 }
 
-/// A command over files: all that is done between its words and its status.
+/// A command over files: all that is done between its arguments and its status.
 ///
 /// It opens the inputs by number, each with its head, plans by the heads, creates the outputs by number, runs, and closes the
 /// sources and then the sinks by number. Where a step is refused, only the closings still follow, and the first refusal is the
 /// end. Two inputs may have one name, which is then read twice; two outputs may not. Want of memory may end it at any step.
 ///
-/// So many of the outputs are the work's. One more may stand behind them, the trace: it is created last, gets what the run has
+/// So many of the outputs are the work's. One more may stand after them, the trace: it is created last, gets what the run has
 /// logged in one append where all was done, and is closed last.
 pub fn over_files<H: Host, I: InputFile, N: Named, W: Work<I::Head, Begun<H::Src>, H::Snk>>(
     alloc: Global,

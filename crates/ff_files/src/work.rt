@@ -1,4 +1,4 @@
-// What is done between the opening and the closing.
+//! The trait of what is done between the opening and the closing.
 ghost use Rattle.std.specs.Prelude.{◌≡◌, List, ℕ, Option, Some, None, IfErr, OnOk, IfOk};
 ghost use Rattle.std.specs.List.{All};
 ghost use Rattle.ff_files.specs.Runs.{RunSays};
@@ -66,7 +66,7 @@ pub trait Work<H, Src: Source + Send + Drop, Snk: Sink + Send + Drop> {
     /// It may be the log of a run that did all, over inputs with these heads and, where these are told, these bytes.
     ghost tells: { Self → List H → Option (List (List ℕ)) → Self.Log → Type 0 };
 
-    /// The text of a log.
+    /// A log as a string.
     ghost printed: { Self.Log → List ℕ };
 
     /// The plan for these heads, by the number of their inputs.

@@ -24,7 +24,7 @@ pub static FORMATS: [(&'static str, &'static str, FileFormat, bool, bool); 4] = 
     ("framehash", "", FileFormat::FrameHash, false, true),
 ];
 
-/// Which sound an output takes, by how it is coded.
+/// Which audio an output takes, by how it is coded.
 #[derive(Clone, Copy, Debug, PartialEq, Eq)]
 pub enum SoundTaken {
     /// None.
@@ -43,7 +43,7 @@ pub enum SoundTaken {
 impl SoundTaken {
     ghost use Rattle.ff_format.specs.Formats.{is_some_sound, takes_sound};
 
-    /// Whether it is any sound at all.
+    /// Whether it is any audio at all.
     pub fn is_some(self) -> bool
         ensures { result ≡ is_some_sound self }
     {
@@ -53,7 +53,7 @@ impl SoundTaken {
         }
     }
 
-    /// Whether sound of this codec and rate is among it.
+    /// Whether audio of this codec and rate is among it.
     pub fn takes(self, codec: Codec, rate: u32) -> bool
         ensures { result ≡ takes_sound self codec rate }
     {
@@ -102,9 +102,9 @@ fn is_signed_so(form: PcmForm, signed_bytes: bool) -> bool
 #[derive(Clone, Copy, Debug, PartialEq, Eq)]
 pub struct Taken {
     pub sound: SoundTaken,
-    /// Whether it takes pictures.
+    /// Whether it takes video.
     pub pictures: bool,
-    /// The codec of sound where none is asked for.
+    /// The audio codec where none is asked for.
     pub codec: Codec,
     /// How many streams at most.
     pub streams: usize,
@@ -114,7 +114,7 @@ impl FileFormat {
     ghost use Rattle.ff_format.specs.Formats.{taken_by};
 
     /// What an output of it takes: WAV linear PCM with the lowest byte first, unsigned where a sample has one byte and signed else, FLAC
-    /// what is coded so, YUV4MPEG2 pictures, each of one stream; framehash any linear PCM and pictures, of up to 16 streams.
+    /// what is coded so, YUV4MPEG2 video, each of one stream; framehash any linear PCM and video, of up to 16 streams.
     pub fn taken(self) -> Taken
         ensures row { result ≡ taken_by self }
         ensures few { result.streams ≤ 16 }

@@ -1,4 +1,4 @@
-// What follows of the definitions alone.
+//! Laws of the list of formats. Each is a function that does nothing: its clauses hold of all values.
 ghost use Rattle.std.specs.Prelude.{◌≡◌, map};
 ghost use Rattle.ff_format.specs.Formats.{file_formats};
 ghost use Rattle.ff_format.specs.declared.format.TheConstants.{FORMATS};

@@ -6,7 +6,7 @@
 //! ```
 //!
 //! `specs/Formats` has a row for each format. `specs/Layouts` says what a format is to whoever writes files: a `Layout`, and by it
-//! the text as a whole, and the finished file, which is defined once for all formats. `Writer` is what gives the pieces.
+//! the file as a whole, and the finished file, which is defined once for all formats. `Writer` is what gives the pieces.
 //! `specs/Outputs` has the record of a format that is written, which its writer's crate gives: which streams it takes, how it writes
 //! them, and that it can write what its row takes.
 #![tactic(auto)]

@@ -1,3 +1,4 @@
+//! The trait of a writer, which gives the bytes of an output in pieces.
 ghost use Rattle.std.specs.Prelude.{◌≡◌, ◌+◌, ◌↔◌, ◌≤◌, ℕ, Option, length, IsErr, IfOk, IfErr, IfSome, OnOk, OnErr};
 ghost use Rattle.ff_frame.specs.declared.totals.Totals.{Totals};
 ghost use Rattle.ff_format.specs.Layouts.{Layout, IsBeyond};
@@ -48,7 +49,7 @@ pub trait Writer {
     fn pad(&self) -> &'static [u8]
         ensures { (n : ℕ) → counts self.now n → result.now ≡ (layout self.now).pad n };
 
-    /// What then takes the place of as many bytes, by what a coder of sound told at the end.
+    /// What then takes the place of as many bytes, by what an audio encoder told at the end.
     fn last(&self, totals: Option<Totals>) -> Result<Option<Patch>, AllocError>
         ensures { IfOk result (λ patch. (n : ℕ) → counts self.now n → replacing patch ≡ (layout self.now).last n totals) };
 

@@ -1,3 +1,4 @@
+//! The trait of a format whose inputs can be demuxed.
 ghost use Rattle.std.specs.Prelude.{◌≡◌, ◌+◌, ◌≤◌, ◌<◌, ◌^◌, ℕ, None, Some, Ok, false, length, OnErr};
 ghost use Rattle.ff_frame.specs.declared.packet.Pkt.{Pkt};
 ghost use Rattle.ff_reader.specs.Cutters.{GivesPacket, GaveAll};

@@ -1,3 +1,4 @@
+//! The formats that the first bytes of an input tell.
 ghost use Rattle.std.specs.Prelude.{◌≡◌, [], ◌∷◌};
 ghost use Rattle.ff_reader.specs.Walks.{agrees};
 ghost use Rattle.ff_input.specs.FirstWords.{or_else, told_by};

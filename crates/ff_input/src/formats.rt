@@ -1,4 +1,4 @@
-// The formats of inputs: a line for each in each list, and in `specs/Formats`.
+//! The formats of inputs: a line for each in each list, and in `specs/Formats`.
 ghost use Rattle.std.specs.Prelude.{◌≡◌, ◌≤◌, [], Some, Err, length};
 ghost use Rattle.ff_input.specs.FirstWords.{told};
 ghost use Rattle.ff_input.specs.Formats.{first_words};

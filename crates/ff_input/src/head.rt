@@ -1,3 +1,4 @@
+//! The streams that the head of an input tells of.
 ghost use Rattle.std.specs.Prelude.{◌≡◌, IfOk};
 ghost use Rattle.ff_input.specs.Formats.{stream_in, streams_in};
 

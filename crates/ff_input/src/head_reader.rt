@@ -1,3 +1,4 @@
+//! The trait of a head that is being read.
 ghost use Rattle.std.specs.Prelude.{◌≡◌, ◌≤◌, List, ℕ, Err, length};
 ghost use Rattle.ff_input.specs.Answers.{as_answer};
 ghost use Rattle.ff_input.specs.declared.one_of.OneOf.TheVariants.{First, Other};
@@ -21,7 +22,7 @@ pub trait HeadReader {
     /// What is true of every head that is read.
     ghost is_sound: { Self.Head → Type 0 };
 
-    /// It has read this front of an input.
+    /// It has read this prefix of an input.
     ghost reached: { Self → List ℕ → Type 0 };
 
     /// Reads on. The bytes are those that were there before, and perhaps more.

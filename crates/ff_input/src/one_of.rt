@@ -1,3 +1,4 @@
+//! The sum of two formats, which nests to any number of them.
 ghost use Rattle.std.specs.Prelude.{◌≡◌};
 
 use ff_frame::{Cut, StreamHead};

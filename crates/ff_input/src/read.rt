@@ -1,3 +1,4 @@
+//! The reader of the head of an input, in whichever format it is.
 ghost use Rattle.std.specs.Prelude.{◌≡◌, ◌↔◌, List, ◌++◌, ℕ, false, IfOk};
 ghost use Rattle.ff_reader.specs.Heads.{answered, IsOpen};
 ghost use Rattle.ff_input.specs.Formats.{IsHead, input_head};

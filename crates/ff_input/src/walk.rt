@@ -1,3 +1,4 @@
+//! The state of reading a head whose format may not be known yet.
 ghost use Rattle.std.specs.Prelude.{◌≡◌, ◌≤◌, [], if◌then◌else◌, Option, None, Err, length};
 ghost use Rattle.ff_reader.specs.Walks.{head_limit};
 ghost use Rattle.ff_input.specs.declared.first_word.FirstWord.TheVariants as first_word;

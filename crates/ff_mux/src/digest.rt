@@ -1,4 +1,4 @@
-// The digest of a packet's bytes, as a text.
+//! The digest of a packet's bytes, as a string.
 ghost use Rattle.std.specs.Prelude.{◌≡◌, IfOk, string_bytes};
 ghost use Rattle.ff_mux.specs.HashTexts.{digest_by, hash_name};
 

@@ -1,4 +1,4 @@
-// What stands before the frames of a FLAC file.
+//! The bytes before the frames of a FLAC file (RFC 9639, section 8).
 ghost use Rattle.std.specs.Prelude.{◌≡◌, ◌++◌, take, IfOk, OnOk};
 ghost use Rattle.std.specs.Int.{bytes_high_first};
 ghost use Rattle.ff_mux.specs.FlacHead.{HasRoom, HasRoomFor, told, sound_of, stream_info, info_of, before_info, flac_start, unknown};

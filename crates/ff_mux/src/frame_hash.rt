@@ -1,4 +1,4 @@
-// The text of a framehash file, in the pieces in which it is written.
+//! The lines of a framehash file, in the pieces in which they are written.
 ghost use Rattle.std.specs.Prelude.{◌≡◌, ℕ, ◌<◌, ◌^◌, ◌++◌, IfOk, OnOk, decimal, length, string_bytes};
 ghost use Rattle.std.specs.Fmt.{signed_decimal};
 ghost use Rattle.ff_mux.specs.FrameHash.{base_name, layout_name, size_name, aspect_name, about, stream_lines, column};
@@ -9,7 +9,7 @@ use ff_frame::{Codec, Format, HashKind, Pkt, StreamHead};
 use ff_time::Rational;
 use std::alloc::{AllocError, Global};
 
-/// The line behind those on the streams, over the columns of the packets.
+/// The line after those on the streams, over the columns of the packets.
 const COLUMNS: &[u8] = b"#stream#, dts,        pts, duration,     size, hash\n";
 
 /// The length of a packet's line, where its numbers keep to their columns.
@@ -65,7 +65,7 @@ fn push_about(
     out.extend_from_slice(line.as_bytes())
 }
 
-// Adds the lines on a stream of sound.
+// Adds the lines on an audio stream.
 fn push_audio(
     alloc: Global,
     out: &mut Vec<u8>,
@@ -103,7 +103,7 @@ fn name_of_aspect(alloc: Global, num: u32, den: u32) -> Result<String, AllocErro
     name_of_fraction(alloc, u64::from(num), u64::from(den))
 }
 
-// Adds the lines on a stream of pictures.
+// Adds the lines on a video stream.
 fn push_video(
     alloc: Global,
     out: &mut Vec<u8>,
@@ -183,7 +183,7 @@ pub(crate) fn hash_header(
     Ok(text)
 }
 
-// Adds a text at the right of a further column of a packet's line.
+// Adds a string at the right of a further column of a packet's line.
 #[tactic(auto, unfolding(crate::specs::FrameHash::column))]
 fn push_column(
     alloc: Global,

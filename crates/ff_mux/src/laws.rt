@@ -1,4 +1,4 @@
-// What follows of the definitions alone.
+//! Laws of what is written. Each is a function that does nothing: its clauses hold of all values.
 ghost use Rattle.ff_mux.specs.FlacLaws.{InfoIsFields};
 
 /// The bits of STREAMINFO are the fields that the standard lists, each in its width (RFC 9639, section 8.2).

@@ -1,6 +1,6 @@
-//! What is written to files that hold packets or tell of them: the texts and headers, as pure functions.
+//! What is written to files that hold packets or tell of them: the lines and headers, as pure functions.
 //!
-//! [`HashPut`] gives the text of a framehash file, in the pieces in which it is written: the lines before the packets, and a line for
+//! [`HashPut`] gives the lines of a framehash file, in the pieces in which they are written: those before the packets, and a line for
 //! each packet. `specs/HashTexts` has them, for any number of streams and either digest.
 //!
 //! `writers` has what an output's format writes: its bytes around the packets and of each, as pure state, in any format.

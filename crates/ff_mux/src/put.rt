@@ -1,10 +1,11 @@
+//! The lines of a framehash file, for any number of streams and either digest.
 ghost use Rattle.std.specs.Prelude.{◌≡◌, ◌<◌, ◌^◌, length, IfOk};
 
 use crate::frame_hash::{hash_header, hash_line};
 use ff_frame::{HashKind, Pkt, StreamHead};
 use std::alloc::{AllocError, Global};
 
-/// The text of a framehash file of any number of streams, with either digest of each packet's bytes.
+/// The lines of a framehash file of any number of streams, with either digest of each packet's bytes.
 #[derive(Drop)]
 pub struct HashPut {
     alloc: Global,

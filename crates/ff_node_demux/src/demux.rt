@@ -1,3 +1,4 @@
+//! The demuxer: a machine that gives the packets of an input.
 ghost use Rattle.std.specs.Prelude.{◌≡◌, ◌≢◌, ◌+◌, ◌^◌, ◌≤◌, ◌<◌, ◌⊎◌, ℕ, List, [], Some, None, Ok, Err, true, false, length, OnErr, IfOk, IfErr, IfSome, IsSome, IsNone};
 ghost use Rattle.ff_stream.specs.declared.item.Lane.TheVariants.{Packets};
 ghost use Rattle.ff_net.specs.declared.fault.Fault.TheVariants.{TooLarge};
@@ -205,7 +206,7 @@ impl<S: Source + Drop, C: Demuxable + Drop> Machine for Demux<S, C> {
         Err(Refused { item })
     }
 
-    /// It reads only where what was read leaves the next packet undecided, and there a piece at a time. So behind the last packet that
+    /// It reads only where what was read leaves the next packet undecided, and there a piece at a time. So after the last packet that
     /// it gave it has read fewer bytes than a piece: of WAV and YUV4MPEG2 fewer than 65,536.
     fn pull(&mut self, _port: usize) -> Result<Option<Item>, AllocError>
         requires { _port < 1 }

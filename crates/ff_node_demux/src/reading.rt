@@ -1,4 +1,4 @@
-// How a piece of the input comes into the cut.
+//! Pieces of the input, read into the cut.
 ghost use Rattle.std.specs.Prelude.{◌≡◌, ◌+◌, ◌-◌, ◌≤◌, ◌<◌, ◌⊎◌, ℕ, Option, true, false, length, drop, OnOk, OnErr, IsErrOf};
 ghost use Rattle.std.specs.Io.KnownBytes.{Keeps};
 ghost use Rattle.ff_host.specs.Causes.{HasCauseOf};

@@ -1,4 +1,4 @@
-// What comes next of what was read.
+//! The next packet or end of what was read.
 ghost use Rattle.std.specs.Prelude.{◌≡◌, ◌+◌, ◌^◌, ◌≤◌, ◌<◌, ℕ, Some, None, Ok, true, false, length, OnErr};
 ghost use Rattle.ff_stream.specs.declared.item.Item.{Item};
 ghost use Rattle.ff_stream.specs.declared.item.Lane.TheVariants.{Packets};

@@ -1,11 +1,11 @@
-// What follows of the definitions alone.
+//! Laws of what a muxer writes and tells. Each is a function that does nothing: its clauses hold of all values.
 ghost use Rattle.ff_node_mux.specs.Held.{HeldPartsStay};
 ghost use Rattle.ff_node_mux.specs.Muxing.{MixedOne};
 ghost use Rattle.ff_node_mux.specs.Sizes.{PcmIsShort, PcmFits};
 ghost use Rattle.ff_node_mux.specs.StreamEvents.{ToldOfStreams, ToldOfOne};
 ghost use Rattle.ff_node_mux.specs.Telling.{AllOfStreams, SentTimes};
 
-/// What a muxer's sink holds of the streams that it was fed is held of all streams that go on from them, but for breaks: a front of
+/// What a muxer's sink holds of the streams that it was fed is held of all streams that go on from them, but for breaks: a prefix of
 /// what is written, or the file.
 pub fn held_parts_stay()
     ensures { HeldPartsStay }

@@ -6,7 +6,7 @@
 //!   given                   a0 b0 b2              a1 waits: stream 1 may still have a packet before it
 //! ```
 //!
-//! A packet is decided once each other stream is whole or has a packet behind it in that order. What is decided doesn't hang on
+//! A packet is decided once each other stream is whole or has a packet after it in that order. What is decided doesn't hang on
 //! the order in which packets arrive.
 
 mod interleave;

@@ -1,4 +1,4 @@
-// The part that writes streams of packets in any format.
+//! The muxer: a machine that writes streams of packets in any format.
 ghost use Rattle.std.specs.Prelude.{◌≡◌, ◌≢◌, ◌≤◌, ◌<◌, ◌+◌, ◌^◌, ◌⊎◌, ℕ, [], ◌∷◌, true, List, length, None, Some, Ok, IsSome, IfOk, IfErr};
 ghost use Rattle.ff_time.specs.Fraction.{Fraction};
 ghost use Rattle.ff_stream.specs.Stream.{LiesBelow};
@@ -26,14 +26,14 @@ use std::alloc::{AllocError, Global};
 use std::collections::VecDeque;
 
 /// Writes streams of packets in a writer's format on its sink: what stands before the packets in one append, before its first item,
-/// the text of each packet in one append, in the order of their merge and as soon as it is decided there, and once each stream has
+/// what is written of each packet in one append, in the order of their merge and as soon as it is decided there, and once each stream has
 /// ended whole what follows them in one append and what takes the place of bytes in one patch.
 ///
 /// A packet that makes the packets more bytes than the format holds is the fault TooLarge, and nothing of it is written. Want of memory
-/// in an append, or for the text of a packet that waited, is a fault, and the item counts as fed. Behind a fault it takes what comes and
+/// in an append, or for what is written of a packet that waited, is a fault, and the item counts as fed. After a fault it takes what comes and
 /// writes nothing. Of a trailer nothing is written: the totals that it tells are kept for the end, of the first stream alone.
 ///
-/// Of each packet that it is fed it tells the time, and of what closes a stream that its output stream has finished, behind a fault
+/// Of each packet that it is fed it tells the time, and of what closes a stream that its output stream has finished, after a fault
 /// too.
 #[derive(Drop)]
 pub struct Mux<K: Sink, W: Writer> {
@@ -128,7 +128,7 @@ impl<K: Sink + Drop, W: Writer + Drop> Mux<K, W> {
     }
 
     /// Gives the sink back. It holds nothing before the first item, afterwards what is written of the streams, and once each is whole
-    /// their file; where there is a fault a front of what is written, or the file, and none of the packets from the first on that makes
+    /// their file; where there is a fault a prefix of what is written, or the file, and none of the packets from the first on that makes
     /// them too many bytes, where it is of one stream. What there was to tell of a stream that has closed are the events of its output stream. The layout and the
     /// bases are whichever the muxer's task is of.
     pub fn into_sink(self) -> K

@@ -1,4 +1,4 @@
-// What is told of an item.
+//! The events that a muxer tells of an item.
 ghost use Rattle.std.specs.Prelude.{◌≡◌, ◌<◌, ◌++◌, option_to_list};
 ghost use Rattle.std.specs.VecDeque.{deque_len, deque_capacity};
 ghost use Rattle.ff_frame.specs.Heads.{base_of_head};
@@ -50,7 +50,7 @@ pub(crate) fn told_by(stream: u32, head: &StreamHead, item: &Item) -> Option<Eve
     }
 }
 
-/// Puts an event behind the others, where there is one.
+/// Puts an event after the others, where there is one.
 pub(crate) fn put(events: &mut VecDeque<Event>, event: Option<Event>)
     requires { deque_len events.old < deque_capacity events.old }
     ensures { events.new.items ≡ events.old.items ++ option_to_list event }

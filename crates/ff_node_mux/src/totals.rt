@@ -1,4 +1,4 @@
-// What is known of streams by one item of one of them.
+//! The totals of streams, as their items come.
 ghost use Rattle.std.specs.Prelude.{◌≡◌};
 ghost use Rattle.ff_node_mux.specs.Muxing.{totals_on, left_with};
 

@@ -1,4 +1,4 @@
-// What is written to a sink at each item.
+//! The bytes written to a sink at each item.
 ghost use Rattle.std.specs.Prelude.{◌≡◌, ◌≢◌, ◌+◌, ◌≤◌, ◌⊎◌, ℕ, [], length, None, Some, IfOk, IsNone, IsSome, IfSome};
 ghost use Rattle.std.specs.Io.KnownBytes.{Appends, Keeps};
 ghost use Rattle.ff_lists.specs.Appends.{AppendsPrefix};
@@ -27,7 +27,7 @@ pub(crate) fn text_before<W: Writer>(
     writer.first()
 }
 
-/// Adds some bytes at the end, or a front of them; of no bytes the sink isn't told.
+/// Adds some bytes at the end, or a prefix of them; of no bytes the sink isn't told.
 pub(crate) fn write<K: Sink>(snk: &mut K, bytes: &[u8]) -> Option<Fault>
     ensures ok { IsNone result → Appends (K.holds snk.old) (K.holds snk.new) bytes.now }
     ensures written { IsNone result → K.written snk.new ≡ K.written snk.old + length bytes.now }
@@ -48,7 +48,7 @@ pub(crate) fn write<K: Sink>(snk: &mut K, bytes: &[u8]) -> Option<Fault>
     }
 }
 
-/// Counts the text of a packet, and adds it: where the packets are too many bytes, nothing of it is added.
+/// Counts what is written of a packet, and adds it: where the packets are too many bytes, nothing of it is added.
 pub(crate) fn write_packet<K: Sink, W: Writer>(
     snk: &mut K,
     writer: &mut W,
@@ -97,7 +97,7 @@ pub(crate) fn replace<K: Sink>(snk: &mut K, patch: Option<Patch>) -> Option<Faul
     }
 }
 
-/// Ends a text: adds what follows the packets, and puts bytes in the place of as many.
+/// Ends a file: adds what follows the packets, and puts bytes in the place of as many.
 pub(crate) fn write_end<K: Sink>(snk: &mut K, pad: &[u8], patch: Option<Patch>) -> Option<Fault>
     requires { StandsIn (replacing patch) (K.written snk.old) }
     ensures ok { IsNone result → EndsAs (K.holds snk.old) (K.holds snk.new) pad.now (replacing patch) }

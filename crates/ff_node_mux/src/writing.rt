@@ -1,4 +1,4 @@
-// What is written of what is decided.
+//! The packets written as the merge decides them.
 ghost use Rattle.std.specs.Prelude.{◌≡◌, ◌≢◌, ◌+◌, ◌<◌, ◌≤◌, ℕ, Bool, [], ◌∷◌, true, false, length, None, Some, Ok, IfErr, OnOk, OnErr, IsNone, IsSome, IfSome};
 ghost use Rattle.ff_filter.specs.Joins.{silence};
 ghost use Rattle.ff_node_mux.specs.merge.Merges.{Placed};
@@ -17,7 +17,7 @@ use ff_net::Fault;
 use ff_stream::{Item, Refused};
 use std::alloc::Global;
 
-/// Hands an item to the merge; behind a failure only what closes its stream.
+/// Hands an item to the merge; after a failure only what closes its stream.
 pub(crate) fn take_in(
     merge: &mut Interleave,
     failed: bool,

@@ -1,3 +1,4 @@
+//! The decoder of linear PCM.
 ghost use Rattle.std.specs.Prelude.{◌≡◌, ◌*◌, ◌<◌, ℕ, All, length, IfOk, pos, slice_index_or};
 ghost use Rattle.ff_frame.specs.Audio.{FitsBits};
 ghost use Rattle.ff_frame.specs.Heads.{IsFrameOf, IsSoundHead};
@@ -95,7 +96,7 @@ fn decoded(alloc: Global, codec: Codec, bytes: &[u8], count: usize) -> Result<Sa
     Ok(Samples::new(samples))
 }
 
-// The rate, bits, channels and codec of a head of sound.
+// The rate, bits, channels and codec of an audio head.
 pub(crate) fn audio_of(head: &StreamHead) -> (u32, u8, u8, Codec)
     requires { IsSoundHead head.now }
     ensures rate { result.0 ≡ rate_of head.now }
@@ -116,7 +117,7 @@ pub(crate) fn audio_of(head: &StreamHead) -> (u32, u8, u8, Codec)
 }
 
 /// The frame that a packet's bytes stand for, with the packet's pts (RIFF WAVE, the data of PCM formats).
-/// The packet has 1 to 65,535 whole blocks; the head is sound of a PCM codec, with the codec's own depth.
+/// The packet has 1 to 65,535 whole blocks; the head is audio of a PCM codec, with the codec's own depth.
 pub fn pcm_decode(alloc: Global, head: &StreamHead, packet: &Pkt) -> Result<AFrame, AllocError>
     requires head { IsPcmHead head.now }
     requires blocks { HasBlocks head.now packet.now.bytes }

@@ -1,3 +1,4 @@
+//! The encoder of linear PCM.
 ghost use Rattle.std.specs.Prelude.{◌≡◌, ◌*◌, ◌<◌, ℕ, All, length, IfOk, pos, slice_index_or};
 ghost use Rattle.ff_frame.specs.Audio.{FitsBits, IsAudio};
 ghost use Rattle.ff_frame.specs.Codecs.{IsPcmCodec, depth_bytes, sample_bytes};

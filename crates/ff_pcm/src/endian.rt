@@ -1,4 +1,4 @@
-// Numbers of one to four bytes, in both orders.
+//! Numbers of one to four bytes, in both byte orders.
 ghost use Rattle.std.specs.Prelude.{◌≡◌, ◌+◌, ◌<◌, ◌≤◌, ◌^◌, ◌⊎◌, ℕ, length};
 ghost use Rattle.ff_frame.specs.declared.coding.ByteOrder.{ByteOrder};
 ghost use Rattle.ff_frame.specs.declared.coding.ByteOrder.TheVariants.{LittleEndian, BigEndian};

@@ -1,4 +1,4 @@
-// What can be decoded, and what can be encoded.
+//! The checks whether a packet can be decoded, and a frame encoded.
 ghost use Rattle.std.specs.Prelude.{◌≡◌, ◌↔◌, ◌≤◌, ◌<◌, ◌*◌, ℕ, All, length, IsTrue};
 ghost use Rattle.ff_frame.specs.Audio.{FitsBits, IsAudio};
 ghost use Rattle.ff_pcm.specs.Frames.{AreBlocks, IsPcmHead, HasBlocks};
@@ -34,7 +34,7 @@ pub fn has_blocks(head: &StreamHead, packet: &Pkt) -> bool
     are_blocks(count, usize::from(channels) * size_of_sample(codec))
 }
 
-// Whether a sample is one of so many bits: behind them all are as the sign.
+// Whether a sample is one of so many bits: after them all are as the sign.
 fn fits_bits(sample: i32, bits: u8) -> bool
     requires some { 4 ≤ bits }
     requires few { bits ≤ 32 }

@@ -1,4 +1,4 @@
-// What follows of the definitions alone.
+//! Laws of decoding and encoding. Each is a function that does nothing: its clauses hold of all values.
 ghost use Rattle.std.specs.Prelude.{◌≡◌, ◌≤◌, ◌<◌, ◌*◌, ℕ, ℤ, List, All, length};
 ghost use Rattle.ff_frame.specs.Codecs.{IsPcmCodec, sample_bytes};
 ghost use Rattle.ff_frame.specs.declared.audio.AFrame.{AFrame};

@@ -1,4 +1,4 @@
-// Numbers of two to four bytes.
+//! Numbers of two to four bytes, read and written.
 ghost use Rattle.std.specs.Prelude.{◌≡◌, ◌+◌, ◌<◌, ◌≤◌, ◌^◌, ◌⊎◌, ℕ, length, slice_index};
 ghost use Rattle.ff_pcm.specs.Samples.{number, high_number};
 

@@ -1,3 +1,4 @@
+//! The decoder and the encoder of raw video.
 ghost use Rattle.std.specs.Prelude.{◌≡◌, IfOk};
 ghost use Rattle.ff_frame.specs.Heads.{IsPictureFor};
 ghost use Rattle.ff_pcm.specs.Raw.{HasFrame, IsFrameIn};

@@ -1,4 +1,4 @@
-// One sample and its bytes, of each depth, signed or not.
+//! One sample as its bytes, at each depth, signed or unsigned.
 ghost use Rattle.std.specs.Prelude.{◌≡◌, ◌≢◌, ◌+◌, ◌*◌, ◌≤◌, ℕ, length, Bool, true, false};
 ghost use Rattle.ff_frame.specs.Audio.{FitsBits};
 ghost use Rattle.ff_frame.specs.Codecs.{depth_bytes};

@@ -1,4 +1,4 @@
-// One sample and its number.
+//! One sample as a number, signed or unsigned.
 ghost use Rattle.std.specs.Prelude.{◌≡◌, ◌<◌, ◌^◌, true, false};
 ghost use Rattle.ff_frame.specs.Audio.{FitsBits};
 ghost use Rattle.ff_bits.specs.Integers.{signed};

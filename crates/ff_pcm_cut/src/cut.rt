@@ -1,3 +1,4 @@
+//! The packets of a body of linear PCM.
 ghost use Rattle.std.specs.Prelude.{◌≡◌, ◌+◌, ◌-◌, ◌*◌, ◌/◌, ◌^◌, ◌≤◌, ◌<◌, ◌⊎◌, ◌↔◌, ℕ, List, [], ◌++◌, Option, Some, None, true, false, min, length, take, drop, IfOk, OnOk, OnErr, IsOk, IsTrue, slice_get, pos};
 ghost use Rattle.std.specs.Option.{option_map};
 ghost use Rattle.ff_frame.specs.declared.packet.Pkt.{Pkt};
@@ -91,7 +92,7 @@ fn within(len: Option<u64>, used: u64, waiting: usize) -> (usize, bool)
     }
 }
 
-// The packet of so many sample frames at the front.
+// The packet of so many sample frames at the start.
 fn packet(
     alloc: Global,
     start: u64,

@@ -1,6 +1,7 @@
+//! The head of an input whose body is linear PCM.
 use ff_frame::StreamHead;
 
-/// What a head says of the body behind it, whose bytes are samples of linear PCM.
+/// What a head says of the body after it, whose bytes are samples of linear PCM.
 #[derive(Clone, Copy, PartialEq, Eq, Debug)]
 pub struct PcmHead {
     /// What is known of its stream.

@@ -1,3 +1,4 @@
+//! The chunks before the body (RIFF WAVE).
 ghost use Rattle.std.specs.Prelude.{◌≡◌, ◌+◌, ◌≤◌, ◌<◌, ◌*◌, ◌^◌, ℕ, Option, length, take, Ok};
 ghost use Rattle.std.specs.Str.{bytes_eq};
 ghost use Rattle.ff_frame.specs.declared.head.StreamHead.{StreamHead};

@@ -1,3 +1,4 @@
+//! The head of a WAV input.
 use ff_frame::StreamHead;
 use ff_pcm_cut::PcmHead;
 use ff_reader::Step;

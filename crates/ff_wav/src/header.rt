@@ -1,4 +1,4 @@
-// The bytes of a header.
+//! The bytes of the header that is written.
 ghost use Rattle.std.specs.Prelude.{◌≡◌, ◌+◌, ◌*◌, ◌%◌, ◌^◌, ◌<◌, ◌≤◌, ◌++◌, [], IfOk, OnOk};
 ghost use Rattle.ff_frame.specs.Codecs.{sample_bytes};
 ghost use Rattle.ff_wav.specs.Codecs.{IsWavCoded};

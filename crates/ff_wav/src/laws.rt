@@ -1,4 +1,4 @@
-// What follows of the definitions alone.
+//! Laws of WAV. Each is a function that does nothing: its clauses hold of all values.
 ghost use Rattle.ff_wav.specs.Layout.{WavsAreFiles};
 ghost use Rattle.ff_wav.specs.Written.{HeadersAreRead, FilesAreRead, BodiesAreRead};
 

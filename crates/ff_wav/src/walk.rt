@@ -1,3 +1,4 @@
+//! WAV as a format whose head is read chunk by chunk.
 ghost use Rattle.std.specs.Prelude.{◌≡◌, ◌↔◌, List, ◌++◌, ℕ, false, IfOk, IfSome};
 ghost use Rattle.ff_pcm_cut.specs.Packets.{IsHead, IsStream};
 ghost use Rattle.ff_wav.specs.Heads.{grammar as wav_grammar, head, answered, IsOpen};
@@ -26,7 +27,7 @@ const MAGIC: [Option<u8>; 12] = [
     Some(b'E'),
 ];
 
-/// WAV, as far as its head is read: chunk by chunk, and behind `fmt ` the stream's head is known.
+/// WAV, as far as its head is read: chunk by chunk, and after `fmt ` the stream's head is known.
 #[derive(Clone, Copy, Debug)]
 pub struct Wav;
 

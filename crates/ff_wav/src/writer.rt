@@ -1,4 +1,4 @@
-// The files of WAV.
+//! The writer of WAV files.
 ghost use Rattle.std.specs.Prelude.{◌≡◌};
 ghost use Rattle.ff_wav.specs.Header.{written_head, body_size};
 ghost use Rattle.ff_wav.specs.Layout.{wav_layout, wav_inside};

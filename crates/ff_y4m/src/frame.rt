@@ -1,3 +1,4 @@
+//! The frame or fault that some bytes begin with (yuv4mpeg(5), "Frame Format").
 ghost use Rattle.std.specs.Prelude.{◌≡◌, ◌+◌, ◌≤◌, ◌<◌, length};
 ghost use Rattle.ff_y4m.specs.Packets.{unit};
 

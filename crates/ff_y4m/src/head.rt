@@ -1,3 +1,4 @@
+//! The head of a YUV4MPEG2 input.
 use ff_frame::StreamHead;
 
 /// The head of a YUV4MPEG2 input: its first line (yuv4mpeg(5), "Stream Header").

@@ -1,4 +1,4 @@
-// The first line of a file that is written.
+//! The first line of a file that is written.
 ghost use Rattle.std.specs.Prelude.{◌≡◌, ◌++◌, IfOk, OnOk, string_bytes};
 ghost use Rattle.ff_y4m.specs.Header.{IsVideoHead, format_name, sides, ratio, header};
 

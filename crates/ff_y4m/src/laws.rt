@@ -1,4 +1,4 @@
-// What follows of the definitions alone.
+//! Laws of YUV4MPEG2. Each is a function that does nothing: its clauses hold of all values.
 ghost use Rattle.std.specs.Prelude.{◌≡◌, ℕ, List, None, All, length};
 ghost use Rattle.ff_frame.specs.declared.packet.Pkt.{Pkt};
 ghost use Rattle.ff_time.specs.Fraction.{Fraction};
@@ -35,7 +35,7 @@ pub fn rates_are_in_lowest_terms()
     ensures { (num den : ℕ) (f : Fraction) → IsBaseOf num den f }
 {}
 
-/// The finished file of pictures is its first line and the frames of the packets.
+/// The finished file of video is its first line and the frames of the packets.
 pub fn finished_pictures_are_yuv4mpeg2()
     ensures { PicturesAreFiles }
 {}

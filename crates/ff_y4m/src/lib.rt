@@ -1,4 +1,4 @@
-//! YUV4MPEG2 (yuv4mpeg(5)): heads, and the packets of the frames behind them.
+//! YUV4MPEG2 (yuv4mpeg(5)): heads, and the packets of the frames after them.
 //!
 //! A file is a line of parameters, and then frames: each a line that begins with `FRAME`, and the planes Y, Cb and Cr.
 //! `specs/Lines` says where a line ends, `specs/Parameters` what a parameter says, `specs/Heads` what the head of a

@@ -1,4 +1,4 @@
-// Lines and their first words.
+//! Lines and their first words.
 ghost use Rattle.std.specs.Prelude.{◌≡◌, ◌<◌, ◌≤◌, [], ◌∷◌, length, IfSome};
 ghost use Rattle.ff_y4m.specs.Lines.{begins as begins_with, line_end as end_of_line};
 
@@ -11,7 +11,7 @@ fn is_separator(byte: u8) -> bool
     byte == b' ' || byte == b'\n'
 }
 
-/// Whether the bytes, as far as they go, are this word, and a space or a line feed behind it.
+/// Whether the bytes, as far as they go, are this word, and a space or a line feed after it.
 pub(crate) fn begins(word: &[u8], bytes: &[u8]) -> bool
     ensures { result ≡ begins_with word.now bytes.now }
 {

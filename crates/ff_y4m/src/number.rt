@@ -1,4 +1,4 @@
-// Numbers in parameters.
+//! The numbers in parameters.
 ghost use Rattle.std.specs.Prelude.{◌≡◌, ◌≤◌, ◌<◌, ◌^◌, length, take, drop, IfSome, pos, ℕ};
 ghost use Rattle.ff_y4m.specs.Numbers.{digits_from, whole as whole_number, first_place, pair as pair_of, base_of};
 

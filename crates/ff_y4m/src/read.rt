@@ -1,4 +1,4 @@
-// Heads.
+//! The reader of heads (yuv4mpeg(5), "Stream Header").
 ghost use Rattle.std.specs.Prelude.{◌≡◌, ◌<◌, ◌≤◌, ◌↔◌, List, ◌++◌, Err, false, length, take, drop, IfOk, IfSome, ℕ};
 ghost use Rattle.ff_y4m.specs.Packets.{IsHead};
 ghost use Rattle.ff_y4m.specs.Parameters.{no_parameters, AreSane};
@@ -65,7 +65,7 @@ fn step(line: &[u8], at: usize, so_far: Parameters) -> Result<(usize, Parameters
     }
 }
 
-// What the parameters of a line say, which stand behind its first word.
+// What the parameters of a line say, which stand after its first word.
 fn read_parameters(line: &[u8]) -> Result<Parameters, HeadFault>
     requires { length line.now < 1024 }
     ensures value { result ≡ parameters 0 9 no_parameters (drop 9 line.now) }

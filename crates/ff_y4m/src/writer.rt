@@ -1,4 +1,4 @@
-// The files of YUV4MPEG2.
+//! The writer of YUV4MPEG2 files.
 ghost use Rattle.std.specs.Prelude.{◌≡◌, ◌++◌, ◌↔◌, IfOk, IfErr, OnOk, OnErr, ⊤};
 ghost use Rattle.ff_y4m.specs.Header.{IsVideoHead, frame_line};
 ghost use Rattle.ff_y4m.specs.Layout.{y4m_layout, IsVideoHead-prop};
@@ -11,7 +11,7 @@ use std::alloc::{AllocError, Global};
 /// The line of a frame.
 const FRAME: &[u8] = b"FRAME\n";
 
-/// Gives the text of a YUV4MPEG2 file (yuv4mpeg(5)): the first line, and of each packet a line and its planes.
+/// Gives the bytes of a YUV4MPEG2 file (yuv4mpeg(5)): the first line, and of each packet a line and its planes.
 #[derive(Drop)]
 pub struct Y4mWriter {
     alloc: Global,
@@ -22,7 +22,7 @@ pub struct Y4mWriter {
 impl Y4mWriter {
     ghost use Rattle.ff_y4m.specs.Writers.{y4m_head};
 
-    /// For the packets of a stream of pictures.
+    /// For the packets of a video stream.
     pub fn new(alloc: Global, head: StreamHead) -> Y4mWriter
         requires { IsVideoHead head }
         ensures { y4m_head result ≡ head }
@@ -31,7 +31,7 @@ impl Y4mWriter {
     }
 }
 
-// Puts the line of a frame behind its planes. No more room is made than that takes.
+// Puts the line of a frame after its planes. No more room is made than that takes.
 fn push_line(planes: &mut Vec<u8>) -> Result<(), AllocError>
     ensures ok { OnOk result (planes.new.items ≡ planes.old.items ++ frame_line) }
     ensures err { OnErr result (planes.new.items ≡ planes.old.items) }

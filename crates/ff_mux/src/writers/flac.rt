@@ -1,4 +1,4 @@
-// The files of FLAC.
+//! The writer of FLAC files.
 ghost use Rattle.std.specs.Prelude.{◌≡◌, ◌↔◌, IfOk, OnOk, ⊤};
 ghost use Rattle.ff_mux.specs.FlacHead.{CanHold};
 ghost use Rattle.ff_mux.specs.writers.FlacFile.{CanHold-prop, flac_inside, flac_layout};
@@ -8,7 +8,7 @@ use ff_format::{Patch, TooLarge, Writer};
 use ff_frame::{Pkt, StreamHead, Totals};
 use std::alloc::{AllocError, Global};
 
-/// Where STREAMINFO stands: behind the mark and the head of its block.
+/// Where STREAMINFO stands: after the mark and the head of its block.
 const INFO_AT: u64 = 8;
 
 /// Gives the bytes of a FLAC file (RFC 9639): the mark and STREAMINFO, the frame that each packet holds, and STREAMINFO with the

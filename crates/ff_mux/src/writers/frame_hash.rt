@@ -1,4 +1,4 @@
-// The files of digests.
+//! The writer of framehash files.
 ghost use Rattle.std.specs.Prelude.{◌≡◌, ◌<◌, ◌^◌, ◌↔◌, length, vec_len, ⊤};
 ghost use Rattle.ff_mux.specs.writers.HashFile.{hash_layout};
 
@@ -7,7 +7,7 @@ use ff_format::{Patch, TooLarge, Writer};
 use ff_frame::{HashKind, Pkt, StreamHead, Totals};
 use std::alloc::{AllocError, Global};
 
-/// Gives the text of a framehash file: the lines on its streams, and of each packet a line with the digest of its bytes.
+/// Gives the lines of a framehash file: those on its streams, and of each packet a line with the digest of its bytes.
 #[derive(Drop)]
 pub struct HashWriter {
     put: HashPut,

@@ -1,4 +1,4 @@
-// What follows of the definitions alone.
+//! Laws of finished files. Each is a function that does nothing: its clauses hold of all values.
 ghost use Rattle.ff_mux.specs.writers.FlacFile.{FlacsAreStreams};
 ghost use Rattle.ff_mux.specs.writers.HashFile.{HashesAreTexts};
 
@@ -7,7 +7,7 @@ pub fn finished_flacs_are_streams()
     ensures { FlacsAreStreams }
 {}
 
-/// The finished text of packets is the lines on their streams and a line of each packet, with either digest.
+/// The finished framehash file of packets is the lines on their streams and a line of each packet, with either digest.
 pub fn finished_hashes_are_texts()
     ensures { HashesAreTexts }
 {}

@@ -1,3 +1,4 @@
+//! The merge of several streams of packets.
 ghost use Rattle.std.specs.Prelude.{◌≡◌, ◌<◌, ◌^◌, ◌+◌, length, false, true, IfOk, OnOk, OnErr, IfErr, Ok, Some, None};
 ghost use Rattle.ff_node_mux.specs.merge.Merges.{Placed};
 ghost use Rattle.ff_node_mux.specs.merge.Fronts.{IsFirst, known_to};
@@ -11,7 +12,7 @@ use std::alloc::{AllocError, Global};
 
 /// The merge of several streams of packets by the exact time at which each is decoded, then by stream, then by position.
 ///
-/// It keeps only what isn't decided: a packet waits while another stream that isn't whole has none behind it.
+/// It keeps only what isn't decided: a packet waits while another stream that isn't whole has none after it.
 #[derive(Drop)]
 pub struct Interleave {
     /// What waits of each stream.

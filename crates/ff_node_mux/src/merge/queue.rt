@@ -1,3 +1,4 @@
+//! The packets of one stream that wait to be merged.
 ghost use Rattle.std.specs.Prelude.{◌≡◌, ◌<◌, [], OnOk, OnErr, IfErr, ◌&&◌, not, true, false};
 ghost use Rattle.std.specs.VecDeque.{deque_len, deque_capacity};
 ghost use Rattle.ff_filter.specs.Joins.{Flow, before};
@@ -21,7 +22,7 @@ pub struct PacketQueue {
     pub tb: Rational,
     /// The packets, the next one first.
     pub queue: VecDeque<Pkt>,
-    /// How the stream stands behind them.
+    /// How the stream stands after them.
     pub after: After,
 }
 
