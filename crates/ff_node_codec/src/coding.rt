@@ -1,4 +1,4 @@
-// What follows of the definitions of decoding and encoding alone.
+//! Laws of decoding and encoding. Each is a function that does nothing: its clauses hold of all values.
 ghost use Rattle.std.specs.Prelude.{◌≡◌, ◌<◌, ◌++◌, ◌∷◌, [], ℕ, List, Option, Some, None, map, IsSome};
 ghost use Rattle.ff_time.specs.declared.cut.TimeCut.{TimeCut};
 ghost use Rattle.ff_frame.specs.declared.packet.Pkt.{Pkt};

@@ -1,4 +1,4 @@
-// The cut of what a step puts on the outputs.
+//! The cut of what a step puts on the outputs.
 ghost use Rattle.std.specs.Prelude.{◌≡◌, false, true, None, Some, IfOk, IfErr, IfSome, OnErr};
 ghost use Rattle.ff_stream.specs.declared.item.Item.{Item};
 ghost use Rattle.ff_stream.specs.Items.{Closes};

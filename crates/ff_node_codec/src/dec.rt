@@ -1,3 +1,4 @@
+//! The decoder node, whatever the codec.
 ghost use Rattle.std.specs.Prelude.{◌≡◌, ◌↔◌, [], ◌∷◌, replicate, true, None, Some, Option, IsTrue, IfOk, IfErr, OnOk, OnErr};
 ghost use Rattle.ff_frame.specs.declared.packet.Pkt.{Pkt};
 ghost use Rattle.ff_stream.specs.declared.item.Item.{Item};
@@ -19,7 +20,7 @@ use ff_time::TimeCut;
 use std::alloc::{AllocError, Global};
 
 /// Decodes the packets of a stream, whatever its codec: gives what a cut leaves of the frame of each packet on each output, and
-/// how the stream ends. A packet that has no frame breaks it off, with the fault that the input is damaged there; behind the end
+/// how the stream ends. A packet that has no frame breaks it off, with the fault that the input is damaged there; after the end
 /// of the cut no packet is looked at.
 #[derive(Drop)]
 pub struct Dec<D> {

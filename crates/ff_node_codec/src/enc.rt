@@ -1,3 +1,4 @@
+//! The encoder node, whatever the codec.
 ghost use Rattle.std.specs.Prelude.{◌≡◌, ◌↔◌, [], ◌∷◌, true, None, Some, Option, IsTrue, IfOk, IfErr, OnOk, OnErr};
 ghost use Rattle.ff_stream.specs.declared.item.Item.{Item};
 ghost use Rattle.ff_stream.specs.Items.{Closes};

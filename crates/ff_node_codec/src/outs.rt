@@ -1,4 +1,4 @@
-// All outputs of a machine.
+//! All outputs of a machine.
 ghost use Rattle.std.specs.Prelude.{◌≡◌, ◌<◌, ◌≤◌, ℕ, length, true, Some, None, OnOk, OnErr, IfErr, IfOk};
 ghost use Rattle.ff_stream.specs.declared.item.Item.{Item};
 ghost use Rattle.ff_node_codec.specs.Lines.{line_at, next_at, HaveRoom, AreSame};
@@ -81,7 +81,7 @@ fn set_all(alloc: Global, outs: &mut Vec<Ready>, made: Item) -> Result<(), Alloc
     }
 }
 
-// Puts on each output what is to be put next, and behind it what closes the output, if it is over.
+// Puts on each output what is to be put next, and after it what closes the output, if it is over.
 fn put_all(outs: &mut Vec<Ready>, after: After)
     requires { HaveRoom outs.old.items }
     ensures puts { (made : Item) → AreNext made (length outs.old.items) outs.old.items → ArePut made after outs.old.items outs.new.items }
@@ -93,7 +93,7 @@ fn put_all(outs: &mut Vec<Ready>, after: After)
     }
 }
 
-/// Puts an item on each output that is wanted, and behind it what closes the output, if it is over. Without memory for the copies
+/// Puts an item on each output that is wanted, and after it what closes the output, if it is over. Without memory for the copies
 /// nothing changes.
 pub fn put_on_all(
     alloc: Global,

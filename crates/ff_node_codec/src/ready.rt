@@ -1,4 +1,4 @@
-// An output of a machine.
+//! One output of a machine, with the items that are ready on it.
 ghost use Rattle.std.specs.Prelude.{◌≡◌, ◌<◌, ◌∷◌, ◌++◌, false, Some, None, IfOk, OnOk};
 ghost use Rattle.std.specs.VecDeque.{deque_len, deque_capacity};
 ghost use Rattle.ff_stream.specs.declared.item.Item.{Item};
@@ -14,7 +14,7 @@ use std::collections::VecDeque;
 #[derive(Drop)]
 pub struct Ready {
     pub queue: VecDeque<Item>,
-    /// An item that is to be put behind them.
+    /// An item that is to be put after them.
     pub next: Option<Item>,
     /// Whether the receiver of the output has finished.
     pub stopped: bool,
@@ -80,7 +80,7 @@ impl Ready {
         }
     }
 
-    /// Puts the item that is to be put behind the others, and what closes the output behind it; once the output was stopped, it is
+    /// Puts the item that is to be put after the others, and what closes the output after it; once the output was stopped, it is
     /// let go.
     pub fn put_next(&mut self, after: After)
         requires { HasRoom self.old }

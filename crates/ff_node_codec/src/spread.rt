@@ -1,4 +1,4 @@
-// A machine of one input and some outputs, which gives what it makes of the input on each.
+//! A machine of one input that gives what it makes on each of its outputs.
 ghost use Rattle.std.specs.Prelude.{◌≡◌, ◌<◌, ◌≤◌, ◌⊎◌, ◌↔◌, ◌∷◌, [], ℕ, true, false, None, Some, IsTrue, OnOk, OnErr, IfOk, IfErr, length};
 ghost use Rattle.ff_stream.specs.declared.item.Item.{Item};
 ghost use Rattle.ff_stream.specs.declared.item.Lane.{Lane};
@@ -94,7 +94,7 @@ impl Spread {
         self.outs.len() > 1
     }
 
-    // Puts an item on each output that is wanted, and behind it what closes the output, if it is over.
+    // Puts an item on each output that is wanted, and after it what closes the output, if it is over.
     fn put(
         &mut self,
         alloc: Global,

@@ -1,4 +1,4 @@
-// What a machine does on its outputs for an item that it is fed.
+//! The step of a machine on its outputs for an item that it is fed.
 ghost use Rattle.std.specs.Prelude.{◌≡◌, ℕ};
 ghost use Rattle.ff_stream.specs.declared.item.Item.{Item};
 ghost use Rattle.ff_stream.specs.Items.{Closes};
@@ -15,7 +15,7 @@ pub enum Step {
     /// An item is put on each, the last one where the input is damaged at an offset.
     Puts {
         made: Item,
-        /// Whether more can come behind it.
+        /// Whether more can come after it.
         after: After,
         damage: Option<u64>,
         /// The item that was fed, where it may have to be given back.

@@ -1,3 +1,4 @@
+//! The trait of what codes the blocks that wait.
 ghost use Rattle.std.specs.Prelude.{◌+◌, ◌<◌, ◌≤◌, ◌^◌, length, IfOk, All};
 ghost use Rattle.ff_flac_enc.specs.Frame.{IsBlock};
 ghost use Rattle.ff_flac_enc.specs.Blocks.{AreCoded};

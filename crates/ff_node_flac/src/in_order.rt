@@ -1,4 +1,4 @@
-// Blocks coded one after another.
+//! Blocks coded one after another.
 use crate::coder::Coder;
 use ff_flac_enc::coded_block;
 use ff_frame::{AFrame, Bytes};

@@ -1,7 +1,7 @@
-//! Sound coded as FLAC (RFC 9639).
+//! Audio coded as FLAC (RFC 9639).
 //!
 //! ```text
-//! frames ──► Blocks ──► up to eight blocks, coded at once ──► packets, one by one, and behind them the totals
+//! frames ──► Blocks ──► up to eight blocks, coded at once ──► packets, one by one, and after them the totals
 //! ```
 #![tactic(auto)]
 

@@ -1,4 +1,4 @@
-// Blocks on their way from frames to packets.
+//! Blocks on their way from frames to packets.
 ghost use Rattle.std.specs.Prelude.{◌≡◌, ◌+◌, ◌*◌, ◌^◌, ◌<◌, ◌≤◌, ◌⊎◌, ℕ, pos, take, List, [], ◌∷◌, ◌++◌, Ok, true, false, length, slice_index, IfOk, IfErr, OnOk, OnErr, All};
 ghost use Rattle.ff_frame.specs.declared.audio.AFrame.{AFrame};
 ghost use Rattle.ff_frame.specs.declared.packet.Pkt.{Pkt};
@@ -30,7 +30,7 @@ pub enum Given {
     TooLong,
 }
 
-/// Takes the frames of a stream of sound and gives the packets of its blocks. All complete blocks that wait, up to eight, are coded
+/// Takes the frames of an audio stream and gives the packets of its blocks. All complete blocks that wait, up to eight, are coded
 /// at once; they are kept and given one by one.
 #[derive(Drop)]
 pub struct Queue {

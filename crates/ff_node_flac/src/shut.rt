@@ -1,3 +1,5 @@
+//! The ways in which the frames of an encoder close.
+
 /// How the frames closed.
 #[derive(Clone, Copy, Debug, PartialEq, Eq)]
 pub enum Shut {

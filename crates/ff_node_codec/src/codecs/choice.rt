@@ -1,4 +1,4 @@
-// The codecs of a head.
+//! The decoder and the encoder for a head.
 ghost use Rattle.std.specs.Prelude.{◌≡◌};
 ghost use Rattle.ff_node_codec.specs.codecs.AnyCoders.{any_head, any_frame, any_serves, any_coded, any_packet};
 ghost use Rattle.ff_node_codec.specs.codecs.Choices.{CanDecode, CanDecodeSound, CanEncode, frame_made, sound_made, packet_made};
@@ -10,7 +10,7 @@ use crate::codecs::raw::{RawDecoder, RawEncoder};
 use ff_frame::{Codec, Coding, StreamHead};
 use std::alloc::Global;
 
-// The decoder of packets of sound of this head, in this codec.
+// The decoder of audio packets of this head, in this codec.
 fn sound_decoder_of(alloc: Global, head: &StreamHead, codec: Codec) -> AnyDecoder
     requires { CanDecodeSound head.now codec }
     ensures head { any_head result ≡ head.now }

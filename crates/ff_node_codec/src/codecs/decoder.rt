@@ -1,3 +1,4 @@
+//! The trait of a decoder.
 ghost use Rattle.std.specs.Prelude.{◌≡◌, ◌↔◌, Option, IsTrue, IfOk, IfErr};
 ghost use Rattle.ff_frame.specs.declared.head.StreamHead.{StreamHead};
 ghost use Rattle.ff_frame.specs.declared.packet.Pkt.{Pkt};

@@ -1,3 +1,4 @@
+//! The trait of an encoder.
 ghost use Rattle.std.specs.Prelude.{◌≡◌, ◌↔◌, Option, Some, IsTrue, IfOk, IfErr};
 ghost use Rattle.ff_frame.specs.declared.head.StreamHead.{StreamHead};
 ghost use Rattle.ff_frame.specs.declared.packet.Pkt.{Pkt};

@@ -1,4 +1,4 @@
-// FLAC.
+//! The decoder of FLAC packets.
 ghost use Rattle.std.specs.Prelude.{◌≡◌, ◌↔◌, ℕ, Some, IsTrue, IfOk, IfErr, IfSome};
 ghost use Rattle.ff_frame.specs.declared.packet.Pkt.{Pkt};
 ghost use Rattle.ff_frame.specs.declared.audio.AFrame.{AFrame};
@@ -51,7 +51,7 @@ impl FlacDecoder {
     }
 }
 
-// The frame that a packet is, if it is one and nothing stands behind it.
+// The frame that a packet is, if it is one and nothing stands after it.
 fn frame_in(alloc: Global, head: &FlacHead, packet: &Pkt) -> Result<Option<FlacFrame>, AllocError>
     requires { IsStream (stream_of head.now.head) }
     ensures { IfOk result (λ found. IsFoundIn head.now.head packet.now found) }
@@ -93,7 +93,7 @@ fn frame_for(
     }
 }
 
-// The sound of a packet that is this frame, if it lasts as long as the packet.
+// The audio of a packet that is this frame, if it lasts as long as the packet.
 fn sound_of(
     alloc: Global,
     head: &FlacHead,
@@ -116,7 +116,7 @@ fn sound_of(
     }
 }
 
-// The sound of a packet, if its bytes stand for any.
+// The audio of a packet, if its bytes stand for any.
 fn sound_in(
     alloc: Global,
     head: &FlacHead,

@@ -1,4 +1,4 @@
-// Linear PCM.
+//! The decoder and the encoder of linear PCM packets.
 ghost use Rattle.std.specs.Prelude.{◌≡◌, ◌↔◌, ◌*◌, ◌/◌, ◌<◌, ℕ, Some, length, pos, slice_index, IsTrue, IfOk, IfErr};
 ghost use Rattle.ff_frame.specs.Audio.{IsAudio};
 ghost use Rattle.ff_frame.specs.Codecs.{IsPcmCodec, sample_bytes};
@@ -77,7 +77,7 @@ impl Decoder for PcmDecoder {
     ghost carries = { λ d p fits. pcm_decoded (pcm_head d) p d.pcm fits };
 }
 
-/// Encodes frames of sound as linear PCM, at the codec's depth (RIFF WAVE, the data of PCM formats).
+/// Encodes audio frames as linear PCM, at the codec's depth (RIFF WAVE, the data of PCM formats).
 #[derive(Drop)]
 pub struct PcmEncoder {
     alloc: Global,
@@ -97,7 +97,7 @@ impl PcmEncoder {
     }
 }
 
-/// How many sample frames a frame of sound has.
+/// How many sample frames an audio frame has.
 pub(crate) fn sample_frames(frame: &AFrame) -> i64
     requires { IsAudio frame.now.bits frame.now.channels frame.now.samples }
     ensures { result ≡ pos (length frame.now.samples / frame.now.channels) }

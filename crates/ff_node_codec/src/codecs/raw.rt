@@ -1,4 +1,4 @@
-// Raw video.
+//! The decoder and the encoder of raw video packets.
 ghost use Rattle.std.specs.Prelude.{◌≡◌, ◌↔◌, ◌≤◌, Some, length, IsTrue};
 ghost use Rattle.ff_frame.specs.Video.{IsVideo};
 ghost use Rattle.ff_pcm.specs.Raw.{HasFrame};
@@ -12,7 +12,7 @@ use crate::codecs::encoder::Encoder;
 use ff_frame::{Format, Pkt, StreamHead, VFrame};
 use ff_stream::Item;
 
-/// Decodes packets of raw video: the bytes of each are the planes of a picture, which are moved.
+/// Decodes packets of raw video: the bytes of each are the planes of a frame, which are moved.
 #[derive(Drop)]
 pub struct RawDecoder {
     head: StreamHead,
@@ -22,7 +22,7 @@ pub struct RawDecoder {
 impl RawDecoder {
     ghost use Rattle.ff_node_codec.specs.codecs.Coders.{raw_head};
 
-    /// For the packets of a stream of pictures.
+    /// For the packets of a video stream.
     pub fn new(head: StreamHead) -> RawDecoder
         requires { IsPictureHead head }
         ensures { raw_head result ≡ head }
@@ -31,7 +31,7 @@ impl RawDecoder {
     }
 }
 
-// Whether so many bytes are the planes of one picture.
+// Whether so many bytes are the planes of one frame.
 fn are_planes(format: Format, width: u32, height: u32, bytes: &[u8]) -> bool
     requires columns { (1 ≤ width) × (width ≤ 16384) }
     requires rows { (1 ≤ height) × (height ≤ 16384) }
@@ -83,7 +83,7 @@ impl Decoder for RawDecoder {
     ghost carries = { λ d p fits. raw_decoded (raw_head d) p d.sides fits };
 }
 
-/// Encodes pictures as raw video: the planes of each are the bytes of a packet, and are moved.
+/// Encodes video frames as raw video: the planes of each are the bytes of a packet, and are moved.
 #[derive(Drop)]
 pub struct RawEncoder;
 
