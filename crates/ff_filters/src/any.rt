@@ -1,3 +1,4 @@
+//! The machine of any filter.
 ghost use Rattle.std.specs.Prelude.{◌≡◌};
 ghost use Rattle.ff_stream.specs.declared.item.Lane.TheVariants.{Frames};
 ghost use Rattle.ff_vfilter.specs.RateLaws.{rate-grows, rate-hides, rate-settles, rate-quiet};
@@ -21,18 +22,18 @@ use ff_stream::{Item, Refused};
 use ff_vfilter::Rate;
 use std::alloc::AllocError;
 
-/// The machine of any filter. Filters of video and of sound whose machines are the same share a variant.
+/// The machine of any filter. Video and audio filters whose machines are the same share a variant.
 #[derive(Drop)]
 pub enum AnyFilter {
     /// A function of one stream that gives at most one item for each.
     Step(Stepper<Limited<AnyStep>>),
-    /// Pictures at an even rate.
+    /// Frames at an even rate.
     Rate(Rate),
     /// The same stream on each of several outputs.
     Copies(Spreader<Copies>),
     /// One channel on each output.
     Channels(Spreader<Channels>),
-    /// Pictures of several inputs side by side or one below the other.
+    /// The frames of several inputs side by side or one below the other.
     Stacked(Stacked),
     /// Segments one after another.
     Concat(Concat),

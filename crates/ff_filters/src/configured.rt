@@ -1,3 +1,4 @@
+//! Any filter by its name, its arguments and the heads of its inputs.
 ghost use Rattle.std.specs.Prelude.{◌≡◌, ◌⊎◌, Ok, Err, IfOk, IfErr};
 ghost use Rattle.ff_frame.specs.declared.config.ConfigError.TheVariants.{NoMemory};
 ghost use Rattle.ff_filters.specs.Makes.{Makes, Refuses, configured_as};

@@ -9,7 +9,7 @@
 //! `ff_filter::Filter` as each of them does. What a filter is stands in one record, by its name (`specs/Definitions`); what every
 //! filter owes in one more (`proofs/Owed`), which all that is proved of graphs takes whole.
 //!
-//! `limited`: Each filter, as it is configured, is a function behind the limits of its outputs.
+//! `limited`: Each filter, as it is configured, is a function within the limits of its outputs.
 #![tactic(auto)]
 
 mod any;

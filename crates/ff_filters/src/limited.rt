@@ -1,4 +1,4 @@
-//! Each filter, as it is configured, is a function behind the limits of its outputs.
+//! Each filter, as it is configured, is a function within the limits of its outputs.
 //!
 //! A filter of `ff_filters` stands in a network as a machine of `ff_node_filter`, whose laws ask of its function that it
 //! is monotone, that it hides the breaks of its inputs, that it makes valid streams of valid ones, and that where it breaks

@@ -11,41 +11,41 @@ use ff_lang::Arg;
 /// The filters that there are.
 #[derive(Clone, Copy, Debug, PartialEq, Eq)]
 pub enum FilterName {
-    /// `null`: the same stream of pictures.
+    /// `null`: the same video stream.
     Null,
-    /// `trim`: the pictures of a range of times.
+    /// `trim`: the frames of a range of times.
     Trim,
-    /// `setpts`: pictures from time 0 on.
+    /// `setpts`: frames from time 0 on.
     SetPts,
-    /// `crop`: a part of each picture.
+    /// `crop`: a part of each frame.
     Crop,
-    /// `pad`: each picture on black.
+    /// `pad`: each frame on black.
     Pad,
-    /// `hflip`: each picture mirrored left to right.
+    /// `hflip`: each frame mirrored left to right.
     HFlip,
-    /// `vflip`: each picture mirrored top to bottom.
+    /// `vflip`: each frame mirrored top to bottom.
     VFlip,
-    /// `fps`: pictures at an even rate.
+    /// `fps`: frames at an even rate.
     Fps,
-    /// `split`: the same pictures on several outputs.
+    /// `split`: the same frames on several outputs.
     Split,
-    /// `anull`: the same stream of sound.
+    /// `anull`: the same audio stream.
     ANull,
-    /// `atrim`: the sound of a range of times.
+    /// `atrim`: the audio of a range of times.
     ATrim,
-    /// `asetpts`: sound from time 0 on.
+    /// `asetpts`: audio from time 0 on.
     ASetPts,
-    /// `asplit`: the same sound on several outputs.
+    /// `asplit`: the same audio on several outputs.
     ASplit,
     /// `channelsplit`: one channel on each output.
     ChannelSplit,
-    /// `hstack`: pictures side by side.
+    /// `hstack`: frames side by side.
     HStack,
-    /// `vstack`: pictures one below the other.
+    /// `vstack`: frames one below the other.
     VStack,
     /// `concat`: segments one after another.
     Concat,
-    /// `join`: streams of sound side by side.
+    /// `join`: audio streams side by side.
     Join,
 }
 
@@ -195,7 +195,7 @@ pub fn is_apart(name: FilterName) -> bool
     }
 }
 
-/// Whether the input pads of a filter take sound; else they take pictures.
+/// Whether the input pads of a filter take audio; else they take video.
 pub fn takes_sound(name: FilterName, args: &[Arg]) -> bool
     ensures { result ≡ sound_taken name args.now }
 {

@@ -20,17 +20,17 @@ pub enum AnyStep {
     Pass(Pass),
     /// Takes the time of the first item from each.
     Rebase(Rebase),
-    /// The pictures of a range of times.
+    /// The frames of a range of times.
     Trim(Trim),
-    /// The sound of a range of times.
+    /// The audio of a range of times.
     ATrim(ATrim),
-    /// A part of each picture.
+    /// A part of each frame.
     Crop(Repaint<Crop>),
-    /// Each picture on black.
+    /// Each frame on black.
     Pad(Repaint<Pad>),
-    /// Each picture mirrored left to right.
+    /// Each frame mirrored left to right.
     HFlip(Repaint<HFlip>),
-    /// Each picture mirrored top to bottom.
+    /// Each frame mirrored top to bottom.
     VFlip(Repaint<VFlip>),
 }
 

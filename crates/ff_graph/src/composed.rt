@@ -1,9 +1,9 @@
 //! A filtergraph as one filter.
 //!
 //! ```text
-//!   text, heads ──► configure_graph (ff_graph): the filters, and what feeds each
-//!                     └──► drawn_plan (ff_graph_dag): the edges between them ──► Dag (ff_graph_dag): one filter
-//!   cuts ──► Cutting (ff_trim): a cut behind each output
+//!   graph, heads ──► configure_graph (ff_graph): the filters, and what feeds each
+//!                      └──► drawn_plan (ff_graph_dag): the edges between them ──► Dag (ff_graph_dag): one filter
+//!   cuts ──► Cutting (ff_trim): a cut after each output
 //! ```
 //!
 //! The filter does what the definition of the graph says, pad by pad; its outputs are broken off by a limit only where a limit of one of

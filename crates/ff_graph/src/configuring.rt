@@ -1,3 +1,4 @@
+//! The configuration of all filters of a graph.
 ghost use Rattle.std.specs.Prelude.{◌≡◌, IfOk, IfErr, Ok, false, length, map};
 ghost use Rattle.ff_graph_links.specs.pads.Links.{all_seen, pads_in};
 ghost use Rattle.ff_graph.specs.Configured.{configured, make_all as all_made, open_outs as open_outs_of};

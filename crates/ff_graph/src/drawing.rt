@@ -1,3 +1,4 @@
+//! The filters of a graph as they are drawn, with their pads.
 ghost use Rattle.std.specs.Prelude.{◌≡◌, ◌++◌, IfOk, OnOk, false, map};
 ghost use Rattle.ff_graph_links.specs.pads.Links.{seen, all_seen};
 ghost use Rattle.ff_filters.specs.Names.{filter_named};

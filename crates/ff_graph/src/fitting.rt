@@ -1,3 +1,4 @@
+//! The checks whether a filter has the pads that its labels and its chain ask for.
 ghost use Rattle.std.specs.Prelude.{◌≡◌, ◌-◌, length, slice_get};
 ghost use Rattle.ff_graph_links.specs.pads.Links.{Seen, seen, all_seen};
 ghost use Rattle.ff_graph.specs.Configured.{leaves_over as left_over, stands_at as is_at, is_misfit as misfits, too_few_channels, is_surplus as has_surplus};

@@ -1,3 +1,4 @@
+//! The heads at the input pads of a filter.
 ghost use Rattle.std.specs.Prelude.{◌≡◌, ◌&&◌, ◌==◌, IfOk, slice_get, slice_index_or, []};
 ghost use Rattle.std.specs.Option.{option_map};
 ghost use Rattle.ff_graph.specs.Configured.{same_pad as same, place_of as place_in, head_at as head_of, head_into as head_to, heads_into as heads_to};

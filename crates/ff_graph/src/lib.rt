@@ -1,9 +1,9 @@
-//! Filtergraphs by their text: the filters in the order of writing, what feeds each, the order in which they can be made, what the open
+//! Filtergraphs as they are written: the filters in their order, what feeds each, the order in which they can be made, what the open
 //! pads are, and the filters themselves, each configured by the heads of what comes to it.
 //!
 //! ```text
 //!   Graph ──► drawn ──► sources (ff_graph_links): the output pad that feeds each input pad
-//!     │            └──► in_order: each behind those that feed it, else by number; None for a loop
+//!     │            └──► in_order: each after those that feed it, else by number; None for a loop
 //!     ├────► open_inputs, has_loop: what a plan asks before any head is known
 //!     ├────► make_all: with the heads of the open inputs, the filters in that order, or the first refusal
 //!     └────► configure_graph: all of that, and the open output pads with their heads

@@ -1,3 +1,4 @@
+//! Filters made one by one, each by the heads that those before it give.
 ghost use Rattle.std.specs.Prelude.{◌≡◌, ◌⊎◌, ◌<◌, IfOk, IfErr, OnOk, Ok, Err, [], ◌∷◌, ◌++◌, map, length, replicate, slice_get, slice_index_or, slice_set};
 ghost use Rattle.std.specs.Option.{option_map};
 ghost use Rattle.ff_frame.specs.declared.config.ConfigError.TheVariants as fault;

@@ -1,3 +1,4 @@
+//! The open input pads of a graph.
 ghost use Rattle.std.specs.Prelude.{◌≡◌, IfOk, map, slice_get};
 ghost use Rattle.std.specs.Option.{option_copied};
 ghost use Rattle.ff_graph_links.specs.pads.Links.{all_seen};
@@ -16,7 +17,7 @@ use std::alloc::{AllocError, Global};
 pub struct OpenInput<'a> {
     /// Its label, if it has one.
     pub label: Option<&'a str>,
-    /// Whether it takes sound; else it takes pictures.
+    /// Whether it takes audio; else it takes video.
     pub sound: bool,
 }
 
@@ -37,7 +38,7 @@ pub(crate) fn label_at<'a>(labels: &'a [Text], pad: usize) -> Option<&'a str>
     None
 }
 
-// Whether the input pads of a filter take sound.
+// Whether the input pads of a filter take audio.
 fn is_sound(filter: &Filter) -> bool
     ensures { result ≡ takes_sound_as (filter_named filter.now.name) filter.now.args }
 {

@@ -1,3 +1,4 @@
+//! The order in which the filters of a graph are made.
 ghost use Rattle.std.specs.Prelude.{◌≡◌, ℕ, List, IfOk, IfSome, Ok, None, is_some, not};
 ghost use Rattle.ff_graph_links.specs.pads.Links.{all_seen};
 ghost use Rattle.ff_graph_links.specs.orders.Orders.{IsOrder, IsLowestOrder, loops as is_looped};
@@ -8,7 +9,7 @@ use ff_graph_links::{Drawn, feeders, order};
 use ff_lang::Graph;
 use std::alloc::{AllocError, Global};
 
-/// The order in which the filters of a graph are made: each behind those that feed it, else by number. None only where there is
+/// The order in which the filters of a graph are made: each after those that feed it, else by number. None only where there is
 /// no such order: filters feed one another in a loop.
 pub fn in_order(alloc: Global, drawn: &[Drawn<'_>]) -> Result<Option<Vec<usize>>, AllocError>
     ensures lowest { IfOk result (λ o. IfSome o (λ filters. IsLowestOrder (feeders_in (all_seen drawn.now)) filters.items)) }

@@ -1,3 +1,4 @@
+//! The open output pads of a graph.
 ghost use Rattle.std.specs.Prelude.{◌≡◌, ◌++◌, [], IfOk, OnOk, length, map, slice_get};
 ghost use Rattle.std.specs.List.{list_any};
 ghost use Rattle.ff_graph_links.specs.pads.Links.{all_seen, pads_in};

@@ -1,3 +1,4 @@
+//! The reasons why a graph is refused.
 ghost use Rattle.std.specs.Prelude.{◌≡◌, Result, Err};
 ghost use Rattle.ff_frame.specs.declared.config.ConfigError.TheVariants as fault;
 ghost use Rattle.ff_graph.specs.Configured.{Made, Refused};

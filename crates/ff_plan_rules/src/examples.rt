@@ -1,4 +1,4 @@
-// Maps and a graph by example, by computation.
+//! Maps and a graph by example, by computation.
 ghost use Rattle.std.specs.Prelude.{◌≡◌, true, false, [], ◌∷◌, codes, Some, None, Ok, Err};
 ghost use Rattle.ff_frame.specs.declared.config.ConfigError.TheVariants.{Pads};
 ghost use Rattle.ff_map.specs.declared.map.Kind.TheVariants as kind;
@@ -6,14 +6,14 @@ ghost use Rattle.ff_map.specs.declared.map.Pick.TheVariants as pick;
 ghost use Rattle.ff_plan_rules.specs.Examples.{of_input, of_label, pictures, alone};
 ghost use Rattle.ff_plan_rules.specs.Rules.{graph_rules};
 
-/// Texts and the maps that they are.
+/// Strings and the maps that they are.
 pub fn some_maps()
     ensures second { graph_rules.map_of (codes "0:v:1?") ≡ Some (of_input 0 (pick.Nth kind.Video 1) true) }
     ensures label { graph_rules.map_of (codes "[x]") ≡ Some (of_label (codes "x")) }
     ensures other { graph_rules.map_of (codes "0:x") ≡ None }
 {}
 
-/// Pictures side by side, and pictures of which one has no stream.
+/// Video side by side, and video of which one has no stream.
 pub fn two_pictures()
     ensures inputs { graph_rules.open_ins (alone (codes "hstack"))
         ≡ record { label = None; kind = kind.Video } ∷ record { label = None; kind = kind.Video } ∷ [] }

@@ -1,4 +1,4 @@
-// The open input pads of a graph as plans have them.
+//! The open input pads of a graph, as plans have them.
 ghost use Rattle.std.specs.Prelude.{◌≡◌, ◌≤◌, ◌^◌, IfOk, length};
 ghost use Rattle.std.specs.Option.{option_copied};
 ghost use Rattle.ff_graph.specs.Pads.{input_of};
@@ -10,17 +10,17 @@ use ff_map::Kind;
 use ff_plan_layout::OpenIn;
 use std::alloc::{AllocError, Global};
 
-/// How many open pads a graph that a word of a command can write has at most: 65,536 filters of 16 pads.
+/// How many open pads a graph that an argument of a command can write has at most: 65,536 filters of 16 pads.
 pub(crate) const MOST_PADS: usize = 1_048_576;
 
-// Sound, else pictures.
+// Audio, else video.
 fn kind_by(sound: bool) -> Kind
     ensures { result ≡ kind_of sound }
 {
     if sound { Kind::Audio } else { Kind::Video }
 }
 
-/// A text of one's own.
+/// A string of one's own.
 pub(crate) fn text_of(alloc: Global, text: &str) -> Result<Text, AllocError>
     ensures { IfOk result (λ copy. copy ≡ text.now) }
 {

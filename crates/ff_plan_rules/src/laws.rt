@@ -28,7 +28,7 @@ pub fn heads_are_kept()
     ensures { KeepHeads graph_rules }
 {}
 
-/// A graph of as many filters as a word of a command can write has no more open pads than the code can give, where the heads that it
+/// A graph of as many filters as an argument of a command can write has no more open pads than the code can give, where the heads that it
 /// gets are fit, and a filter that is refused has a number of few bits.
 pub fn words_have_few_pads()
     ensures inputs { (g : Text) → length (filters_of g) ≤ 65536 → length (open_ins g) ≤ 2 ^ 20 }

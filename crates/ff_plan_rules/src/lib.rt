@@ -5,7 +5,7 @@
 //!   ff_graph ───────► known, loops, open_ins, configured ────┴─► graph_rules ─► ff_plan
 //! ```
 //!
-//! A plan is defined over rules that say which names are filters, what the open pads of a graph are, and which map a text is
+//! A plan is defined over rules that say which names are filters, what the open pads of a graph are, and which map a string is
 //! (`ff_plan/specs/Rules`). Here they are those of the product (`specs/Rules`), [`GraphRules`] is them as code, and the laws say
 //! what plans need of them (`specs/Kept`, and `AreRules` of ff_plan).
 #![tactic(auto)]

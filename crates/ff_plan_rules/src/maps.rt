@@ -1,10 +1,11 @@
+//! The map that a string is.
 ghost use Rattle.std.specs.Prelude.{◌≡◌, ℕ, List, IfOk};
 ghost use Rattle.ff_plan_rules.specs.Maps.{map_of as map_that};
 
 use ff_map::{MapError, MapSpec, read_map};
 use std::alloc::{AllocError, Global};
 
-/// The map that a text is, if it is one.
+/// The map that a string is, if it is one.
 pub(crate) fn map_of(alloc: Global, text: &str) -> Result<Option<MapSpec>, AllocError>
     ensures { IfOk result (λ map. map ≡ map_that text.now) }
 {

@@ -1,4 +1,4 @@
-// The open output pads of a graph as plans have them.
+//! The open output pads of a graph, as plans have them.
 ghost use Rattle.std.specs.Prelude.{◌≡◌, ◌≤◌, ◌^◌, IfOk, length, map};
 ghost use Rattle.ff_graph.specs.Pads.{output_of};
 ghost use Rattle.ff_plan_rules.specs.Rules.{output_as, configured as configured_as};
@@ -37,7 +37,7 @@ fn output_pads(alloc: Global, outputs: &[OpenOutput]) -> Result<Sequence<OpenOut
     Ok(Sequence::of(pads))
 }
 
-// The refusal of a filter, of which a graph whose text is a word of a command has at most 65,536.
+// The refusal of a filter, of which a graph whose string is an argument of a command has at most 65,536.
 fn refused(filter: usize, kind: ConfigError) -> Result<Refused, AllocError>
     ensures { IfOk result (λ r. r ≡ record { filter = filter; kind = kind }) }
 {

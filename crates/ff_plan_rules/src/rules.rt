@@ -1,3 +1,4 @@
+//! The rules of the filters that there are, and of maps.
 ghost use Rattle.std.specs.Prelude.{◌≡◌};
 ghost use Rattle.ff_plan_rules.specs.Rules.{graph_rules};
 

@@ -1,3 +1,4 @@
+//! The cut of one stream, with the start taken from all times.
 ghost use Rattle.std.specs.Prelude.{◌≡◌, ◌+◌, ◌-◌, ◌<◌, ◌≤◌, ◌^◌, pos, refl, option_map, Option, IfSome, None, Some, false};
 ghost use Rattle.std.specs.Option.{ForSome};
 ghost use Rattle.ff_frame.specs.Heads.{base_of_head};
@@ -20,9 +21,9 @@ use ff_vfilter::Trim;
 pub enum Cut {
     /// Nothing is cut.
     Uncut(Pass),
-    /// Sound, and where the cut starts, in ticks.
+    /// Audio, and where the cut starts, in ticks.
     Sound(ATrim, u64),
-    /// Pictures, and where the cut starts, in ticks.
+    /// Video, and where the cut starts, in ticks.
     Pictures(Trim, u64),
 }
 

@@ -1,3 +1,4 @@
+//! A filter with a cut after each of its outputs.
 ghost use Rattle.std.specs.Prelude.{◌≡◌, ◌<◌, map, length, Ok, IfOk, is_some, false, true};
 ghost use Rattle.ff_stream.specs.declared.item.Lane.TheVariants.{Frames};
 ghost use Rattle.ff_filter.specs.Made.{is_over};
@@ -12,7 +13,7 @@ use ff_stream::{Item, Refused};
 use ff_time::TimeCut;
 use std::alloc::{AllocError, Global};
 
-/// A filter with a cut behind each of its outputs.
+/// A filter with a cut after each of its outputs.
 #[derive(Drop)]
 pub struct Cutting<F: Filter> {
     /// The filter.
@@ -35,7 +36,7 @@ fn new_taps(alloc: Global, heads: &[StreamHead], cuts: &[TimeCut]) -> Result<Vec
 }
 
 impl<F: Filter + Drop> Cutting<F> {
-    /// A filter to which nothing was done, whose outputs have these heads, with a cut behind each.
+    /// A filter to which nothing was done, whose outputs have these heads, with a cut after each.
     pub fn new(
         alloc: Global,
         filter: F,

@@ -13,7 +13,7 @@ ghost use Rattle.ff_filter.specs.Shifts.{earlier, start_ticks};
 ghost use Rattle.ff_trim.specs.Cuts.{cut};
 
 /// A second of three at 8,000 samples a second is 8,000 samples, and the stream is whole there, however it goes on (`second`); five
-/// seconds into three there is nothing (`behind`); of pictures 25 a second one a second in lasts to below the next, which isn't kept,
+/// seconds into three there is nothing (`behind`); of frames 25 a second one a second in lasts to below the next, which isn't kept,
 /// and counts from 0 (`pictures`); and a length of 0 gives the empty whole stream, whatever comes (`empty`).
 pub fn cuts_of_some_streams()
     ensures second { (c : TimeCut) (bits : ℕ) (codec : Codec) (f : AFrame) (m : Mark)

@@ -34,7 +34,7 @@ pub fn valid_streams_are_cut_to_valid_ones()
     ensures { (head : StreamHead) (c : TimeCut) → GivesValid (Frames head) (Frames head) (λ s. cut head c s) }
 {}
 
-/// A function behind limits with a cut behind each output is one behind the same limits: where an output breaks, so does the
+/// A function within limits with a cut after each output is one within the same limits: where an output breaks, so does the
 /// function's, before the end of the cut.
 pub fn cuts_keep_limits()
     ensures { (ins : List Lane) (heads : List StreamHead) (cs : List TimeCut) (f : Ports → Ports) (cuts : List Flow → Bool)
@@ -48,7 +48,7 @@ pub fn cuts_are_as_their_rule_says()
         → IsValid (Frames head) s → cut head c s ≡ by_rule head c s }
 {}
 
-/// A filter behind limits, to which nothing was done, is with cuts behind its outputs behind the same limits: so a node of it has the
+/// A filter within limits, to which nothing was done, is with cuts after its outputs within the same limits: so a node of it has the
 /// fault `TooLong` only where one of its own outputs breaks.
 pub fn filters_with_cuts_are_limited()
     ensures { (heads : List StreamHead) (cs : List TimeCut) (v w : View) (cuts : List Flow → Bool)

@@ -1,3 +1,4 @@
+//! One output of a filter, with its cut.
 ghost use Rattle.std.specs.Prelude.{◌≡◌, Ok, OnErr, None, Some, is_some, false, true};
 ghost use Rattle.ff_filter.specs.Views.{closes};
 ghost use Rattle.ff_stream.specs.declared.item.Item.{Item as AnItem};
@@ -23,14 +24,14 @@ pub enum Turn {
     On,
 }
 
-/// One output of a filter, with a cut behind it.
+/// One output of a filter, with a cut after it.
 #[derive(Drop)]
 pub struct Tap {
     /// The cut.
     pub cut: Cut,
     /// An item that waits before the cut, since there was no memory for it.
     pub held: Option<Item>,
-    /// How the output stands behind what was given.
+    /// How the output stands after what was given.
     pub after: After,
     /// Whether the closing item was given.
     pub ended: bool,
@@ -67,7 +68,7 @@ impl Tap {
         }
     }
 
-    /// Whether it stands closed behind what was given.
+    /// Whether it stands closed after what was given.
     pub fn is_over(&self) -> bool
         ensures { result ≡ is_over_by self.now.after }
     {

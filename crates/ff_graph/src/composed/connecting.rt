@@ -1,3 +1,4 @@
+//! Filters that feed one another as they are drawn, as one filter.
 ghost use Rattle.std.specs.Prelude.{◌≡◌, ℕ, IfOk, map, length};
 ghost use Rattle.ff_filter.specs.Joins.{Ports};
 ghost use Rattle.ff_filter.specs.Views.{IsNew};

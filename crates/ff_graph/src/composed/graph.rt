@@ -1,3 +1,4 @@
+//! A graph as one filter.
 ghost use Rattle.std.specs.Prelude.{◌≡◌, ◌≤◌, ℕ, IfOk, IfErr, length, map};
 ghost use Rattle.ff_stream.specs.declared.item.Lane.TheVariants.{Frames as FramesOf};
 ghost use Rattle.ff_filter.specs.Joins.{Ports};

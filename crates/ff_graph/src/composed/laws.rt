@@ -26,20 +26,20 @@ pub fn configured_heads_are_timed()
         → configured_as name args heads ≡ Ok f → AreTimed f.outs }
 {}
 
-/// A text without a loop, whose labels tell its pads apart and whose filters were made, is a drawing of them.
+/// A graph without a loop, whose labels tell its pads apart and whose filters were made, is a drawing of them.
 pub fn graphs_are_drawings()
     ensures { (g : Text) (given : List (Option StreamHead)) (made : Made) → IsClear g → loops g ≡ false → make_all (seen_graph g) given ≡ Ok made
         → IsDrawing (sources_in (seen_graph g)) (filter_order (seen_graph g)) (counts_of made.heads) (open_pads (seen_graph g))
         (pads_of (open_outs (seen_graph g) made.heads)) }
 {}
 
-/// Its function is one behind limits: it is cut where a limit of one of its filters cuts what that filter gives.
+/// Its function is one within limits: it is cut where a limit of one of its filters cuts what that filter gives.
 pub fn texts_are_limited()
     ensures { (g : Text) (heads : List StreamHead) (outs : List OpenOut) → IsClear g → loops g ≡ false → configured g (all_given heads) ≡ Ok outs → AreTimed heads
         → IsLimited (map FramesOf heads) (map (λ o. FramesOf o.head) outs) (graph_means g (all_given heads)) (graph_cuts g (all_given heads)) }
 {}
 
-/// A graph without a loop that has a filter has an open input pad, and where all sound that comes to it has a channel an open output
+/// A graph without a loop that has a filter has an open input pad, and where all audio that comes to it has a channel an open output
 /// pad.
 pub fn graphs_have_open_pads()
     ensures inputs { (g : Text) (heads : List StreamHead) (outs : List OpenOut) → IsClear g → loops g ≡ false → configured g (all_given heads) ≡ Ok outs

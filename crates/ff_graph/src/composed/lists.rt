@@ -1,3 +1,4 @@
+//! Lists that the composition of a graph needs: pads, heads, lanes and places.
 ghost use Rattle.std.specs.Prelude.{◌≡◌, ℕ, IfOk, map, length};
 ghost use Rattle.ff_stream.specs.declared.item.Lane.TheVariants.{Frames as FramesOf};
 ghost use Rattle.ff_graph_dag.specs.Graphs.{spots};

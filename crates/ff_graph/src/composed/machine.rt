@@ -1,3 +1,4 @@
+//! A graph as one machine of a network, with a cut after each output.
 ghost use Rattle.std.specs.Prelude.{◌≡◌, IfOk, IfErr, None, [], length, map};
 ghost use Rattle.ff_stream.specs.declared.item.Lane.TheVariants.{Frames as FramesOf};
 ghost use Rattle.ff_net.specs.Pasts.{start};
@@ -18,11 +19,11 @@ use ff_time::TimeCut;
 use ff_trim::Cutting;
 use std::alloc::Global;
 
-/// The filters of a graph with a cut behind each output, as one filter.
+/// The filters of a graph with a cut after each output, as one filter.
 pub type CutGraph = Cutting<GraphFilter>;
 
 /// A graph as one machine of a network, where a stream of each of these heads comes to its open input pads in the order of writing, with
-/// one of these cuts behind each of its open output pads.
+/// one of these cuts after each of its open output pads.
 pub fn graph_machine(
     alloc: Global,
     graph: &Graph,
