@@ -1,4 +1,4 @@
-// A command: from the words and the files to the files, the log and the report.
+//! A command: from the arguments and the files to the files, the log and the report.
 ghost use Rattle.std.specs.Prelude.{◌≡◌, ◌≢◌, ◌⊎◌, ◌↔◌, [], ℕ, List, None, IfSome, ⊤, true, false};
 ghost use Rattle.std.specs.Io.KnownBytes.{Appends, Keeps};
 ghost use Rattle.ff_host.specs.Causes.{Rose};
@@ -32,7 +32,7 @@ use ff_run_plan::RunLog;
 use ff_words::{Command, Job, WordError, WordKind, read_words};
 use std::alloc::Global;
 
-// The status of words that ask for nothing.
+// The status of arguments that ask for nothing.
 fn status_of_words(error: WordError) -> Status
     ensures { result ≡ wrong_words error }
 {
@@ -57,7 +57,7 @@ fn name_of_file(job: &Job, file: FileRef) -> &str
     }
 }
 
-/// How words were run, and the job that they ask for, or what they ask to be told.
+/// How arguments were run, and the job that they ask for, or what they ask to be told.
 #[derive(Drop)]
 struct Worked {
     status: Status,
@@ -66,7 +66,7 @@ struct Worked {
     run: Option<RunLog>,
 }
 
-// Reads the words, and runs the job that they ask for.
+// Reads the arguments, and runs the job that they ask for.
 fn run_words<H: Host, P: Worker<Begun<H::Src>, H::Snk>, Q: Worker<Begun<QuietSource>, QuietSink>>(
     alloc: Global,
     worker: &P,
@@ -125,7 +125,7 @@ fn run_words<H: Host, P: Worker<Begun<H::Src>, H::Snk>, Q: Worker<Begun<QuietSou
     }
 }
 
-// The name of the file of a device's fault; the empty text for any other status.
+// The name of the file of a device's fault; the empty string for any other status.
 fn name_of<'a>(status: &Status, job: &'a Option<Job>) -> &'a str
     requires { (file : _) → status.now ≡ Status.Device file → IsOfJob job.now file }
     ensures { (words : List (List ℕ)) → IfSome job.now (λ job. Ask words job) → IsNamed words status.now result.now }
@@ -173,7 +173,7 @@ fn reported(alloc: Global, status: &Status, run: Option<RunLog>) -> RunReport
     }
 }
 
-// Whether all was done, but for a text that was asked for: there was no memory to log it.
+// Whether all was done, but for a string that was asked for: there was no memory to log it.
 fn is_untold(status: &Status, line: Line) -> bool
     ensures untold { result ≡ true → (status.now ≡ Status.Fine) × (line ≡ Line.NoMemory) }
     ensures told { result ≡ false → status.now ≡ Status.Fine → line ≢ Line.NoMemory }
@@ -187,7 +187,7 @@ fn is_untold(status: &Status, line: Line) -> bool
     }
 }
 
-// What is reported where there was no memory to log a text that was asked for.
+// What is reported where there was no memory to log a string that was asked for.
 fn out_of_memory(alloc: Global) -> Report
     ensures status { (result.status ≡ Status.NoMemory) × (result.line ≡ Line.NoMemory) }
     ensures other { (result.history ≡ []) × (result.reads.items ≡ []) }
@@ -203,15 +203,15 @@ fn out_of_memory(alloc: Global) -> Report
 
 /// A command: all that the program does, whatever works its jobs.
 ///
-/// It reads the words, opens the inputs by number, each with its head, plans by the heads, creates the outputs by number, and runs;
+/// It reads the arguments, opens the inputs by number, each with its head, plans by the heads, creates the outputs by number, and runs;
 /// then it closes the inputs and then the outputs by number, and appends the line of a fault to the log. Where a step is refused,
 /// only the closings and the line still follow, and the first refusal is the status; in the run it is the fault of the first node
 /// that has one. Want of memory may end it at any step. That the run ends isn't claimed.
 ///
-/// Where the words ask for a trace, its file is created behind the outputs, gets the printed history in one append where no node
+/// Where the arguments ask for a trace, its file is created after the outputs, gets the printed history in one append where no node
 /// has a fault, and is closed last.
 ///
-/// Where the words ask for the run over generated input, that job is worked by `own` over a host in memory, nothing of `host` is
+/// Where the arguments ask for the run over generated input, that job is worked by `own` over a host in memory, nothing of `host` is
 /// touched, and the line that tells of its output is appended to the log.
 pub fn run_command<
     H: Host,
@@ -222,8 +222,8 @@ pub fn run_command<
     requires able { P.is_able worker.now }
     requires own { Q.is_able own.now }
 
-    // With status Fine the words ask for a job, and each of its outputs holds the bytes that the job means; or for what an option
-    // says that stands alone, which touches no file. A text that is asked for so is told, or memory ran out.
+    // With status Fine the arguments ask for a job, and each of its outputs holds the bytes that the job means; or for what an option
+    // says that stands alone, which touches no file. A string that is asked for so is told, or memory ran out.
     ensures bytes { result.status ≡ Status.Fine → AsksAlone (texts words.now) ⊎ HoldsMeaning (P.means worker.now) (texts words.now) (H.files host.old) (H.files host.new) }
 
     ensures alone { AsksAlone (texts words.now) → host.new ≡ host.old }
@@ -232,13 +232,13 @@ pub fn run_command<
     // The run over generated input answers as its one job over its own files does; nothing of these fails.
     ensures generated { (seconds : ℕ) → AskGenerated (texts words.now) seconds → IsOwnAnswer (Q.means own.now) seconds result.status }
 
-    // Whatever the status, no other file changes but the trace. Words, heads and plans are refused before any file is created, and a run that
-    // fails later leaves of each output what was there, a front of what is written to it, or all of it.
+    // Whatever the status, no other file changes but the trace. Arguments, heads and plans are refused before any file is created, and a run that
+    // fails later leaves of each output what was there, a prefix of what is written to it, or all of it.
     ensures others { KeepsOtherFiles (texts words.now) (H.files host.old) (H.files host.new) }
     ensures untouched { ComesBeforeOutputs result.status → KeepsFiles (H.files host.old) (H.files host.new) }
     ensures front { HoldsFront (P.means worker.now) (texts words.now) (H.files host.old) (H.files host.new) }
 
-    // The words are refused exactly where they ask for nothing.
+    // The arguments are refused exactly where they ask for nothing.
     ensures words { (w : ℕ) (kind : _) → result.status ≡ Status.Words w kind → AreWrong (texts words.now) (fault w kind) }
     ensures wrong { (f : Fault) → AreWrong (texts words.now) f → (result.status ≡ Status.Words f.word f.kind) ⊎ (result.status ≡ Status.NoMemory) }
 
@@ -288,7 +288,7 @@ pub fn run_command<
     // Whatever the status, each source and each sink that it opened is given back.
     ensures closed { (H.open_sources host.new ≡ H.open_sources host.old) × (H.open_sinks host.new ≡ H.open_sinks host.old) }
 
-    // The text that an option asks for that stands alone, for the run over generated input the line that tells of its output; or the
+    // The string that an option asks for that stands alone, for the run over generated input the line that tells of its output; or the
     // line of a fault. That of a device's names the file.
     ensures line_not_due { (result.line ≡ Line.NotDue) ↔ ((result.status ≡ Status.Fine) × AskFor (texts words.now) (λ job. ⊤)) }
     ensures not_logged { result.line ≡ Line.NotDue → Keeps (E.holds log.old) (E.holds log.new) }
@@ -299,7 +299,7 @@ pub fn run_command<
     ensures line_no_memory { result.line ≡ Line.NoMemory → Keeps (E.holds log.old) (E.holds log.new) }
     ensures fine_line { result.status ≡ Status.Fine → result.line ≢ Line.NoMemory }
 
-    // The history of what the scheduler of the run granted and was told, which the trace holds where the words ask for one.
+    // The history of what the scheduler of the run granted and was told, which the trace holds where the arguments ask for one.
     ensures history { result.status ≡ Status.Fine
         → AsksAlone (texts words.now) ⊎ ReportsHistory (P.means worker.now) (P.tells worker.now) (texts words.now) (H.files host.old) result.history }
     ensures trace { result.status ≡ Status.Fine → AsksAlone (texts words.now) ⊎ HoldsTrace (texts words.now) (H.files host.old) (H.files host.new) result.history }

@@ -1,4 +1,4 @@
-// What is told of the command itself, from the lists by which its words are read.
+//! The strings of `-h` and `-version`, made of the lists by which the command line is read.
 ghost use Rattle.std.specs.Prelude.{◌≡◌, ◌++◌, OnOk, IfOk, ℕ, codes};
 ghost use Rattle.ff_lists.specs.Text.{line};
 ghost use Rattle.ff_words.specs.Table.{lines, formats, names};
@@ -20,7 +20,7 @@ pub static USAGE: [&'static str; 5] = [
     "an input itself; or it stands alone:",
 ];
 
-/// What stands behind the filters.
+/// What stands after the filters.
 pub static STATUSES: [&'static str; 10] = [
     "Statuses, each but 0 with a line that names its cause:",
     "  0  all was done",
@@ -118,7 +118,7 @@ fn push(out: &mut Vec<u8>, text: &str) -> Result<(), AllocError>
     out.extend_from_slice(text.as_bytes())
 }
 
-// A text before blanks that fill so many places.
+// A string before blanks that fill so many places.
 fn push_left(alloc: Global, out: &mut Vec<u8>, width: usize, text: &[u8]) -> Result<(), AllocError>
     ensures { OnOk result (out.new.items ≡ out.old.items ++ left width text.now) }
 {
@@ -243,7 +243,7 @@ fn push_codecs(alloc: Global, out: &mut Vec<u8>, list: &[Codec]) -> Result<(), A
     Ok(())
 }
 
-// The filters that take sound, or those that take pictures, by their names alone.
+// The filters that take audio, or those that take video, by their names alone.
 fn push_filters(
     alloc: Global,
     out: &mut Vec<u8>,

@@ -1,4 +1,4 @@
-// What a report says of the scheduler.
+//! The scheduler's history, as a report has it.
 ghost use Rattle.std.specs.Prelude.{◌≡◌};
 ghost use Rattle.ff_command.specs.Histories.{events_in};
 

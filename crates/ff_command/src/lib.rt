@@ -1,15 +1,15 @@
-//! The command: its words, its meaning, and the call that does all that the program does, whatever works its jobs.
+//! The command: its arguments, its meaning, and the call that does all that the program does, whatever works its jobs.
 //!
 //! ```text
-//! words ──► job ──► inputs opened, heads read ──► planned ──► outputs created ──► run ──► closed ──► status ──► the line of a fault
+//! args  ──► job ──► inputs opened, heads read ──► planned ──► outputs created ──► run ──► closed ──► status ──► the line of a fault
 //!   └─ wrong ────────────┴─ refused ─────────────────┴─ refused ─────┴─ failed ─────┴──────────────────┘
 //! ```
 //!
 //! `specs/Command` says, readable alone, what a command means, when each answer comes, and what stands then; `specs/Texts` has the
 //! lines of faults and the numbers. [`run_command`] is proved to keep to them over any host, any log and any [`Worker`]: what is done
 //! of a job between the opening of its inputs and the closing of its outputs a worker says, and does. The history of a run is
-//! reported, and printed into the file of the trace where the words ask for one. What is told of the command itself, where an option
-//! stands alone, is in `specs/Help`, over the lists by which words are read. The run over generated input (ff_selfrun) is a job like
+//! reported, and printed into the file of the trace where the arguments ask for one. What is told of the command itself, where an option
+//! stands alone, is in `specs/Help`, over the lists by which arguments are read. The run over generated input (ff_selfrun) is a job like
 //! any other, over a host in memory, by a worker of its own.
 #![tactic(auto)]
 

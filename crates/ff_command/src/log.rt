@@ -1,4 +1,4 @@
-// What is logged: the line of a fault, or what is told of the command itself.
+//! The line that is logged: that of a fault, or what is told of the command itself.
 ghost use Rattle.std.specs.Prelude.{◌≡◌, ◌≢◌, ℕ, List, None};
 ghost use Rattle.std.specs.Io.KnownBytes.{Appends, Keeps};
 ghost use Rattle.ff_host.specs.Causes.{Rose};
@@ -11,7 +11,7 @@ use crate::texts::fault_line;
 use ff_host::{Sink, SinkError};
 use std::alloc::Global;
 
-// Appends a text in one append.
+// Appends a string in one append.
 fn log_text<E: Sink>(text: &[u8], log: &mut E) -> Line
     ensures due { result ≢ Line.NotDue }
     ensures whole { result ≡ Line.Whole → Appends (E.holds log.old) (E.holds log.new) text.now }
@@ -45,7 +45,7 @@ fn log_fault<E: Sink>(alloc: Global, status: &Status, name: &str, log: &mut E) -
     log_text(&line, log)
 }
 
-/// Appends a text that is told, or else the line of the fault, if there is one.
+/// Appends a string that is told, or else the line of the fault, if there is one.
 pub(crate) fn log_end<E: Sink>(
     alloc: Global,
     told: &Option<Vec<u8>>,

@@ -1,4 +1,4 @@
-// What a run answers.
+//! The report of a run.
 ghost use Rattle.std.specs.Prelude.{◌≡◌};
 ghost use Rattle.ff_command.specs.Texts.{number_of, exit_number_of};
 
@@ -17,12 +17,12 @@ pub enum FileRef {
     Trace,
 }
 
-/// How a run ended. Words, inputs, outputs and nodes have numbers from 0.
+/// How a run ended. Arguments, inputs, outputs and nodes have numbers from 0.
 #[derive(Debug, Drop)]
 pub enum Status {
     /// All was done.
     Fine,
-    /// The words ask for nothing: what is wrong first, and at which word; it is the number of words where they end too early.
+    /// The arguments ask for nothing: what is wrong first, and at which argument; it is the number of arguments where they end too early.
     Words { word: u32, kind: WordKind },
     /// There is no plan for the heads of the inputs. It isn't for want of memory.
     Plan(PlanError),
@@ -40,14 +40,14 @@ pub enum Status {
     NoMemory,
 }
 
-/// What became of the line of a fault, or of a text that was asked for.
+/// What became of the line of a fault, or of a string that was asked for.
 #[derive(Clone, Copy, Debug, PartialEq, Eq)]
 pub enum Line {
     /// All of a job was done, and there is no line.
     NotDue,
     /// The log gained the line.
     Whole,
-    /// The log failed, and gained a front of the line.
+    /// The log failed, and gained a prefix of the line.
     Failed,
     /// There was no memory for the line, and the log is as it was.
     NoMemory,
@@ -63,7 +63,7 @@ pub struct Report {
     /// For each input the places in `history`, from 0 on, of the grants under which its source tried a packet or found the end, in
     /// order; no list for any other status than `Fine`.
     pub reads: Vec<Vec<u64>>,
-    /// What became of the line of the fault, or of the text that was asked for; with status `Fine` never `NoMemory`.
+    /// What became of the line of the fault, or of the string that was asked for; with status `Fine` never `NoMemory`.
     pub line: Line,
 }
 
@@ -84,7 +84,7 @@ pub fn status_number(status: &Status) -> u8
     }
 }
 
-/// The number that the program ends with: that of the status, or 3 where a text that was asked for couldn't be logged.
+/// The number that the program ends with: that of the status, or 3 where a string that was asked for couldn't be logged.
 pub fn exit_number(report: &Report) -> u8
     ensures { result ≡ exit_number_of report.now.status report.now.line }
 {

@@ -1,4 +1,4 @@
-// A job over its files.
+//! A job over its files.
 ghost use Rattle.std.specs.Prelude.{◌≡◌, IfSome};
 ghost use Rattle.ff_words.specs.Bounds.{IsBounded};
 ghost use Rattle.ff_files.specs.Counts.{counted};

@@ -1,4 +1,4 @@
-// What is wrong, as texts.
+//! The strings that say what is wrong.
 ghost use Rattle.std.specs.Prelude.{◌≡◌, ◌≢◌, ◌++◌, IfOk, codes, decimal, string_bytes};
 ghost use Rattle.ff_lists.specs.Text.{line};
 ghost use Rattle.ff_command.specs.Texts.{word_fault, filter_fault, plan_fault, status_fault, fault_text};
@@ -52,7 +52,7 @@ fn at_offset(alloc: Global, input: u32, what: &str, offset: u64) -> Result<Strin
     format!(in alloc; "input {input}{what}{offset}")
 }
 
-// What is wrong at a word.
+// What is wrong at an argument.
 fn word_text(alloc: Global, kind: WordKind) -> Result<String, AllocError>
     ensures { IfOk result (λ text. string_bytes text ≡ word_fault kind) }
 {

@@ -1,4 +1,4 @@
-// What an option asks for that stands alone: a text of the command itself, or the run over generated input.
+//! The answer to an option that stands alone: a string of the command itself, or the run over generated input.
 ghost use Rattle.std.specs.Prelude.{◌≡◌, ◌≢◌, ◌⊎◌, ◌≤◌, ℕ, List, None, Some, Ok, IfSome, IsSome, codes};
 ghost use Rattle.ff_words.specs.declared.job.Solo.TheVariants.{SelfRun};
 ghost use Rattle.ff_files.specs.Works.{HasLog};
@@ -17,7 +17,7 @@ use ff_selfrun::{own_host, own_job, own_line};
 use ff_words::Solo;
 use std::alloc::{AllocError, Global};
 
-/// How it ended, the text that is told where it is fine, and what the run has logged, where there was one.
+/// How it ended, the string that is told where it is fine, and what the run has logged, where there was one.
 #[derive(Drop)]
 pub(crate) struct Told {
     pub(crate) status: Status,
@@ -25,7 +25,7 @@ pub(crate) struct Told {
     pub(crate) run: Option<RunLog>,
 }
 
-// A text, where there was memory for it.
+// A string, where there was memory for it.
 fn told_text(text: Result<Vec<u8>, AllocError>, run: Option<RunLog>) -> Told
     ensures told { IfSome result.text (λ t. (text ≡ Ok t) × (result.status ≡ Status.Fine)) }
     ensures status { (result.status ≡ Status.Fine) ⊎ (result.status ≡ Status.NoMemory) }

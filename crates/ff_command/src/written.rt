@@ -1,4 +1,4 @@
-// The files that a job writes: its outputs, and behind them its trace.
+//! The files that a job writes: its outputs, and after them its trace.
 ghost use Rattle.std.specs.Prelude.{◌≡◌, IfOk};
 ghost use Rattle.ff_files.specs.Names.{names_of};
 ghost use Rattle.ff_words.specs.Words.{written};

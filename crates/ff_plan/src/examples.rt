@@ -1,4 +1,4 @@
-// Plans of some commands, by computation.
+//! Plans of some commands, by computation.
 ghost use Rattle.std.specs.Prelude.{◌≡◌, true, false, [], ◌∷◌, codes, Some, None, Ok, Err};
 ghost use Rattle.ff_time.specs.Fraction.{Fraction};
 ghost use Rattle.ff_format.specs.declared.format.FileFormat.TheVariants as format;
@@ -23,14 +23,14 @@ pub fn missing_stream()
         ((pictures t ∷ []) ∷ []) ≡ Err (fault.Takes 0 1) }
 {}
 
-/// A sound and pictures of two inputs into one output.
+/// Audio and video of two inputs into one output.
 pub fn two_streams()
     ensures { (c : TimeCut) (t u : Fraction)
         → planned (example_rules None None kind.Video (pictures u)) (example_job c [] format.FrameHash (map_in 0 kind.Audio ∷ map_in 1 kind.Video ∷ []))
         ((sound t 1 ∷ []) ∷ (pictures u ∷ []) ∷ []) ≡ Ok (two_plan (sound t 1) (pictures u)) }
 {}
 
-/// A complex graph for the pictures, none for the sound.
+/// A complex graph for the video, none for the audio.
 pub fn trimmed_pictures()
     ensures made { (c : TimeCut) (t u : Fraction)
         → planned (example_rules (Some (codes "1:v")) (Some (codes "v")) kind.Video (pictures u)) (example_job c (trim_graph ∷ []) format.FrameHash

@@ -1,4 +1,4 @@
-// The numbers of nodes, by the first one of each kind.
+//! The numbers of nodes, by the first one of each kind.
 ghost use Rattle.std.specs.Prelude.{◌≡◌, ◌^◌, ◌<◌, ◌≤◌, ◌==◌, length};
 ghost use Rattle.std.specs.List.{position_or_len};
 ghost use Rattle.ff_map.specs.declared.streams.Stream.{Stream};
@@ -10,7 +10,7 @@ ghost use Rattle.ff_plan.specs.Numbering.{dec_in, graph_in, origin_in, IsLow, de
 use ff_map::{Stream, StreamRef};
 use ff_plan_layout::{Laid, Origin, same_ref};
 
-/// The number of the first node of each kind behind the Demux nodes.
+/// The number of the first node of each kind after the Demux nodes.
 #[derive(Clone, Copy)]
 pub(crate) struct Firsts {
     pub(crate) decs: u32,

@@ -1,4 +1,4 @@
-// What holds of plans with graphs.
+//! Laws of plans with graphs. Each is a function that does nothing: its clauses hold of all values.
 ghost use Rattle.std.specs.Prelude.{◌≡◌, ◌≤◌, List, length, Ok};
 ghost use Rattle.ff_stream.specs.edges.Ports.{shape_of, IsFed};
 ghost use Rattle.ff_plan.specs.EndFits.{EndsFit};
@@ -44,7 +44,7 @@ pub fn graph_plans_are_fed()
     orders_are_whole();
 }
 
-/// The rules make each graph of its text with the heads that enter its node, and frames of what they make leave it.
+/// The rules make each graph of its string with the heads that enter its node, and frames of what they make leave it.
 pub fn graphs_fit()
     ensures { (rules : Rules) (job : Job) (heads : List (List StreamHead)) (p : Plan) → AreRules rules → 1 ≤ length job.outputs
         → planned rules job heads ≡ Ok p → GraphsFit rules job p }

@@ -1,4 +1,4 @@
-// What holds of the edges of every plan.
+//! Laws of the edges of every plan. Each is a function that does nothing: its clauses hold of all values.
 ghost use Rattle.std.specs.Prelude.{◌≡◌, ℕ, ◌<◌, ◌≤◌, Bool, List, length, slice_get, Some, Ok};
 ghost use Rattle.std.specs.List.{AllByRecursion};
 ghost use Rattle.ff_map.specs.Choice.{AreBest};

@@ -1,4 +1,4 @@
-// The streams of outputs in their places, and the nodes.
+//! The streams of outputs in their places, and the nodes.
 ghost use Rattle.std.specs.Prelude.{◌≡◌, ◌+◌, ◌^◌, ◌<◌, ◌≤◌, ◌++◌, IfOk, OnOk, vec_len, length, map};
 ghost use Rattle.std.specs.List.{AllByRecursion, range_with_len};
 ghost use Rattle.ff_map.specs.declared.streams.Stream.{Stream};

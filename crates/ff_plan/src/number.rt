@@ -1,4 +1,4 @@
-// Numbers of ports.
+//! The numbers of ports.
 ghost use Rattle.std.specs.Prelude.{◌≡◌, ◌<◌, ◌==◌, ◌^◌, length, IfOk};
 ghost use Rattle.ff_stream.specs.declared.edges.edge.Edge.{Edge};
 ghost use Rattle.ff_plan.specs.Wires.{edges_of};

@@ -1,4 +1,4 @@
-// From what a plan is made of to the plan.
+//! The plan made of a layout, by numbering its nodes.
 ghost use Rattle.std.specs.Prelude.{◌≡◌, ◌≤◌, IfOk, length, vec_len};
 ghost use Rattle.std.specs.List.{AllByRecursion};
 ghost use Rattle.ff_map.specs.Choice.{lists};
@@ -32,7 +32,7 @@ pub(crate) struct Drawing {
     edges: Sequence<Edge>,
 }
 
-// The first numbers behind so many nodes of each kind.
+// The first numbers after so many nodes of each kind.
 fn first_numbers(
     inputs: usize,
     streams: usize,

@@ -1,4 +1,4 @@
-// Where inputs of graphs and streams of outputs come from, and the streams and inputs that are used.
+//! The origins of graph inputs and output streams, and the streams and inputs that are used.
 ghost use Rattle.std.specs.Prelude.{◌≡◌, ◌^◌, ◌<◌, ◌++◌, ◌∷◌, [], IfOk, OnOk, vec_len, length, map};
 ghost use Rattle.std.specs.List.{AllByRecursion, filter, flat_map, list_any, range_with_len};
 ghost use Rattle.ff_map.specs.Choice.{lists, all_streams, streams_of};

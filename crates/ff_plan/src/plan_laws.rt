@@ -1,4 +1,4 @@
-// What holds of every plan.
+//! Laws of every plan. Each is a function that does nothing: its clauses hold of all values.
 ghost use Rattle.std.specs.Prelude.{◌≡◌, ◌≤◌, ℕ, List, length, Ok, Err};
 ghost use Rattle.std.specs.List.{AllByRecursion};
 ghost use Rattle.ff_plan_layout.specs.Graphs.{AreRules};

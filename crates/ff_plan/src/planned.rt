@@ -1,3 +1,4 @@
+//! Plans as values.
 use ff_lang::Sequence;
 use ff_map::StreamRef;
 use ff_plan_layout::GraphText;
@@ -21,7 +22,7 @@ pub enum PlanNode {
     Mux { output: u32 },
 }
 
-/// The nodes of a run, the edges between them, how the output streams hang on the sources, and by number where the text of each
+/// The nodes of a run, the edges between them, how the output streams hang on the sources, and by number where the string of each
 /// graph stands.
 #[derive(Debug, Drop)]
 pub struct Plan {

@@ -1,3 +1,4 @@
+//! The planner of a job.
 ghost use Rattle.std.specs.Prelude.{◌≡◌, Ok, IfOk, IfErr};
 ghost use Rattle.ff_map.specs.Choice.{lists};
 ghost use Rattle.ff_plan_layout.specs.Limits.{IsWithinLimits};

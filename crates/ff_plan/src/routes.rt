@@ -1,4 +1,4 @@
-// The ways of streams and of graphs.
+//! The routes of output streams and graphs.
 ghost use Rattle.std.specs.Prelude.{◌≡◌, ◌==◌, ◌^◌, ◌<◌, IfOk, length, map};
 ghost use Rattle.std.specs.List.{find, range_with_len};
 ghost use Rattle.ff_plan_layout.specs.declared.layout.InPad.{InPad};

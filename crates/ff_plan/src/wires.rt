@@ -1,4 +1,4 @@
-// The wires between the nodes.
+//! The wires between the nodes.
 ghost use Rattle.std.specs.Prelude.{◌≡◌, ◌^◌, ◌<◌, ◌≤◌, ◌++◌, ◌∷◌, [], IfOk, OnOk, length, map};
 ghost use Rattle.std.specs.List.{AllByRecursion, flat_map};
 ghost use Rattle.ff_plan.specs.Numbering.{wire_of, demux_wire_in, pad_wire_in, pad_wires_in, shortest_wire_in};

@@ -1,4 +1,4 @@
-// The streams of inputs that an output asks for, and the refusal of a label.
+//! The input streams that an output asks for, and the refusal of a label.
 ghost use Rattle.std.specs.Prelude.{◌≡◌, ◌⊎◌, ◌++◌, ◌∷◌, [], OnOk, IfOk, map};
 ghost use Rattle.std.specs.List.{cons_option, filter};
 ghost use Rattle.ff_map.specs.Choice.{lists};

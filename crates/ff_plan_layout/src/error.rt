@@ -1,3 +1,4 @@
+//! The reasons why there is no plan.
 ghost use Rattle.std.specs.Prelude.{◌≡◌};
 ghost use Rattle.ff_plan_layout.specs.declared.error.PlanError.TheVariants.{NoMemory};
 

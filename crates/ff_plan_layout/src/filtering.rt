@@ -1,3 +1,4 @@
+//! The trait of what a plan asks of filters and maps.
 use crate::open_pads::{OpenIn, OpenOut, Refused};
 use ff_frame::StreamHead;
 use ff_lang::{Graph, Sequence};
@@ -36,7 +37,7 @@ pub trait Filtering {
         ensures pads { IfOk result (λ outs. outs ≡ (rules self.now).configured graph.now heads.now) }
         ensures few { IfOk result (λ outs. IfOk outs (λ pads. length pads ≤ 2 ^ 20)) };
 
-    /// The map that a text is, if it is one.
+    /// The map that a string is, if it is one.
     fn map_of(&self, alloc: Global, text: &str) -> Result<Option<MapSpec>, AllocError>
         ensures { IfOk result (λ map. map ≡ (rules self.now).map_of text.now) };
 }

@@ -1,4 +1,4 @@
-// The stream that a label names.
+//! The stream that a label names.
 ghost use Rattle.std.specs.Prelude.{◌≡◌, ◌^◌, ◌<◌, Some, IfOk, vec_len, length};
 ghost use Rattle.std.specs.List.{AllByRecursion};
 ghost use Rattle.ff_map.specs.Choice.{lists};

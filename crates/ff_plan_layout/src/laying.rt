@@ -1,4 +1,4 @@
-// What a plan is made of: graphs, streams of outputs, texts.
+//! The layout of a plan: graphs, streams of outputs, and where the strings of graphs stand.
 ghost use Rattle.std.specs.Prelude.{◌≡◌, ◌^◌, ◌<◌, ◌≤◌, ◌++◌, ◌∷◌, [], List, Ok, IfOk, IfErr, OnOk, vec_len, length, map};
 ghost use Rattle.std.specs.List.{AllByRecursion, cons_option, flat_map, range_with_len};
 ghost use Rattle.ff_map.specs.Choice.{lists};
@@ -54,7 +54,7 @@ fn add_texts_of(
     Ok(())
 }
 
-// The texts of the simple graphs of an output.
+// The strings of the simple graphs of an output.
 fn add_texts(
     texts: &mut Vec<GraphText>,
     output: u32,
@@ -88,7 +88,7 @@ fn complex_texts(alloc: Global, graphs: u32) -> Result<Vec<GraphText>, AllocErro
     Ok(texts)
 }
 
-// Where the text of each graph stands, with so many complex ones.
+// Where the string of each graph stands, with so many complex ones.
 fn all_texts(
     alloc: Global,
     graphs: u32,
@@ -178,7 +178,7 @@ fn laid_apart(
     })
 }
 
-// The streams of the outputs, behind these complex graphs.
+// The streams of the outputs, after these complex graphs.
 fn rows_behind<F: Filtering>(
     alloc: Global,
     filtering: &F,
@@ -208,7 +208,7 @@ fn rows_behind<F: Filtering>(
     output_rows(alloc, filtering, &ready, outs, pads.as_slice())
 }
 
-/// The graphs of a job, the streams of its outputs and the texts of all graphs, or the refusal that comes first: of names and labels
+/// The graphs of a job, the streams of its outputs and the strings of all graphs, or the refusal that comes first: of names and labels
 /// of complex graphs, of loops, of their heads, of each output in turn, of labels that nothing uses, of too many streams or graphs.
 /// `NoMemory` may come in place of any answer.
 pub fn lay_out<F: Filtering>(

@@ -1,3 +1,4 @@
+//! Layouts as values.
 use crate::open_pads::OpenOut;
 use ff_frame::StreamHead;
 use ff_lang::{Sequence, Text};
@@ -64,7 +65,7 @@ pub struct Passed {
     pub graph: Option<Laid>,
 }
 
-/// Where the text of a graph stands.
+/// Where the string of a graph stands.
 #[derive(Clone, Copy, Debug, PartialEq, Eq)]
 pub enum GraphText {
     /// The job's complex graph of this number.
@@ -75,7 +76,7 @@ pub enum GraphText {
     Null { kind: Kind },
 }
 
-/// What a plan is made of, before its nodes are numbered: graphs in the order of their nodes, streams by output, and by number where the text of each graph stands.
+/// What a plan is made of, before its nodes are numbered: graphs in the order of their nodes, streams by output, and by number where the string of each graph stands.
 #[derive(Drop)]
 pub struct Laying {
     pub graphs: Vec<Laid>,

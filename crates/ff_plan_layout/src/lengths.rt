@@ -1,4 +1,4 @@
-// Whether graphs are short.
+//! The check whether graphs are short.
 ghost use Rattle.std.specs.Prelude.{◌≡◌, true, false, List};
 ghost use Rattle.std.specs.List.{AllByRecursion};
 ghost use Rattle.ff_plan_layout.specs.Limits.{IsShort, IsShortIfSome, HasShortGraphs};
@@ -6,7 +6,7 @@ ghost use Rattle.ff_plan_layout.specs.Limits.{IsShort, IsShortIfSome, HasShortGr
 use ff_lang::Graph;
 use ff_words::OutputJob;
 
-// How many filters a graph may have: its text has no more bytes.
+// How many filters a graph may have: its string has no more bytes.
 const MOST: usize = 65_536;
 
 fn is_short(graph: &Graph) -> bool

@@ -1,7 +1,7 @@
 //! The layout of a job: which streams each output has, through which graphs they pass, and what each graph takes.
 //!
 //! ```text
-//! job, heads ─► complex graphs ─► streams by output ─► simple graphs, texts ─► limits
+//! job, heads ─► complex graphs ─► streams by output ─► simple graphs, strings ─► limits
 //! ```
 //!
 //! `laid_out` of `specs/LaidOut` says which layout a job has with the heads of its inputs, or which refusal: first what the complex

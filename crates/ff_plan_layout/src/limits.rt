@@ -1,4 +1,4 @@
-// The limits within which jobs are planned.
+//! The limits within which jobs are planned.
 ghost use Rattle.std.specs.Prelude.{◌≡◌, ◌≤◌, true, false, length};
 ghost use Rattle.std.specs.List.{AllByRecursion};
 ghost use Rattle.ff_map.specs.Choice.{lists};

@@ -1,4 +1,4 @@
-// The complex graphs with the heads that their filters give, in the order of their nodes.
+//! The complex graphs with the heads that their filters give, in the order of their nodes.
 ghost use Rattle.std.specs.Prelude.{◌≡◌, ◌^◌, ◌<◌, ◌≤◌, ◌++◌, ◌∷◌, [], Some, Ok, IfOk, IfErr, OnOk, vec_len, length, map, slice_index_or, slice_get};
 ghost use Rattle.std.specs.List.{AllByRecursion, filter_map, range_with_len};
 ghost use Rattle.ff_map.specs.Choice.{lists};
@@ -160,7 +160,7 @@ fn row_of(wants: &[Sequence<Want>], number: u32) -> &[Want]
     }
 }
 
-// The graph of this number, behind those that were made.
+// The graph of this number, after those that were made.
 fn configure<F: Filtering>(
     alloc: Global,
     filtering: &F,

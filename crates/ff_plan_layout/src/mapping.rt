@@ -1,4 +1,4 @@
-// The first label of a job's graphs that nothing uses.
+//! The first label of a job's graphs that nothing uses.
 ghost use Rattle.std.specs.Prelude.{◌≡◌, ◌⊎◌, ◌++◌, None, IfOk, IfErr};
 ghost use Rattle.std.specs.List.{find, flat_map};
 ghost use Rattle.ff_graph_links.specs.labels.Labels.{is_one_of};

@@ -1,4 +1,4 @@
-// The names and labels of a job's complex graphs, their loops, and the first label that nothing uses.
+//! The names and labels of a job's complex graphs, their loops, and the first label that nothing uses.
 ghost use Rattle.std.specs.Prelude.{◌≡◌, ◌+◌, ◌^◌, ◌<◌, ◌≤◌, ◌++◌, None, is_some, not, IfOk, IfErr, vec_len, length, map};
 ghost use Rattle.std.proofs.Props.{props};
 ghost use Rattle.std.specs.List.{AllByRecursion};

@@ -1,3 +1,4 @@
+//! The open pads of a graph, and the refusal of a filter.
 use ff_frame::{ConfigError, StreamHead};
 use ff_lang::Text;
 use ff_map::Kind;

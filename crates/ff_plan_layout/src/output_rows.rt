@@ -1,4 +1,4 @@
-// The streams of all outputs with their simple graphs, and how many there may be.
+//! The streams of all outputs with their simple graphs, and how many there may be.
 ghost use Rattle.std.specs.Prelude.{◌≡◌, ◌+◌, ◌^◌, ◌<◌, ◌≤◌, ◌++◌, ◌∷◌, [], List, None, Ok, IfOk, IfErr, OnOk, vec_len, length};
 ghost use Rattle.std.specs.List.{AllByRecursion, flat_map};
 ghost use Rattle.ff_plan_layout.specs.Labels.{taken_labels};

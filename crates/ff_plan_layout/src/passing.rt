@@ -1,4 +1,4 @@
-// A stream of an output through its simple graph, or past all graphs.
+//! A stream of an output, through its simple graph or past all graphs.
 ghost use Rattle.std.specs.Prelude.{◌≡◌, ◌+◌, ◌^◌, ◌<◌, ◌≤◌, ◌==◌, ◌++◌, ◌∷◌, [], None, Ok, IfOk, IfErr, OnOk, not, length, vec_len, false};
 ghost use Rattle.ff_graph_links.specs.labels.Labels.{filters_of};
 ghost use Rattle.ff_graph_links.specs.labels.Names.{twice_in, unknown_filter};

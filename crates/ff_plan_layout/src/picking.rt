@@ -1,4 +1,4 @@
-// The streams of an output before its codecs, with the pads of complex graphs.
+//! The streams of an output before its codecs, with the pads of complex graphs.
 ghost use Rattle.std.specs.Prelude.{◌≡◌, ◌⊎◌, ◌^◌, ◌<◌, [], IfOk, IfErr, Ok, length};
 ghost use Rattle.ff_plan_layout.specs.Labels.{giver as number_of_giver, is_given as seems_given};
 ghost use Rattle.ff_plan_layout.specs.Refusals.{IsRefused};
@@ -71,7 +71,7 @@ fn labelled(
     Ok(at_most_one(alloc, pad_given(ready, label.as_str()))?)
 }
 
-// The streams of one map, behind earlier outputs and maps.
+// The streams of one map, after earlier outputs and maps.
 fn mapped(
     alloc: Global,
     ready: &Ready<'_>,
@@ -165,7 +165,7 @@ fn asked(
     }
 }
 
-/// The streams of an output behind earlier ones: those of unlabelled pads that it gets, then those of its maps, or the automatic
+/// The streams of an output after earlier ones: those of unlabelled pads that it gets, then those of its maps, or the automatic
 /// choice.
 pub(crate) fn chosen(
     alloc: Global,

@@ -1,4 +1,4 @@
-// Places of streams of inputs.
+//! The places of input streams.
 ghost use Rattle.std.specs.Prelude.{◌≡◌};
 ghost use Rattle.ff_map.specs.Choice.{stream_at as the_stream_at};
 ghost use Rattle.ff_plan_layout.specs.Layout.{same_ref as are_same};

@@ -1,4 +1,4 @@
-// What stands before the outputs of a job.
+//! The heads and graphs that are ready before the outputs of a job.
 ghost use Rattle.std.specs.Prelude.{◌^◌, ◌<◌, ◌≤◌, vec_len, length};
 ghost use Rattle.std.proofs.Props.{props};
 ghost use Rattle.std.specs.List.{AllByRecursion};

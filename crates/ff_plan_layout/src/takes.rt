@@ -1,4 +1,4 @@
-// What a format takes, and what becomes of a head.
+//! The streams that a format takes, and the codecs that it gives them.
 ghost use Rattle.std.specs.Prelude.{◌≡◌, ◌<◌, ◌≤◌, true};
 ghost use Rattle.std.specs.List.{list_any};
 ghost use Rattle.ff_map.specs.Choice.{has_kind};
@@ -73,7 +73,7 @@ fn codec_given(default: Codec, given: Option<Codec>) -> Codec
     }
 }
 
-// The codec of the sound of an output.
+// The audio codec of an output.
 fn audio_codec(out: &OutputJob) -> Codec
     ensures { result ≡ codec_of_sound out.now out.now.format }
 {
@@ -115,7 +115,7 @@ pub(crate) fn packed_as(out: &OutputJob, head: StreamHead) -> StreamHead
     }
 }
 
-// Whether a format takes such sound.
+// Whether a format takes such audio.
 fn takes_sound(format: FileFormat, codec: Codec, rate: u32) -> bool
     ensures { result ≡ sound_taken format codec rate }
 {

@@ -1,4 +1,4 @@
-// Which stream each open input pad of the complex graphs gets.
+//! The stream that each open input pad of the complex graphs gets.
 ghost use Rattle.std.specs.Prelude.{◌≡◌, ◌^◌, ◌<◌, ◌≤◌, ◌++◌, [], IfOk, vec_len, length};
 ghost use Rattle.std.specs.List.{AllByRecursion, find};
 ghost use Rattle.ff_map.specs.Choice.{lists, streams_of, all_streams, has_kind};
@@ -157,7 +157,7 @@ fn labelled_want<F: Filtering>(
     }
 }
 
-// What an open input pad gets, behind those of earlier graphs and of this one.
+// What an open input pad gets, after those of earlier graphs and of this one.
 fn want_of<F: Filtering>(
     alloc: Global,
     filtering: &F,
@@ -179,7 +179,7 @@ fn want_of<F: Filtering>(
     }
 }
 
-// What the open input pads of a graph get, behind those of earlier graphs.
+// What the open input pads of a graph get, after those of earlier graphs.
 fn wants_of<F: Filtering>(
     alloc: Global,
     filtering: &F,

@@ -1,7 +1,7 @@
 //! The call that does all that the program does, for any command.
 //!
 //! ```text
-//! words, files ──► ff_command: read, opened, closed, answered
+//! args, files  ──► ff_command: read, opened, closed, answered
 //!                       └─ Threaded: planned (ff_plan), built (ff_run), run in threads and gathered (ff_run_plan)
 //! ```
 //!

@@ -1,4 +1,4 @@
-// A command: from the words and the files to the files, the log and the report.
+//! The command: from the arguments and the files to the files, the log and the report.
 ghost use denote.Param.Send.{IsSync};
 ghost use Rattle.std.specs.Prelude.{◌≡◌, ◌≢◌, ◌⊎◌, ◌↔◌, [], ℕ, List, ⊤};
 ghost use Rattle.std.specs.Io.KnownBytes.{Appends, Keeps};
@@ -56,13 +56,13 @@ fn run_parts<R: Threads + Wait + Sync, Src: Source + Send + Drop, Snk: Sink + Se
 
 /// The command: all that the program does.
 ///
-/// It reads the words, opens the inputs by number, each with its head, plans by the heads, creates the outputs by number, and runs
+/// It reads the arguments, opens the inputs by number, each with its head, plans by the heads, creates the outputs by number, and runs
 /// the plan's nodes, each in a thread of its own, until all are done; then it closes the inputs and then the outputs by number, and
 /// appends the line of a fault to the log. Where a step is refused, only the closings and the line still follow, and the first
 /// refusal is the status; in the run it is the fault of the first node that has one. Want of memory may end it at any step. That
 /// the run ends isn't claimed.
 ///
-/// Where the words ask for a trace, its file is created behind the outputs, gets the printed history in one append where no node
+/// Where the arguments ask for a trace, its file is created after the outputs, gets the printed history in one append where no node
 /// has a fault, and is closed last.
 pub fn ffmpeg<R: Threads + Wait + Sync, H: Host, E: Sink>(
     rt: &R,
@@ -71,8 +71,8 @@ pub fn ffmpeg<R: Threads + Wait + Sync, H: Host, E: Sink>(
     host: &mut H,
     log: &mut E,
 ) -> Report
-    // With status Fine the words ask for a job, and each of its outputs holds the bytes that the job means; or for what an option
-    // says that stands alone, which touches no file. A text that is asked for so is told, or memory ran out.
+    // With status Fine the arguments ask for a job, and each of its outputs holds the bytes that the job means; or for what an option
+    // says that stands alone, which touches no file. A string that is asked for so is told, or memory ran out.
     ensures bytes { result.status ≡ Status.Fine → AsksAlone (texts words.now) ⊎ HoldsMeaning job_means (texts words.now) (H.files host.old) (H.files host.new) }
 
     ensures alone { AsksAlone (texts words.now) → host.new ≡ host.old }
@@ -81,13 +81,13 @@ pub fn ffmpeg<R: Threads + Wait + Sync, H: Host, E: Sink>(
     // The run over generated input answers as its one job over its own files does; nothing of these fails.
     ensures generated { (seconds : ℕ) → AskGenerated (texts words.now) seconds → IsOwnAnswer job_means seconds result.status }
 
-    // Whatever the status, no other file changes but the trace. Words, heads and plans are refused before any file is created, and a run that
-    // fails later leaves of each output what was there, a front of what is written to it, or all of it.
+    // Whatever the status, no other file changes but the trace. Arguments, heads and plans are refused before any file is created, and a run that
+    // fails later leaves of each output what was there, a prefix of what is written to it, or all of it.
     ensures others { KeepsOtherFiles (texts words.now) (H.files host.old) (H.files host.new) }
     ensures untouched { ComesBeforeOutputs result.status → KeepsFiles (H.files host.old) (H.files host.new) }
     ensures front { HoldsFront job_means (texts words.now) (H.files host.old) (H.files host.new) }
 
-    // The words are refused exactly where they ask for nothing.
+    // The arguments are refused exactly where they ask for nothing.
     ensures words { (w : ℕ) (kind : _) → result.status ≡ Status.Words w kind → AreWrong (texts words.now) (fault w kind) }
     ensures wrong { (f : Fault) → AreWrong (texts words.now) f → (result.status ≡ Status.Words f.word f.kind) ⊎ (result.status ≡ Status.NoMemory) }
 
@@ -138,7 +138,7 @@ pub fn ffmpeg<R: Threads + Wait + Sync, H: Host, E: Sink>(
     // Whatever the status, each source and each sink that it opened is given back.
     ensures closed { (H.open_sources host.new ≡ H.open_sources host.old) × (H.open_sinks host.new ≡ H.open_sinks host.old) }
 
-    // The text that an option asks for that stands alone, for the run over generated input the line that tells of its output; or the
+    // The string that an option asks for that stands alone, for the run over generated input the line that tells of its output; or the
     // line of a fault. That of a device's names the file.
     ensures line_not_due { (result.line ≡ Line.NotDue) ↔ ((result.status ≡ Status.Fine) × AskFor (texts words.now) (λ job. ⊤)) }
     ensures not_logged { result.line ≡ Line.NotDue → Keeps (E.holds log.old) (E.holds log.new) }
@@ -150,8 +150,8 @@ pub fn ffmpeg<R: Threads + Wait + Sync, H: Host, E: Sink>(
     ensures fine_line { result.status ≡ Status.Fine → result.line ≢ Line.NoMemory }
 
     // The history of what the scheduler of the run granted and was told, from the opening state of the plan on, which the trace
-    // holds where the words ask for one: legal, and where the files are told with the times of each output's packets and then its
-    // end, and with the exit of each input that is read, behind all its grants.
+    // holds where the arguments ask for one: legal, and where the files are told with the times of each output's packets and then its
+    // end, and with the exit of each input that is read, after all its grants.
     ensures history { result.status ≡ Status.Fine → AsksAlone (texts words.now) ⊎ ReportsHistory job_means IsJobHistory (texts words.now) (H.files host.old) result.history }
     ensures trace { result.status ≡ Status.Fine → AsksAlone (texts words.now) ⊎ HoldsTrace (texts words.now) (H.files host.old) (H.files host.new) result.history }
     ensures no_history { result.status ≢ Status.Fine → result.history ≡ [] }

@@ -1,4 +1,4 @@
-// How jobs are worked: planned, and run in threads over parts of any format.
+//! The worker of jobs, which plans them and runs them in threads.
 ghost use Rattle.std.specs.Prelude.{◌≡◌, ℕ, List, length, Option, Some, None, IfOk, IfSome, IfErr, OnOk};
 ghost use Rattle.ff_run.specs.build.Parts.{all_kinds};
 ghost use Rattle.ff_command.specs.Histories.{LogHas};

@@ -1,4 +1,4 @@
-// The part of each node of a plan.
+//! The part of each node of a plan.
 ghost use Rattle.std.specs.Prelude.{◌≡◌, ◌+◌, ◌^◌, ◌<◌, ◌≤◌, ℕ, List, [], length, map, slice_get, vec_capacity, Option, Some, None, IfSome, IsNone, IfOk, IfErr};
 ghost use Rattle.ff_stream.specs.declared.item.Lane.{Lane};
 ghost use Rattle.ff_stream.specs.declared.item.Lane.TheVariants.{Packets};
@@ -99,7 +99,7 @@ fn muxer_at<
     }
 }
 
-// The part of a node with these lanes at its inputs and outputs, whose first output stream has this number, with these cuts behind its
+// The part of a node with these lanes at its inputs and outputs, whose first output stream has this number, with these cuts after its
 // outputs. None where memory is refused; then all is in its place.
 fn part_at<
     K: Kinds<Src, Snk, M>,
@@ -224,7 +224,7 @@ fn part_of<
     )
 }
 
-/// The parts of all nodes, told of each other along the edges, or where memory is refused those of the nodes in front, at most of all.
+/// The parts of all nodes, told of each other along the edges, or where memory is refused those of the nodes before that, at most of all.
 pub(crate) fn build<
     K: Kinds<Src, Snk, M>,
     Src: Source + Send + Drop,

@@ -1,4 +1,4 @@
-// The parts of a plan, told of each other.
+//! The parts of a plan, told of each other.
 ghost use Rattle.std.specs.Prelude.{◌≡◌};
 
 use crate::kinds::Kinds;
@@ -7,7 +7,7 @@ use ff_net::Machine;
 use ff_stream::Edge;
 use std::alloc::{AllocError, Global};
 
-// The part that gives along an edge and the part that takes are told of each other. An edge that doesn't lead from a part to one behind
+// The part that gives along an edge and the part that takes are told of each other. An edge that doesn't lead from a part to one after
 // it is passed over.
 fn connect_ends<
     K: Kinds<Src, Snk, M>,

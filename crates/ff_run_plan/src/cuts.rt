@@ -1,4 +1,4 @@
-// The cuts of what decoders and graphs give.
+//! The cuts of what decoders and graphs give.
 ghost use Rattle.std.specs.Prelude.{◌≡◌, IfOk, Some, slice_get};
 ghost use Rattle.std.specs.List.{filter_map};
 ghost use Rattle.ff_run_plan.specs.Cuts.{uncut as uncut_time, input_cut as input_cut_of, output_cut as output_cut_of};

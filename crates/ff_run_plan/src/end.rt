@@ -1,4 +1,4 @@
-// The end of a run by the fault that is reported.
+//! The end of a run by the fault that is reported.
 ghost use Rattle.std.specs.Prelude.{◌≡◌, ◌<◌, ◌^◌, length};
 ghost use Rattle.ff_run_plan.specs.Meaning.{read_before as read_before_of};
 ghost use Rattle.ff_run_plan.specs.Runs.{device_end as device_end_of, damaged_end as damaged_end_of, large_end as large_end_of, end_at as end_at_of, end_with as end_with_of};

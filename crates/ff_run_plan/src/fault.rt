@@ -1,3 +1,5 @@
+//! The faults that end a run.
+
 /// What of the inputs' bytes ends a run. Inputs, outputs and nodes have numbers from 0.
 #[derive(Clone, Copy, Debug, PartialEq, Eq)]
 pub enum RunFault {

@@ -1,4 +1,4 @@
-// What the parts of a plan's nodes give back.
+//! The sources and sinks that the parts of a plan's nodes give back.
 ghost use Rattle.std.specs.Prelude.{◌≡◌, ◌<◌, ◌≤◌, ℕ, List, [], length, slice_get, Option, Some};
 ghost use Rattle.ff_plan.specs.declared.planned.PlanNode.{PlanNode};
 ghost use Rattle.ff_plan.specs.declared.planned.PlanNode.TheVariants.{Demux as DemuxNode, Mux as MuxNode};

@@ -1,4 +1,4 @@
-// The parts of graphs and of Shortest nodes.
+//! The parts of graphs and of Shortest nodes.
 ghost use Rattle.std.specs.Prelude.{◌≡◌, ◌<◌, List, length, map, slice_get, None, Some, IfOk, IfSome};
 ghost use Rattle.ff_stream.specs.declared.item.Lane.TheVariants.{Frames};
 ghost use Rattle.ff_lang.specs.declared.graph.Graph.{Graph};
@@ -51,7 +51,7 @@ fn simple_text(out: &OutputJob, kind: Kind) -> &Option<Graph>
     }
 }
 
-// The graph of this number, whose text stands there.
+// The graph of this number, whose string stands there.
 fn graph_by<
     K: Kinds<Src, Snk, M>,
     Src: Source + Send + Drop,
@@ -90,7 +90,7 @@ fn graph_by<
     }
 }
 
-/// The graph of this number, by the places where the texts of all graphs stand.
+/// The graph of this number, by the places where the strings of all graphs stand.
 pub(crate) fn graph_at<
     K: Kinds<Src, Snk, M>,
     Src: Source + Send + Drop,

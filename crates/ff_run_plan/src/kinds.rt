@@ -1,4 +1,4 @@
-// The kinds of node of a plan.
+//! The trait of the kinds of node of a plan.
 ghost use Rattle.std.specs.Prelude.{◌≡◌, ◌≢◌, ◌≤◌, ◌+◌, ◌^◌, ℕ, true, List, [], ◌∷◌, length, map, Option, Some, None, Ok, IfOk, IfErr, replicate};
 ghost use Rattle.ff_stream.specs.declared.item.Lane.TheVariants.{Frames, Packets};
 ghost use Rattle.ff_stream.specs.Ports.{AllBelow};
@@ -80,7 +80,7 @@ pub trait Kinds<Src: Source + Send + Drop, Snk: Sink + Send + Drop, Part: Machin
         ensures new { IfOk result (λ m. IsNew None (Packets head.now ∷ []) (replicate outputs (Frames head.now)) None 0 (Part.view m)) }
         ensures starts { IfOk result (λ m. (Part.view m).stands (start (is.dec_task head.now cut outputs))) };
 
-    /// Filters frames of these heads, by the text of the graph of this number, and cuts what each of its outputs gives.
+    /// Filters frames of these heads, by the string of the graph of this number, and cuts what each of its outputs gives.
     fn graph(
         alloc: Global,
         number: u32,

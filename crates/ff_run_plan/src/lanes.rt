@@ -1,4 +1,4 @@
-// The lanes at the ports of a node.
+//! The lanes at the ports of a node.
 ghost use Rattle.std.specs.Prelude.{◌≡◌, IfOk};
 ghost use Rattle.std.specs.List.{filter_map};
 ghost use Rattle.ff_stream.specs.Lanes.{head_of as head_of_lane};

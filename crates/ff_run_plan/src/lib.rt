@@ -2,7 +2,7 @@
 //!
 //! The plan of `ff_plan` has nodes by number and edges between them. Each node becomes a part, a machine of one type whatever
 //! its kind; `Kinds` says how one of each kind is made and what it is there for. Once all are made, the two parts of each edge
-//! are told of each other. The cut of an input stands behind its decoders, that of an output behind the graphs whose frames go
+//! are told of each other. The cut of an input stands after its decoders, that of an output after the graphs whose frames go
 //! to it. The sources of the inputs and the sinks of the outputs stand in numbered places; a demuxer takes its source out of
 //! its place, a muxer its sink, and once the run is over each gives back what it has.
 //!

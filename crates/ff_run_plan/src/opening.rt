@@ -1,4 +1,4 @@
-// The state of the scheduler before a run.
+//! The state of the scheduler before a run.
 ghost use Rattle.std.specs.Prelude.{◌≡◌, ◌≤◌, ℕ};
 ghost use Rattle.ff_plan.specs.declared.planned.PlanNode.{PlanNode};
 ghost use Rattle.ff_plan.specs.declared.planned.PlanNode.TheVariants.{Demux as DemuxNode};
@@ -35,7 +35,7 @@ fn some_reads(nodes: &[PlanNode], number: u32) -> bool
     false
 }
 
-// A mark for each input that no node reads, in a word whose lowest bit is that of input 0.
+// A mark for each input that no node reads, in a machine word whose lowest bit is that of input 0.
 fn unused_inputs(nodes: &[PlanNode], inputs: u32) -> u16
     requires { inputs ≤ 16 }
     ensures { (i : ℕ) → mark_at result i ≡ is_unused nodes.now inputs i }

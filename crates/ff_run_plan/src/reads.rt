@@ -1,4 +1,4 @@
-// Under which grants of a run's history its sources have tried their units.
+//! The grants of a run's history under which its sources have tried their units.
 ghost use Rattle.std.specs.Prelude.{◌≡◌, take, IfOk, IfSome, Some};
 ghost use Rattle.ff_run_plan.specs.Reads.{is_grant_of as grant_of, grants_of, places_in, tried_in, first_reads};
 

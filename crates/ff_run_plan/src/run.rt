@@ -1,4 +1,4 @@
-// The nodes of a plan: built, run in threads, and taken apart.
+//! The nodes of a plan: built, run in threads, and taken apart.
 ghost use Rattle.std.specs.Prelude.{◌≡◌, ◌<◌, ◌≤◌, ◌^◌, ℕ, List, Bool, true, [], length, map, slice_get, vec_capacity, Option, None, Some, IfOk, IfSome, IsSome};
 ghost use Rattle.ff_net.specs.declared.fault.Fault.TheVariants.{NoMemory as NoMemoryFault};
 ghost use Rattle.ff_net.specs.Pasts.{Task};
@@ -187,7 +187,7 @@ fn build_and_run<
     }
 }
 
-/// Room for the parts of a run, and for the sources and sinks in their places and behind it.
+/// Room for the parts of a run, and for the sources and sinks in their places and after it.
 #[derive(Drop)]
 pub(crate) struct Room<Part: Drop, Src: Drop, Snk: Drop> {
     parts: Vec<Part>,

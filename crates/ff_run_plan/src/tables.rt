@@ -1,4 +1,4 @@
-// Things in places by number, which may be empty.
+//! Tables of places by number, which may be empty.
 ghost use Rattle.std.specs.Prelude.{◌≡◌, ◌<◌, ◌≤◌, ℕ, List, [], length, map, slice_get, vec_capacity, Option, Some, None};
 
 /// The things, each in the place of its number.

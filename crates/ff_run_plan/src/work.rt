@@ -1,4 +1,4 @@
-// The plan of a job and its run, which are done between the opening and the closing of files.
+//! The plan of a job and its run, between the opening and the closing of files.
 ghost use Rattle.std.specs.Prelude.{◌≡◌, ℕ, List, [], ◌∷◌, length, map, Option, None, Some, Ok, IfOk, IfSome, IfErr, OnOk};
 ghost use Rattle.ff_map.specs.Choice.{lists};
 ghost use Rattle.ff_files.specs.Runs.{RunSays};
@@ -47,7 +47,7 @@ fn streams_of<
     Ok(streams)
 }
 
-/// The plan of a job for the heads of its inputs. A graph of more filters than a word can write would want memory that there isn't.
+/// The plan of a job for the heads of its inputs. A graph of more filters than an argument can write would want memory that there isn't.
 pub fn make_plan<
     K: Kinds<Src, Snk, M>,
     Src: Source + Send + Drop,

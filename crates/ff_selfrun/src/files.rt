@@ -1,4 +1,4 @@
-// The files.
+//! The files of the run over generated input.
 ghost use Rattle.std.specs.Prelude.{◌≡◌, ◌≤◌, IfOk};
 ghost use Rattle.ff_host.specs.memory.QuietHost.{quiet_files};
 ghost use Rattle.ff_selfrun.specs.SelfRun.{own_files};

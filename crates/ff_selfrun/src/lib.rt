@@ -2,13 +2,13 @@
 //!
 //! ```text
 //! N ──► a.wav, v.y4m (`generated`) ───► the files of a host in memory ─┐
-//!       words ──────────────────────► job ────────────────────────────┴─► run ──► out ──► selfrun N: B bytes, sha256 X
+//!       args ───────────────────────► job ────────────────────────────┴─► run ──► out ──► selfrun N: B bytes, sha256 X
 //! ```
 //!
-//! `specs/SelfRun` has the words, the files and the line. [`own_job`] gives the job that the words ask for, [`own_host`] the files, and
+//! `specs/SelfRun` has the arguments, the files and the line. [`own_job`] gives the job that the arguments ask for, [`own_host`] the files, and
 //! [`own_line`] the line that tells of what the job wrote. How a job is run isn't known here.
 //!
-//! `generated`: Inputs that are made and not read: a sound and pictures of any number of seconds, as whole files.
+//! `generated`: Inputs that are made and not read: audio and video of any number of seconds, as whole files.
 #![tactic(auto)]
 
 mod files;

@@ -1,4 +1,4 @@
-// The words, and the job that they ask for.
+//! The command line of the run over generated input, and the job that it asks for.
 ghost use Rattle.std.specs.Prelude.{◌≡◌, ◌∷◌, [], IfOk, codes};
 ghost use Rattle.ff_words.specs.Bounds.{IsBounded};
 ghost use Rattle.ff_words.specs.Table.{names};
@@ -8,7 +8,7 @@ ghost use Rattle.ff_selfrun.specs.SelfRun.{IsOwnJob};
 use ff_words::{Command, Job, WordError, read_words};
 use std::alloc::{AllocError, Global};
 
-/// The words of the job.
+/// The arguments of the job.
 pub static WORDS: [&'static str; 14] = [
     "-i",
     "a.wav",
@@ -26,7 +26,7 @@ pub static WORDS: [&'static str; 14] = [
     "out",
 ];
 
-// Texts as a command takes its words.
+// Strings as a command takes its arguments.
 fn words_from(alloc: Global, list: &[&'static str]) -> Result<Vec<String>, AllocError>
     ensures { IfOk result (λ words. texts words.items ≡ names list.now) }
 {
@@ -37,7 +37,7 @@ fn words_from(alloc: Global, list: &[&'static str]) -> Result<Vec<String>, Alloc
     Ok(words)
 }
 
-/// The job that the words ask for.
+/// The job that the arguments ask for.
 pub fn own_job(alloc: Global) -> Result<Job, AllocError>
     ensures job { IfOk result (λ job. IsOwnJob job) }
     ensures bounded { IfOk result (λ job. IsBounded job) }

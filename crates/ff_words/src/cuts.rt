@@ -1,3 +1,4 @@
+//! The cut that `-ss` and `-t` ask for.
 ghost use Rattle.std.specs.Prelude.{◌≡◌};
 ghost use Rattle.ff_words.specs.Words.{cut_of};
 

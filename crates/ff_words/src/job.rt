@@ -1,3 +1,4 @@
+//! The command that a command line asks for.
 use ff_format::FileFormat;
 use ff_frame::{Codec, HashKind};
 use ff_lang::{Graph, Sequence, Text};
@@ -55,7 +56,7 @@ pub enum Solo {
     SelfRun(u32),
 }
 
-/// What words ask for.
+/// What arguments ask for.
 #[derive(Debug, Drop)]
 pub enum Command {
     Run(Job),

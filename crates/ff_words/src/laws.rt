@@ -1,4 +1,4 @@
-//! Laws of the definition of the words. Each is a function that does nothing: its clauses hold of all values.
+//! Laws of the definition of the command line. Each is a function that does nothing: its clauses hold of all values.
 ghost use Rattle.std.specs.Prelude.{◌≡◌, ◌++◌, ℕ, List, Result, Ok, Err, map};
 ghost use Rattle.ff_words.specs.declared.table.TheConstants.{OPTIONS, AUDIO_CODECS, VIDEO_CODECS, LEVELS};
 ghost use Rattle.ff_words.specs.Options.{options, audio_codecs, video_codecs, log_levels};
@@ -15,18 +15,18 @@ pub fn the_lists_are_as_defined()
     ensures of_levels { map (λ name. name.now) LEVELS ≡ log_levels }
 {}
 
-/// Words have at most one answer.
+/// Arguments have at most one answer.
 pub fn words_have_one_answer()
     ensures { (words : List (List ℕ)) (answer other : Result Command Fault) → IsAnswer words answer
         → IsAnswer words other → answer ≡ other }
 {}
 
-/// The words that are written of a command are read as that command.
+/// The arguments that are written of a command are read as that command.
 pub fn written_commands_are_read()
     ensures { (command : Command) → IsFineCommand command → IsAnswer (command_words command) (Ok command) }
 {}
 
-/// A fault of a front that ends between options is that of any words which begin so: nothing behind it matters.
+/// A fault of a prefix that ends between options is that of any arguments which begin so: nothing after it matters.
 pub fn a_fault_stays()
     ensures { (front behind : List (List ℕ)) (fault : Fault) → EndsBetween front
         → FaultOfFront front fault → IsAnswer (front ++ behind) (Err fault) }

@@ -1,3 +1,4 @@
+//! The reader of a whole command line.
 ghost use Rattle.std.specs.Prelude.{◌≡◌, ◌⊎◌, Ok, Err, IsErrOf};
 ghost use Rattle.ff_words.specs.Bounds.{IsBounded};
 ghost use Rattle.ff_words.specs.Reading.{Answers, as_error};
@@ -11,7 +12,7 @@ use crate::job::Command;
 use crate::reader::{Reader, next_place};
 use std::alloc::Global;
 
-/// The command that the words are, or their first fault in order of reading.
+/// The command that the arguments are, or their first fault in order of reading.
 pub fn read_words(alloc: Global, words: &[String]) -> Result<Command, WordError>
     ensures answer { Answers (texts words.now) result }
     ensures command { (c : Command) → IsAnswer (texts words.now) (Ok c)

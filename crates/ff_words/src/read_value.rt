@@ -1,4 +1,4 @@
-// What the text of a value reads as.
+//! The values that strings read as, by the kind of their option.
 ghost use Rattle.std.specs.Prelude.{◌≡◌, ◌-◌, ◌^◌, ◌<◌, ◌≤◌, ℕ, length, IfOk, MatchOption, None};
 ghost use Rattle.ff_time.specs.Duration.{IsDigit};
 ghost use Rattle.ff_map.specs.Grammar.{IsNumber};
@@ -43,7 +43,7 @@ fn micros(us: u64) -> Micros
     Micros { us }
 }
 
-// Microseconds, or where the text is no time.
+// Microseconds, or where the string is no time.
 fn time_of(text: &str) -> Result<Micros, WordKind>
     ensures { ReadsTime text.now result }
 {
@@ -127,14 +127,14 @@ fn hash_of(text: &str) -> Option<Value>
     }
 }
 
-/// A copy of a text.
+/// A copy of a string.
 pub(crate) fn text_of(alloc: Global, text: &str) -> Result<Text, AllocError>
     ensures { IfOk result (λ copy. copy ≡ text.now) }
 {
     Ok(Text::of(String::from_str(alloc, text)?))
 }
 
-/// What the text reads as, as the value of an option of this kind, which has one.
+/// What the string reads as, as the value of an option of this kind, which has one.
 pub(crate) fn read_value(
     alloc: Global,
     kind: Kind,
@@ -166,7 +166,7 @@ pub(crate) fn read_value(
     }
 }
 
-// The same of a value that is no text and no structure.
+// The same of a value that is no string and no structure.
 fn read_small(kind: Kind, text: &str) -> Result<Value, WordKind>
     requires { IsSmall kind }
     ensures { Reads kind text.now result }
@@ -192,7 +192,7 @@ fn read_small(kind: Kind, text: &str) -> Result<Value, WordKind>
     }
 }
 
-// The value of a list that the text names.
+// The value of a list that the string names.
 fn named_value(kind: Kind, text: &str) -> Option<Value>
     ensures { result ≡ value_named kind text.now }
 {

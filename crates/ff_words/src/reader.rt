@@ -1,4 +1,4 @@
-// What one pass keeps of the words it has read.
+//! The state of the one pass over the arguments.
 ghost use Rattle.std.specs.Prelude.{◌≡◌, ◌<◌, ◌≤◌, ◌+◌, OnOk, None, [], List, length};
 ghost use Rattle.ff_words.specs.Reading.{Ended, written_names, word_at, Steps, token_at, width, full, Given, pending_format, with_output};
 ghost use Rattle.ff_words.specs.Reading.{output_wrong as wrong_output, input_wrong as wrong_input, with_input, Taken, pending, reader, noted, valued};
@@ -308,7 +308,7 @@ impl Reader {
         })
     }
 
-    // A value behind what was read.
+    // A value after what was read.
     fn take(
         &mut self,
         alloc: Global,
@@ -381,7 +381,7 @@ impl Reader {
         }
     }
 
-    /// The token at a place, behind what was read.
+    /// The token at a place, after what was read.
     pub(crate) fn token(
         &mut self,
         alloc: Global,
@@ -478,7 +478,7 @@ impl Reader {
         }
     }
 
-    /// The command, or what is wrong at the end of so many words.
+    /// The command, or what is wrong at the end of so many arguments.
     pub(crate) fn end(self, count: usize) -> Result<Command, WordError>
         requires { count ≤ 1025 }
         ensures { Ended count self result }
@@ -525,7 +525,7 @@ impl Reader {
     }
 }
 
-// How many words such an option is, with its value.
+// How many arguments such an option is, with its value.
 fn word_count_of(solo: Solo) -> usize
     ensures { result ≡ word_count solo }
 {
@@ -564,7 +564,7 @@ fn word_text(words: &[String], place: usize) -> &str
     words[place].as_str()
 }
 
-/// Where reading goes on behind the token at a place.
+/// Where reading goes on after the token at a place.
 pub(crate) fn next_place(words: &[String], at: usize) -> usize
     requires there { at < length words.now }
     requires bound { at < 1024 }
@@ -582,14 +582,14 @@ pub(crate) fn next_place(words: &[String], at: usize) -> usize
     }
 }
 
-// Whether a word is beyond the 1,024th, or has more than 65,536 bytes.
+// Whether an argument is beyond the 1,024th, or has more than 65,536 bytes.
 fn is_too_much(at: usize, word: &str) -> bool
     ensures { result ≡ never_too_much at word.now }
 {
     at >= 1024 || word.len() > 65536
 }
 
-// Whether a word begins with `-`.
+// Whether an argument begins with `-`.
 fn is_dashed(word: &str) -> bool
     ensures { result ≡ dashed word.now }
 {

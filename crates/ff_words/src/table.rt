@@ -15,9 +15,9 @@ pub enum Concern {
     All,
     /// The whole command, and nothing else may stand beside it.
     Alone,
-    /// The input or the output behind it.
+    /// The input or the output after it.
     File,
-    /// The output behind it.
+    /// The output after it.
     Output,
     /// It is a file itself.
     Itself,
@@ -113,7 +113,7 @@ pub static OPTIONS: [(&'static str, Concern, Kind); 32] = [
     ("-hash", Concern::Output, Kind::Hash),
 ];
 
-/// The codecs of sound.
+/// The audio codecs.
 pub static AUDIO_CODECS: [Codec; 5] = [
     Codec::PcmU8,
     Codec::PcmS16le,
@@ -122,7 +122,7 @@ pub static AUDIO_CODECS: [Codec; 5] = [
     Codec::Flac,
 ];
 
-/// The codecs of pictures.
+/// The video codecs.
 pub static VIDEO_CODECS: [Codec; 1] = [Codec::RawVideo];
 
 /// The values of `-loglevel`.
@@ -212,7 +212,7 @@ fn find_codec(list: &[Codec], word: &str) -> Option<Codec>
     None
 }
 
-/// The codec of sound of this name.
+/// The audio codec of this name.
 #[tactic(auto, unfolding(crate::specs::Table::audio_codec))]
 pub fn audio_codec(word: &str) -> Option<Codec>
     ensures { result ≡ audio_codec_named word.now }
@@ -220,7 +220,7 @@ pub fn audio_codec(word: &str) -> Option<Codec>
     find_codec(&AUDIO_CODECS, word)
 }
 
-/// The codec of pictures of this name.
+/// The video codec of this name.
 #[tactic(auto, unfolding(crate::specs::Table::video_codec))]
 pub fn video_codec(word: &str) -> Option<Codec>
     ensures { result ≡ video_codec_named word.now }
@@ -239,7 +239,7 @@ fn find_level(list: &[&'static str], word: &str) -> bool
     false
 }
 
-/// Whether a word says how much is logged.
+/// Whether an argument says how much is logged.
 #[tactic(auto, unfolding(crate::specs::Table::is_level))]
 pub fn is_level(word: &str) -> bool
     ensures { result ≡ level_named word.now }

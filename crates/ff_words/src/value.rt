@@ -1,3 +1,4 @@
+//! The values of options and file names.
 ghost use Rattle.std.specs.Prelude.{◌≤◌, ◌^◌};
 
 use crate::job::Solo;

@@ -1,4 +1,4 @@
-//! The program: it hands its words, the machine's files and standard output to the command, and ends with the number
+//! The program: it hands its arguments, the machine's files and standard output to the command, and ends with the number
 //! of the report. The command itself is `ff_run::ffmpeg`, the files are those of `ff_host_file`.
 #![tactic(auto)]
 
@@ -27,7 +27,7 @@ fn refuse(alloc: Global, log: &mut impl Sink, status: &Status) -> u8
     status_number(status)
 }
 
-// The status of words that couldn't be handed in.
+// The status of arguments that couldn't be handed in.
 fn status_of(end: WordsEnd) -> Status
     ensures due { result ≢ Status.Fine }
 {
@@ -40,7 +40,7 @@ fn status_of(end: WordsEnd) -> Status
     }
 }
 
-// Whether it is said on standard error how far the run is: where that is a terminal, and no word is `-nostats`.
+// Whether it is said on standard error how far the run is: where that is a terminal, and no argument is `-nostats`.
 fn shows_progress(rt: &HostRuntime, words: &[String]) -> bool {
     rt.stderr().is_terminal() && !words.iter().any(|word| word.as_str() == "-nostats")
 }

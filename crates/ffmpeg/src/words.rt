@@ -1,14 +1,14 @@
-// The words of the command line.
+//! The arguments of the command line.
 use std::alloc::{AllocError, Global};
 use std::env::{Env, FillError};
 use std::str;
 
-/// The longest word that is looked at, in bytes.
+/// The longest argument that is looked at, in bytes.
 const LONGEST: usize = 131_072;
 
-/// Why the words couldn't be handed in.
+/// Why the arguments couldn't be handed in.
 pub enum WordsEnd {
-    /// This word, from 0 and without the program's name, isn't UTF-8, or is longer than any that the system passes.
+    /// This argument, from 0 and without the program's name, isn't UTF-8, or is longer than any that the system passes.
     NotText { word: u32 },
     /// There was no memory for them.
     NoMemory,
@@ -20,7 +20,7 @@ impl From<AllocError> for WordsEnd {
     }
 }
 
-/// The words of the command line, without the program's name.
+/// The arguments of the command line, without the program's name.
 pub fn read_words(env: &impl Env, alloc: Global) -> Result<Vec<String>, WordsEnd> {
     let mut words = Vec::new(alloc);
     let mut buffer = vec![in alloc; 0; LONGEST]?;

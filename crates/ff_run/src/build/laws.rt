@@ -1,4 +1,4 @@
-// What follows of the definitions alone.
+//! Laws of the nodes of a plan. Each is a function that does nothing: its clauses hold of all values.
 ghost use Rattle.ff_run.specs.build.Parts.{all_kinds};
 ghost use Rattle.ff_run_plan.specs.Events.{PlansTellAlone, TellOfThemselves};
 

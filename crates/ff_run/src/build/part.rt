@@ -1,4 +1,4 @@
-// A part of any kind, as one machine.
+//! A part of any kind, as one machine.
 use crate::build::through::Through;
 use ff_frame::{Event, Ticket};
 use ff_graph::CutGraph;
@@ -29,7 +29,7 @@ pub enum Part<Src: Source + Drop, Snk: Sink + Drop> {
     Joint(Through<Alone<Joint>>),
     /// Encodes frames to packets, one for one.
     Enc(Enc<AnyEncoder>),
-    /// Encodes sound to FLAC.
+    /// Encodes audio to FLAC.
     FlacEnc(FlacEnc<InOrder>),
     /// Writes an output of packets.
     Mux(Mux<Snk, AnyWriter>),

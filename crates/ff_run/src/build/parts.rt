@@ -1,4 +1,4 @@
-// The kinds of node, built.
+//! The kinds of node, built.
 ghost use Rattle.std.specs.Prelude.{◌≡◌, false};
 ghost use Rattle.ff_run.specs.build.Parts.{is_flac as flac_is, is_flac_coded as flac_is_coded, options_of as said_by};
 

@@ -1,4 +1,4 @@
-// Machines in the middle of a plan.
+//! Machines in the middle of a plan.
 ghost use Rattle.std.specs.Prelude.{◌≡◌, ◌⊎◌, [], IfSome, IsNone};
 
 use ff_frame::{Event, Ticket};

@@ -1,4 +1,4 @@
-// Time bases.
+//! The time bases of the generated inputs.
 ghost use Rattle.std.specs.Prelude.{◌≡◌, ◌<◌, ◌^◌};
 ghost use Rattle.ff_selfrun.specs.generated.Generated.{part_of_a_second};
 

@@ -1,4 +1,4 @@
-// The pictures.
+//! The generated video.
 ghost use Rattle.std.specs.Prelude.{◌≡◌, ◌≤◌, ◌<◌, ◌++◌, IfOk, OnOk};
 ghost use Rattle.ff_y4m.specs.Header.{frame_line};
 ghost use Rattle.ff_selfrun.specs.generated.Generated.{generated_y4m, picture_head, pictures, planes};
@@ -8,7 +8,7 @@ use ff_frame::{Format, StreamHead};
 use ff_y4m::y4m_header;
 use std::alloc::{AllocError, Global};
 
-/// Bytes of a picture: 16 columns and 8 rows of Y, and half as many of each of the two planes of colour.
+/// Bytes of a video frame: 16 columns and 8 rows of Y, and half as many of each of the two planes of colour.
 const PICTURE: u32 = 192;
 
 fn head() -> StreamHead
@@ -24,7 +24,7 @@ fn head() -> StreamHead
     }
 }
 
-// Adds the planes of a picture.
+// Adds the planes of a frame.
 #[tactic(auto, unfolding(crate::specs::generated::Generated::planes))]
 fn push_planes(out: &mut Vec<u8>, number: u32) -> Result<(), AllocError>
     requires { number < 90000 }
@@ -36,7 +36,7 @@ fn push_planes(out: &mut Vec<u8>, number: u32) -> Result<(), AllocError>
     Ok(())
 }
 
-// Adds a picture behind its line.
+// Adds a frame after its line.
 fn push_picture(out: &mut Vec<u8>, number: u32) -> Result<(), AllocError>
     requires { number < 90000 }
     ensures { OnOk result (out.new.items ≡ out.old.items ++ (frame_line ++ planes number)) }
@@ -45,7 +45,7 @@ fn push_picture(out: &mut Vec<u8>, number: u32) -> Result<(), AllocError>
     push_planes(out, number)
 }
 
-/// A YUV4MPEG2 file of this many seconds, at most 3,600: 16 columns and 8 rows of 4:2:0, 25 pictures a second. Byte k of picture f,
+/// A YUV4MPEG2 file of this many seconds, at most 3,600: 16 columns and 8 rows of 4:2:0, 25 frames a second. Byte k of frame f,
 /// counted over all planes, is (7 f + 3 k) mod 256.
 pub fn gen_y4m(alloc: Global, seconds: u32) -> Result<Vec<u8>, AllocError>
     requires { seconds ≤ 3600 }

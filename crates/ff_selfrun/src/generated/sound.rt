@@ -1,4 +1,4 @@
-// The sound.
+//! The generated audio.
 ghost use Rattle.std.specs.Prelude.{◌≡◌, ◌≤◌, ◌<◌, ◌++◌, ◌*◌, ◌+◌, IfOk, OnOk};
 ghost use Rattle.ff_selfrun.specs.generated.Generated.{generated_wav, sample, sample_bytes, sound, sound_head};
 
