@@ -22,6 +22,7 @@ use std::alloc::{AllocError, Global};
 
 /// How jobs are worked: of each a plan by the heads of its inputs, and a run of it.
 pub trait Worker<Src: Source + Send + Drop, Snk: Sink + Send + Drop> {
+    /// What a run of a job follows.
     type Plan: Drop;
 
     /// What a job means: all that contracts see of its work.

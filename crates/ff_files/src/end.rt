@@ -30,6 +30,7 @@ pub enum RunEnd<R: Drop, F: Copy> {
 /// How a command over files ended, and what its run logged.
 #[derive(Drop)]
 pub struct Outcome<R: Drop, F: Copy, L: Drop> {
+    /// How it ended.
     pub end: RunEnd<R, F>,
     /// None where nothing was run, or there was no memory for it.
     pub log: Option<L>,

@@ -80,7 +80,9 @@ impl From<AllocError> for InputEnd {
 /// The head of an input, and the bytes that were read with it.
 #[derive(Drop)]
 pub struct Begin<H: Drop> {
+    /// The head.
     pub head: H,
+    /// All bytes that were read, from the first one on.
     pub bytes: Vec<u8>,
 }
 

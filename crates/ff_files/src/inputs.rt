@@ -19,13 +19,16 @@ use std::alloc::Global;
 pub struct InputRefusal {
     /// Its number, from 0.
     pub input: u32,
+    /// Why it was refused.
     pub end: InputEnd,
 }
 
 /// An input that was opened: its source, which gives it from the first byte on, and its head, or why it has none.
 #[derive(Drop)]
 pub struct Opened<S: Source + Drop, H: Drop> {
+    /// The source, which gives the input from its first byte on.
     pub src: Begun<S>,
+    /// The head, or why there is none.
     pub head: Result<H, InputEnd>,
 }
 

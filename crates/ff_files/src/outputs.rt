@@ -15,6 +15,7 @@ use ff_host::{Host, HostError, Sink};
 pub struct OutputRefusal {
     /// Its number, from 0.
     pub output: u32,
+    /// Why it wasn't created.
     pub end: HostError,
 }
 

@@ -34,15 +34,19 @@ pub enum WorkEnd<F> {
 /// How a run ended, what it logged, and its sources and sinks as they are then.
 #[derive(Drop)]
 pub struct Done<F: Copy, Src: Drop, Snk: Drop, L: Drop> {
+    /// How the run ended.
     pub end: WorkEnd<F>,
     /// None where there was no memory for it.
     pub log: Option<L>,
+    /// The sources of the inputs, by number.
     pub srcs: Vec<Src>,
+    /// The sinks of the outputs, by number.
     pub snks: Vec<Snk>,
 }
 
 /// What is done between the opening of all inputs and the closing: a plan by their heads, and a run of it.
 pub trait Work<H, Src: Source + Send + Drop, Snk: Sink + Send + Drop> {
+    /// What a run follows.
     type Plan: Drop;
 
     /// Why heads give no plan.

@@ -7,7 +7,9 @@ use ff_frame::{ByteOrder, Codec, Coding, HashKind, PcmDepth, PcmForm};
 /// A format of files.
 #[derive(Clone, Copy, Debug, PartialEq, Eq)]
 pub enum FileFormat {
+    /// WAV (RIFF WAVE).
     Wav,
+    /// FLAC (RFC 9639).
     Flac,
     /// YUV4MPEG2.
     Y4m,
@@ -101,6 +103,7 @@ fn is_signed_so(form: PcmForm, signed_bytes: bool) -> bool
 /// What an output of a format takes.
 #[derive(Clone, Copy, Debug, PartialEq, Eq)]
 pub struct Taken {
+    /// The audio that it takes.
     pub sound: SoundTaken,
     /// Whether it takes video.
     pub pictures: bool,

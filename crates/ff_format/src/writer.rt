@@ -12,6 +12,7 @@ use std::alloc::AllocError;
 pub struct Patch {
     /// Where the first of them stands, from the beginning of the file.
     pub at: u64,
+    /// The bytes.
     pub bytes: Vec<u8>,
 }
 

@@ -13,6 +13,7 @@ use std::collections::VecDeque;
 /// The items that were made for an output and not yet given.
 #[derive(Drop)]
 pub struct Ready {
+    /// The items, the next one first.
     pub queue: VecDeque<Item>,
     /// An item that is to be put after them.
     pub next: Option<Item>,

@@ -16,7 +16,9 @@ use std::alloc::AllocError;
 /// Why no further bytes of the input came.
 #[derive(Clone, Copy, Debug, PartialEq, Eq)]
 pub enum ReadEnd {
+    /// The source failed.
     Failed,
+    /// There was no memory for them.
     NoMemory,
 }
 

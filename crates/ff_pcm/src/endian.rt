@@ -13,43 +13,51 @@ use crate::numbers::{
 pub(crate) trait Endian {
     ghost order: { ByteOrder };
 
+    /// The number in the byte at a place.
     fn number_1(bytes: &[u8], place: usize) -> u32
         requires { place + 1 ≤ length bytes.now }
         ensures value { result ≡ number_in order 1 place bytes.now }
         ensures few { result < 2 ^ 8 };
 
+    /// The number in the two bytes at a place.
     fn number_2(bytes: &[u8], place: usize) -> u32
         requires { place + 2 ≤ length bytes.now }
         ensures value { result ≡ number_in order 2 place bytes.now }
         ensures few { result < 2 ^ 16 };
 
+    /// The number in the three bytes at a place.
     fn number_3(bytes: &[u8], place: usize) -> u32
         requires { place + 3 ≤ length bytes.now }
         ensures value { result ≡ number_in order 3 place bytes.now }
         ensures few { result < 2 ^ 24 };
 
+    /// The number in the four bytes at a place.
     fn number_4(bytes: &[u8], place: usize) -> u32
         requires { place + 4 ≤ length bytes.now }
         ensures { result ≡ number_in order 4 place bytes.now };
 
+    /// Writes a number into the byte at a place.
     fn put_1(bytes: &mut [u8], place: usize, n: u32)
         requires there { place + 1 ≤ length bytes.old }
         requires small { n < 2 ^ 8 }
         ensures here { number_in order 1 place bytes.new ≡ n }
         ensures others { (i : ℕ) → (i + 1 ≤ place) ⊎ (place + 1 ≤ i) → number_in order 1 i bytes.new ≡ number_in order 1 i bytes.old };
 
+    /// Writes a number into the two bytes at a place.
     fn put_2(bytes: &mut [u8], place: usize, n: u32)
         requires there { place + 2 ≤ length bytes.old }
         requires small { n < 2 ^ 16 }
         ensures here { number_in order 2 place bytes.new ≡ n }
         ensures others { (i : ℕ) → (i + 2 ≤ place) ⊎ (place + 2 ≤ i) → number_in order 2 i bytes.new ≡ number_in order 2 i bytes.old };
 
+    /// Writes a number into the three bytes at a place.
     fn put_3(bytes: &mut [u8], place: usize, n: u32)
         requires there { place + 3 ≤ length bytes.old }
         requires small { n < 2 ^ 24 }
         ensures here { number_in order 3 place bytes.new ≡ n }
         ensures others { (i : ℕ) → (i + 3 ≤ place) ⊎ (place + 3 ≤ i) → number_in order 3 i bytes.new ≡ number_in order 3 i bytes.old };
 
+    /// Writes a number into the four bytes at a place.
     fn put_4(bytes: &mut [u8], place: usize, n: u32)
         requires there { place + 4 ≤ length bytes.old }
         ensures here { number_in order 4 place bytes.new ≡ n }

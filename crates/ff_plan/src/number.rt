@@ -11,9 +11,13 @@ use std::alloc::{AllocError, Global};
 /// else it is the node's next one. The input port is always the next one.
 #[derive(Debug, Drop)]
 pub struct Wire {
+    /// The node that it leaves.
     pub from: u32,
+    /// The output port of that node, where it is named.
     pub port: Option<u32>,
+    /// The node to which it leads.
     pub to: u32,
+    /// What it carries.
     pub lane: Lane,
 }
 

@@ -26,8 +26,12 @@ pub enum PlanNode {
 /// graph stands.
 #[derive(Debug, Drop)]
 pub struct Plan {
+    /// The nodes, each after those that feed it.
     pub nodes: Sequence<PlanNode>,
+    /// The edges between the nodes.
     pub edges: Sequence<Edge>,
+    /// The routes of the output streams, for the scheduler.
     pub routes: Routes,
+    /// Where the string of each graph stands, by the number of the graph.
     pub texts: Sequence<GraphText>,
 }

@@ -6,20 +6,26 @@ use ff_map::Kind;
 /// An input pad of a graph that no filter of it feeds.
 #[derive(Debug, Drop)]
 pub struct OpenIn {
+    /// Its label, if it has one.
     pub label: Option<Text>,
+    /// The kind of stream that it takes.
     pub kind: Kind,
 }
 
 /// An output pad of a graph that feeds no filter of it.
 #[derive(Debug, Drop)]
 pub struct OpenOut {
+    /// Its label, if it has one.
     pub label: Option<Text>,
+    /// The head of the stream that it gives.
     pub head: StreamHead,
 }
 
 /// The refusal of a filter of a graph, by its number in the order of writing.
 #[derive(Clone, Copy, Debug, PartialEq, Eq)]
 pub struct Refused {
+    /// The number of the filter, from 0.
     pub filter: u32,
+    /// Why it is refused.
     pub kind: ConfigError,
 }

@@ -13,6 +13,7 @@ pub struct NotingHost {
 }
 
 impl NotingHost {
+    /// A host over this one, on which no sink was to be created yet.
     pub fn new(alloc: Global, inner: MemHost) -> NotingHost {
         NotingHost {
             alloc,

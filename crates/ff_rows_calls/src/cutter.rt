@@ -38,6 +38,7 @@ impl<C: PacketCut> Cutter<C> {
 }
 
 impl<C: PacketCut + Drop> Cutter<C> {
+    /// Feeds these bytes, those after the head first. A row that feeds after the end can't be run.
     pub fn feed(self, bytes: &[u8]) -> Result<Self, Stop> {
         let Cutter { mut cut, ended } = self;
         if ended {
@@ -48,6 +49,7 @@ impl<C: PacketCut + Drop> Cutter<C> {
         Ok(Cutter { cut, ended })
     }
 
+    /// Ends the input. A row that ends it twice can't be run.
     pub fn end(self) -> Result<Self, Stop> {
         let Cutter { mut cut, ended } = self;
         if ended {
@@ -62,6 +64,7 @@ impl<C: PacketCut + Drop> Cutter<C> {
         self.cut.held()
     }
 
+    /// The next packet, or why there is none. One that ends far from the beginning can't be told.
     pub fn pull(self) -> Result<(Self, Cut), Stop> {
         let Cutter { mut cut, ended } = self;
         match cut.pull()? {

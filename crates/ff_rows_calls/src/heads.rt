@@ -21,6 +21,7 @@ pub fn codec_named(name: &str) -> Result<Codec, Stop> {
     Err(Stop::Unreadable)
 }
 
+/// The name of a pixel format, as a table has it.
 pub fn name_of_format(format: Format) -> &'static str {
     match format {
         Format::C420 => "420",
@@ -69,6 +70,7 @@ pub fn show_stream(alloc: Global, head: &StreamHead) -> Result<String, Stop> {
     Ok(text)
 }
 
+/// The head of a WAV as a string.
 pub fn show_wav(alloc: Global, head: &WavHead) -> Result<String, Stop> {
     let stream = show_stream(alloc, &head.head)?;
     let start = head.start;
@@ -79,12 +81,14 @@ pub fn show_wav(alloc: Global, head: &WavHead) -> Result<String, Stop> {
     Ok(text)
 }
 
+/// The head of a YUV4MPEG2 as a string.
 pub fn show_y4m(alloc: Global, head: &Y4mHead) -> Result<String, Stop> {
     let stream = show_stream(alloc, &head.head)?;
     let (start, size) = (head.start, head.frame_bytes);
     Ok(format!(in alloc; "{stream} start {start} frame {size}")?)
 }
 
+/// The head of a FLAC as a string.
 pub fn show_flac(alloc: Global, head: &FlacHead) -> Result<String, Stop> {
     let stream = show_stream(alloc, &head.head)?;
     let start = head.start;

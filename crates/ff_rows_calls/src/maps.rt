@@ -102,7 +102,7 @@ fn head(text: &str) -> Result<StreamHead, Stop> {
     }
 }
 
-// The streams of an input with commas between them; `-` has none.
+/// The streams of an input with commas between them; `-` has none.
 pub fn streams(alloc: Global, text: &str) -> Result<Vec<StreamHead>, Stop> {
     let mut heads = Vec::new(alloc);
     if text != "-" {

@@ -21,6 +21,7 @@ fn show_run(alloc: Global, first: usize, last: usize, answer: &str) -> Result<St
 }
 
 impl Runs {
+    /// No answers.
     pub fn new(alloc: Global) -> Runs {
         Runs {
             alloc,

@@ -6,11 +6,13 @@ use std::alloc::Global;
 /// The arguments of a call.
 #[derive(Clone, Copy)]
 pub struct Words<'a> {
+    /// Where a call takes its memory from.
     pub alloc: Global,
     words: &'a [String],
 }
 
 impl<'a> Words<'a> {
+    /// The arguments of a call.
     pub fn new(alloc: Global, words: &'a [String]) -> Words<'a> {
         Words { alloc, words }
     }

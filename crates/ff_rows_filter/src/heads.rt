@@ -22,6 +22,7 @@ fn read_format(text: &str) -> Result<Format, Stop> {
     }
 }
 
+/// The name of a pixel format, as a table has it.
 pub fn name_of_format(format: Format) -> &'static str {
     match format {
         Format::C420 => "420",

@@ -12,9 +12,13 @@ const MOST: u64 = 1 << 20;
 /// A filter with the heads of its inputs and of its outputs.
 #[derive(Drop)]
 pub struct Play<'a, F> {
+    /// Where the play takes its memory from.
     pub alloc: Global,
+    /// The filter.
     pub filter: F,
+    /// The heads of its inputs.
     pub ins: &'a [StreamHead],
+    /// The heads of its outputs.
     pub outs: Vec<StreamHead>,
 }
 

@@ -7,20 +7,26 @@ use std::alloc::Global;
 /// A line of a row, by its number in the table.
 #[derive(Clone, Copy)]
 pub struct Line<'a> {
+    /// Its number in the table.
     pub number: usize,
+    /// Its first word.
     pub kind: &'a str,
+    /// What stands after that.
     pub rest: &'a str,
 }
 
 /// A row as far as it was read.
 #[derive(Drop)]
 pub struct Row<'a> {
+    /// Where the row takes its memory from.
     pub alloc: Global,
+    /// Its title.
     pub title: &'a str,
     /// The line of its table in which it begins.
     pub number: usize,
     /// The filter as a graph has it.
     pub filter: &'a str,
+    /// The heads of its inputs.
     pub ins: Vec<StreamHead>,
     /// The heads of its outputs, or why it is refused, a line each.
     pub answer: String,

@@ -14,6 +14,7 @@ pub struct Runner {
 }
 
 impl Runner {
+    /// A runner that has run no row.
     pub fn new(alloc: Global) -> Runner {
         Runner {
             alloc,

@@ -25,7 +25,9 @@ pub enum Ending {
 /// What came on an input.
 #[derive(Drop)]
 pub struct Kept {
+    /// The items that came.
     pub items: Vec<Item>,
+    /// How the input has ended.
     pub ending: Ending,
 }
 

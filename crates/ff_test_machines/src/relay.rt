@@ -10,7 +10,9 @@ use std::alloc::{AllocError, Global};
 /// An output: how many items went there, and whether its receiver has finished.
 #[derive(Drop)]
 pub struct Out {
+    /// How many items went there.
     pub next: usize,
+    /// Whether its receiver has finished.
     pub stopped: bool,
 }
 

@@ -115,6 +115,7 @@ pub struct CountingHost {
 }
 
 impl CountingHost {
+    /// A host over this one, on which nothing was called.
     pub fn new(alloc: Global, inner: MemHost) -> CountingHost {
         CountingHost {
             alloc,

@@ -21,8 +21,11 @@ const KINDS: [HostCall; 6] = [
 /// A command over files in memory that has one output. The head of each input is within the first piece that is read of it.
 #[derive(Drop)]
 pub struct Job {
+    /// The arguments of the command.
     pub words: Vec<String>,
+    /// The inputs: their names and bytes.
     pub inputs: Vec<(String, Vec<u8>)>,
+    /// The name of the output.
     pub output: String,
     /// What is appended to the output,
     pub appended: Vec<u8>,

@@ -33,9 +33,13 @@ fn comes(count: &AtomicU64, wanted: u64, looks: u32) -> bool {
 /// most so many bytes. A sink's first append fails unless so many bytes were read before.
 #[derive(Clone, Copy)]
 pub struct Pace {
+    /// The offset from which on a read waits for the gate.
     pub offset: usize,
+    /// How often a call that waits looks again.
     pub looks: u32,
+    /// How many bytes a read gives at most.
     pub most: usize,
+    /// How many bytes are read before a sink's first append.
     pub read_before: u64,
 }
 
@@ -52,6 +56,7 @@ pub struct GateSource {
 }
 
 impl GateSource {
+    /// A source of these bytes under this name, which has never failed.
     pub fn new(name: String, bytes: Vec<u8>, pace: Pace, gate: Arc<Gate>) -> GateSource
         ensures name { string_bytes result.name ≡ string_bytes name }
         ensures faults { result.faults ≡ 0 }
@@ -68,6 +73,7 @@ impl GateSource {
         }
     }
 
+    /// How often reading failed.
     pub fn faults(&self) -> u64
         ensures { result ≡ self.now.faults }
     {
@@ -121,6 +127,7 @@ pub struct GateSink {
 }
 
 impl GateSink {
+    /// A sink under this name that holds nothing and has never failed.
     pub fn new(alloc: Global, name: String, pace: Pace, gate: Arc<Gate>) -> GateSink
         ensures name { string_bytes result.name ≡ string_bytes name }
         ensures faults { result.faults ≡ 0 }
@@ -136,12 +143,14 @@ impl GateSink {
         }
     }
 
+    /// How often writing failed.
     pub fn faults(&self) -> u64
         ensures { result ≡ self.now.faults }
     {
         self.faults
     }
 
+    /// The bytes that it holds.
     pub fn into_bytes(self) -> Vec<u8> {
         self.bytes
     }

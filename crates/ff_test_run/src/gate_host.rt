@@ -22,6 +22,7 @@ pub struct GateHost {
 }
 
 impl GateHost {
+    /// A host of this input, read at this pace, whose gate is closed.
     pub fn new(alloc: Global, input: Vec<u8>, pace: Pace) -> Result<GateHost, AllocError> {
         Ok(GateHost {
             alloc,

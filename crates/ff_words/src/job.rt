@@ -8,27 +8,40 @@ use ff_time::TimeCut;
 /// An input with its options.
 #[derive(Debug, Drop)]
 pub struct InputJob {
+    /// The name of its file.
     pub name: Text,
     /// Without one the first bytes of the file tell it.
     pub format: Option<FileFormat>,
+    /// The cut by `-ss` and `-t`.
     pub cut: TimeCut,
 }
 
 /// An output with its options.
 #[derive(Debug, Drop)]
 pub struct OutputJob {
+    /// The name of its file.
     pub name: Text,
+    /// Its format, by `-f` or by the ending of its name.
     pub format: FileFormat,
+    /// The maps by `-map`, in their order.
     pub maps: Sequence<MapSpec>,
+    /// The audio codec by `-c:a`.
     pub audio: Option<Codec>,
+    /// The video codec by `-c:v`.
     pub video: Option<Codec>,
     /// The simple graphs of its video and of its audio streams.
     pub vf: Option<Graph>,
+    /// The graph by `-af`, for each of its audio streams.
     pub af: Option<Graph>,
+    /// Whether `-an` drops its audio.
     pub no_audio: bool,
+    /// Whether `-vn` drops its video.
     pub no_video: bool,
+    /// The cut by `-ss` and `-t`.
     pub cut: TimeCut,
+    /// Whether `-shortest` ends all of its streams with the shortest.
     pub shortest: bool,
+    /// The digest by `-hash`.
     pub hash: HashKind,
 }
 
@@ -41,7 +54,9 @@ pub struct Job {
     pub trace: Option<Text>,
     /// The complex graphs.
     pub graphs: Sequence<Graph>,
+    /// The inputs in their order.
     pub inputs: Sequence<InputJob>,
+    /// The outputs in their order.
     pub outputs: Sequence<OutputJob>,
 }
 
@@ -59,6 +74,8 @@ pub enum Solo {
 /// What arguments ask for.
 #[derive(Debug, Drop)]
 pub enum Command {
+    /// A job over files.
     Run(Job),
+    /// What an option asks for that stands alone.
     Solo(Solo),
 }

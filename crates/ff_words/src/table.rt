@@ -30,8 +30,11 @@ pub enum Kind {
     Nothing,
     /// Nothing on standard error says how far the run is; the job is the same.
     NoStats,
+    /// The output has no video.
     NoVideo,
+    /// The output has no audio.
     NoAudio,
+    /// The output ends with the shortest of its streams.
     Shortest,
     /// How the command is used is asked for.
     Help,
@@ -47,33 +50,45 @@ pub enum Kind {
     Trace,
     /// Seconds of the generated input.
     SelfRun,
+    /// A format of files.
     Format,
+    /// The time at which the cut of a file starts.
     Start,
+    /// The length of the cut of a file.
     Length,
     /// The name of an input.
     Input,
+    /// A map.
     Map,
+    /// The audio codec of an output.
     AudioCodec,
+    /// The video codec of an output.
     VideoCodec,
     /// A filtergraph over the video streams of an output, each by itself.
     VideoGraph,
     /// The same over its audio streams.
     AudioGraph,
+    /// The digest of an output.
     Hash,
 }
 
 /// What an option is.
 #[derive(Clone, Copy, Debug)]
 pub struct Rule {
+    /// Whom it concerns.
     pub concern: Concern,
+    /// The kind of its value.
     pub kind: Kind,
 }
 
 /// A format of files, and whether an input or an output may have it.
 #[derive(Clone, Copy, Debug)]
 pub struct Named {
+    /// The format.
     pub format: FileFormat,
+    /// Whether an input may have it.
     pub read: bool,
+    /// Whether an output may have it.
     pub written: bool,
 }
 

@@ -10,6 +10,7 @@ use ff_map::MapSpec;
 /// Microseconds of a cut.
 #[derive(Clone, Copy, Debug)]
 pub struct Micros {
+    /// How many there are, at most 10^15.
     pub us: u64,
     pub ghost bound: { us ≤ 10 ^ 15 },
 }
@@ -19,12 +20,19 @@ pub struct Micros {
 pub enum Value {
     /// It has no effect.
     Nothing,
+    /// The output has no video.
     NoVideo,
+    /// The output has no audio.
     NoAudio,
+    /// The output ends with the shortest of its streams.
     Shortest,
+    /// A complex graph.
     Complex(Graph),
+    /// The size of every queue.
     Queue(u32),
+    /// The name of the file that gets the scheduler's history.
     Trace(Text),
+    /// What an option asks for that stands alone.
     Solo(Solo),
     /// A format, and whether an input and an output may have it.
     Format {
@@ -32,14 +40,23 @@ pub enum Value {
         read: bool,
         written: bool,
     },
+    /// The start of a cut.
     Start(Micros),
+    /// The length of a cut.
     Length(Micros),
+    /// The name of an input.
     Input(Text),
+    /// A map.
     Map(MapSpec),
+    /// An audio codec.
     AudioCodec(Codec),
+    /// A video codec.
     VideoCodec(Codec),
+    /// A simple graph for video.
     VideoGraph(Graph),
+    /// A simple graph for audio.
     AudioGraph(Graph),
+    /// A digest.
     Hash(HashKind),
     /// A name of an output, and the format that its ending tells.
     Output(Text, Option<FileFormat>),

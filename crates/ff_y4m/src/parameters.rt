@@ -12,11 +12,17 @@ use ff_time::Rational;
 /// What the parameters so far say.
 #[derive(Clone, Copy, PartialEq, Eq, Debug)]
 pub struct Parameters {
+    /// Columns, by `W`.
     pub width: Option<u32>,
+    /// Rows, by `H`.
     pub height: Option<u32>,
+    /// The time base, one over the frames a second, by `F`.
     pub base: Option<Rational>,
+    /// The width of a sample, by `A`.
     pub sar_num: u32,
+    /// Its height, by `A`.
     pub sar_den: u32,
+    /// The pixel format, by `C`.
     pub format: Format,
 }
 

@@ -23,12 +23,19 @@ use std::sync::Wait;
 /// Where a fault is made: at the source's device, or for want of memory at a node.
 #[derive(Clone, Copy, PartialEq, Eq, Debug)]
 pub enum Place {
+    /// There is no fault.
     Nowhere,
+    /// The device of the source fails.
     Device,
+    /// The source has no memory.
     Source,
+    /// The machine that repeats has no memory.
     Repeater,
+    /// The machine that ends early has no memory.
     Stopper,
+    /// The machine that joins has no memory.
     Join,
+    /// The sink has no memory.
     Sink,
 }
 
@@ -36,13 +43,19 @@ pub enum Place {
 /// nodes' turns in this order, and a fault in a place at an item.
 #[derive(Clone, Copy)]
 pub struct Plan {
+    /// How many packets the source has.
     pub count: usize,
+    /// How many items the stopper lets through.
     pub limit: usize,
+    /// How many items a wire holds.
     pub size: usize,
     /// In each round of five turns turn t is that of node `(first + stride * t) % 5`; both are below 5.
     pub first: usize,
+    /// The step from a turn's node to that of the next turn.
     pub stride: usize,
+    /// Where the fault is made.
     pub place: Place,
+    /// The item at which it is made.
     pub at: usize,
 }
 
@@ -53,7 +66,9 @@ pub struct Outcome {
     pub packets: u32,
     /// Whether they are the source's first ones, in order.
     pub in_order: bool,
+    /// Whether the end came.
     pub ended: bool,
+    /// Whether a break came.
     pub broken: bool,
     /// Whether all nodes are done.
     pub done: bool,

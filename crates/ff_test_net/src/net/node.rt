@@ -20,12 +20,16 @@ use ff_test_machines::{Plain, Relay, Source, lane_of, packet};
 use ff_time::Rational;
 use std::alloc::{AllocError, Global};
 
-// The ports of a node: its wires, and the ends of its links.
+/// The ports of a node: its wires, and the ends of its links.
 #[derive(Drop)]
 pub struct Ports {
+    /// The wires of its inputs.
     pub in_wires: Vec<usize>,
+    /// The wires of its outputs.
     pub out_wires: Vec<usize>,
+    /// The ends of links that it takes from.
     pub ins: Vec<InEnd>,
+    /// The ends of links that it sends over.
     pub outs: Vec<OutEnd>,
 }
 
@@ -68,7 +72,7 @@ fn on_links(
     }
 }
 
-// A source of so many packets.
+/// A source of so many packets.
 pub fn source_node(
     alloc: Global,
     tb: Rational,
@@ -95,7 +99,7 @@ pub fn source_node(
     Ok(node)
 }
 
-// A relay that ends after so many items.
+/// A relay that ends after so many items.
 pub fn relay_node(
     alloc: Global,
     tb: Rational,
@@ -122,7 +126,7 @@ pub fn relay_node(
     Ok(node)
 }
 
-// A sink that keeps what comes.
+/// A sink that keeps what comes.
 pub fn sink_node(
     alloc: Global,
     tb: Rational,

@@ -35,10 +35,15 @@ pub fn part(cell: &SchedCell, pass: &mut Pass, share: u64) -> Result<Pass, Alloc
 /// Five passes of a cell.
 #[derive(Drop)]
 pub struct Seats {
+    /// The pass that the others were parted from.
     pub first: Pass,
+    /// The second pass.
     pub second: Pass,
+    /// The third pass.
     pub third: Pass,
+    /// The fourth pass.
     pub fourth: Pass,
+    /// The fifth pass.
     pub fifth: Pass,
 }
 

@@ -24,7 +24,9 @@ pub struct Trial {
     pub ended: bool,
     /// Whether a break came out.
     pub broken: bool,
+    /// Whether the relay's node is done.
     pub done: bool,
+    /// Whether it has a fault.
     pub faulty: bool,
 }
 

@@ -10,7 +10,9 @@ pub const STEP: u64 = 1_000;
 /// What was read of a stream and its source.
 #[derive(Clone, Copy, PartialEq, Eq, Debug)]
 pub struct Lane {
+    /// How many packets of the stream were taken.
     pub packets: u64,
+    /// How often its source was granted.
     pub grants: u64,
     last: Option<u64>,
 }
