@@ -110,7 +110,7 @@ codec_lines (codec ∷ list) = line (codes "  " ++ codec_name codec) ++ codec_li
 
 -- the line of a filter: its name, its arguments and what it does
 abbrev pub filter_line : List ℕ → List ℕ → List ℕ → List ℕ
-filter_line name arguments effect = line (left 26 (codes "  " ++ name ++ arguments) ++ effect)
+filter_line name arguments effect = line (left 28 (codes "  " ++ name ++ arguments) ++ effect)
 
 -- the line of one that takes sound or doesn't, among those that do or don't
 abbrev pub line_among : Bool → Bool → List ℕ → List ℕ

@@ -195,7 +195,7 @@ fn push_filter(
     ensures { OnOk result (out.new.items ≡ out.old.items ++ filter_line name.now arguments.now effect.now) }
 {
     let head = head_of(alloc, name, arguments)?;
-    push_left(alloc, out, 26, &head)?;
+    push_left(alloc, out, 28, &head)?;
     push_line(out, effect)
 }
 

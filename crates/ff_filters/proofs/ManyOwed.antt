@@ -27,7 +27,7 @@ use Rattle.ff_filters.specs.ReadBy.{read_by}
 use Rattle.ff_filters.specs.SetBy.{set_none, set_split, set_stack, set_join}
 use Rattle.ff_filters.specs.Configured.{plain_by, copied_as, split_by, stacked_as, stack_by}
 use Rattle.ff_filters.specs.Configured.{segments_as, concat_by, joined_as, join_by}
-use Rattle.ff_filters.specs.Definitions.{merging, sharing, definition_of}
+use Rattle.ff_filters.specs.Definitions.{merging, sharing, definition_of, one, several, relation_of}
 use Rattle.ff_filters.proofs.SameHeads.{each_out}
 use Rattle.ff_filters.proofs.Agreeing.{plain_is, split_is, stack_is, concat_is, join_is}
 use Rattle.ff_filters.proofs.Refusing.{configured-so, stack-so, concat-so, join-so}
@@ -48,7 +48,8 @@ copied_heads zero h k is = tt
 copied_heads (suc n) h k is = (is, copied_heads n h k is)
 
 pub split_owed : (takes_sound : Bool) (wanted : StreamHead → Bool)
-    → Owed (sharing (last_number split_manual 0 1 16 2) false takes_sound (IsSplit wanted) (split_by wanted) split_view split_heads)
+    → Owed (sharing (last_number split_manual 0 1 16 2) false takes_sound (split_by wanted) split_view split_heads)
+    (several (IsSplit wanted) (λ heads. split_view) split_heads)
 split_owed takes_sound wanted =
     sharing_owed (IsSplit wanted) (split_by wanted) (split_is wanted)
     (λ args heads. configured-so wanted split_manual set_split (record { outputs = 2 }) copied_as args heads (λ h u. tt))
@@ -58,7 +59,7 @@ split_owed takes_sound wanted =
     let p = parts_of wanted split_manual set_split (record { outputs = 2 }) copied_as args heads m e in
     let n = p.settings.outputs in
     subst (λ (x : StreamHead × ℕ). Gives
-    (sharing (last_number split_manual 0 1 16 2) false takes_sound (IsSplit wanted) (split_by wanted) split_view split_heads) args heads
+    (sharing (last_number split_manual 0 1 16 2) false takes_sound (split_by wanted) split_view split_heads) args heads
     (record { view = split_view x; outs = split_heads x }))
     (same_ok (p.head, n) m p.made_is)
     (record {
@@ -73,7 +74,7 @@ split_owed takes_sound wanted =
       count = length-replicate n p.head ∙ split_read false 0 (record { outputs = 2 }) args p.settings p.read;
     }))
 
-pub channelsplit_owed : Owed (definition_of filter.ChannelSplit)
+pub channelsplit_owed : Owed (definition_of filter.ChannelSplit) (relation_of filter.ChannelSplit)
 channelsplit_owed =
     sharing_owed IsChannelSplit (plain_by is_sound (λ h. h)) (plain_is is_sound (λ h. h))
     (λ args heads. configured-so is_sound no_manual set_none (record {}) (λ h u. Ok h) args heads (λ h u. tt))
@@ -112,7 +113,7 @@ stacked_gives d (h ∷ hs) s m e =
       becomes = subst (λ (x : StackOf). Becomes h (head_of x)) same (longer h d (total d (h ∷ hs)));
     }
 
-pub stack_owed : (d : Direction) → Owed (merging (counted false 0 2) (λ args. false) (IsStack d) (stack_by d) (λ heads. stack_view) head_of)
+pub stack_owed : (d : Direction) → Owed (merging (counted false 0 2) (λ args. false) (stack_by d) (λ heads. stack_view) head_of) (one (IsStack d) (λ heads. stack_view) head_of)
 stack_owed d = merging_owed (IsStack d) (stack_by d) (stack_is d) (stack-so d) (counted false 0 2) (λ args. false) (λ heads. stack_view) head_of
     (λ args. counted_few false 0 2 args (omega arith))
     (λ args heads m e.
@@ -140,7 +141,7 @@ segments_give (h ∷ hs) m e =
       becomes = itself h;
     })
 
-pub concat_owed : Owed (definition_of filter.Concat)
+pub concat_owed : Owed (definition_of filter.Concat) (relation_of filter.Concat)
 concat_owed = merging_owed IsConcat concat_by concat_is concat-so segments_said (definition_of filter.Concat).takes_sound (λ heads. concat_view) concat_head
     (λ args. last_few concat_manual 0 2 16 2 false 0 2 args (omega arith) (omega arith))
     (λ args heads m e.
@@ -168,7 +169,7 @@ joined_gives (h ∷ hs) m sounds e =
 join_few : (args : List Arg) → inputs_said args ≤ 16
 join_few args = (let few = last_few join_manual 0 2 8 2 false 0 2 args (omega arith) (omega arith) in omega (arith, few))
 
-pub join_owed : Owed (definition_of filter.Join)
+pub join_owed : Owed (definition_of filter.Join) (relation_of filter.Join)
 join_owed = merging_owed IsJoin join_by join_is join-so inputs_said (λ args. true) join_view head_itself join_few
     (λ args heads m e.
     let first = if_ok (length heads == inputs_said args) _ Pads m e in

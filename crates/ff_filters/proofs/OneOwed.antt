@@ -30,7 +30,7 @@ use Rattle.ff_filters.specs.declared.name.FilterName.TheVariants as filter
 use Rattle.ff_filters.specs.SetBy.{set_expr, set_crop, set_pad, set_fps}
 use Rattle.ff_filters.specs.Ticks.{Times, set_times, range_in}
 use Rattle.ff_filters.specs.Configured.{plain_by, rebased_as, rebase_by, all_times, cropped_as, padded_as}
-use Rattle.ff_filters.specs.Definitions.{single, definition_of}
+use Rattle.ff_filters.specs.Definitions.{single, one, definition_of, relation_of}
 use Rattle.ff_filters.proofs.Agreeing.{plain_is, rebase_is, trim_is, atrim_is, crop_is, pad_is, fps_is}
 use Rattle.ff_filters.proofs.Refusing.{cropped-so, padded-so, if_so}
 use Rattle.ff_filters.proofs.Parting.{if_ok}
@@ -42,7 +42,7 @@ use Rattle.ff_filters.proofs.LimitedLemmas.Ones.{pass_owes, rebase_owes, trim_ow
 abbrev pass_of : StreamHead → Pass
 pass_of head = record { head = head }
 
-pub null_owed : (takes_sound : Bool) (wanted : StreamHead → Bool) → Owed (single takes_sound (IsPass wanted) (plain_by wanted pass_of) pass_view (λ m. m.head))
+pub null_owed : (takes_sound : Bool) (wanted : StreamHead → Bool) → Owed (single takes_sound (plain_by wanted pass_of) pass_view (λ m. m.head)) (one (IsPass wanted) (λ heads. pass_view) (λ m. m.head))
 null_owed takes_sound wanted = plain_owed takes_sound wanted (IsPass wanted) pass_of pass_view (λ m. m.head) (plain_is wanted pass_of)
     (λ h k. record {
       ins = refl;
@@ -55,7 +55,7 @@ null_owed takes_sound wanted = plain_owed takes_sound wanted (IsPass wanted) pas
 abbrev trim_of : StreamHead → Times → Trim
 trim_of h u = record { head = h; range = range_in (base_of_head h) u }
 
-pub trim_owed : Owed (definition_of filter.Trim)
+pub trim_owed : Owed (definition_of filter.Trim) (relation_of filter.Trim)
 trim_owed = free_owed false is_video IsTrim range_manual set_times all_times trim_of trim_view (λ m. m.head) trim_is
     (λ h u k. record {
       ins = refl;
@@ -68,7 +68,7 @@ trim_owed = free_owed false is_video IsTrim range_manual set_times all_times tri
 abbrev atrim_of : StreamHead → Times → ATrim
 atrim_of h u = record { head = h; range = range_in (base_of_head h) u }
 
-pub atrim_owed : Owed (definition_of filter.ATrim)
+pub atrim_owed : Owed (definition_of filter.ATrim) (relation_of filter.ATrim)
 atrim_owed = free_owed true is_sound IsATrim range_manual set_times all_times atrim_of atrim_view (λ m. m.head) atrim_is
     (λ h u k. record {
       ins = refl;
@@ -90,7 +90,8 @@ rebase_single h u m e =
       becomes = itself h;
     })
 
-pub setpts_owed : (takes_sound : Bool) (wanted : StreamHead → Bool) → Owed (single takes_sound (IsRebase wanted) (rebase_by wanted) rebase_view (λ m. m.head))
+pub setpts_owed : (takes_sound : Bool) (wanted : StreamHead → Bool) → Owed (single takes_sound (rebase_by wanted) rebase_view (λ m. m.head))
+    (one (IsRebase wanted) (λ heads. rebase_view) (λ m. m.head))
 setpts_owed takes_sound wanted =
     single_owed takes_sound wanted (IsRebase wanted) expr_manual set_expr (record { given = false }) rebased_as rebase_view (λ m. m.head) (rebase_is wanted)
     (λ h u. if_so u.given (Ok (record { head = h; first = None })) (Err BadOption) tt (λ e. cc)) (λ u. Unit {0}) tt (λ u option value w f e. tt)
@@ -103,7 +104,7 @@ crop_keeps (Video tb format width height sar_num sar_den) u m e =
     let k = if_ok (can_crop width height part) (Ok (Video tb format width height sar_num sar_den, part)) BadSize m e in
     ap (λ (x : StreamHead × Rectangle). x.0) (same_ok (Video tb format width height sar_num sar_den, part) m k.1)
 
-pub crop_owed : Owed (definition_of filter.Crop)
+pub crop_owed : Owed (definition_of filter.Crop) (relation_of filter.Crop)
 crop_owed = single_owed false is_video IsCrop crop_manual set_crop (record { sizes = no_sizes }) cropped_as crop_view crop_head crop_is cropped-so
     (λ u. Unit {0}) tt (λ u option value w f e. tt)
     (λ h u m k f e. record {
@@ -121,7 +122,7 @@ pad_keeps (Video tb format width height sar_num sar_den) u m e =
     let k = if_ok (can_pad made) (Ok made) BadSize m e in
     ap (λ (x : Padded). x.head) (same_ok made m k.1)
 
-pub pad_owed : Owed (definition_of filter.Pad)
+pub pad_owed : Owed (definition_of filter.Pad) (relation_of filter.Pad)
 pad_owed = single_owed false is_video IsPad pad_manual set_pad (record { sizes = no_sizes }) padded_as pad_view pad_head pad_is padded-so
     (λ u. Unit {0}) tt (λ u option value w f e. tt)
     (λ h u m k f e. record {
@@ -132,7 +133,7 @@ pad_owed = single_owed false is_video IsPad pad_manual set_pad (record { sizes =
       becomes = subst (λ (x : StreamHead). Becomes x (pad_head m)) (sym (pad_keeps h u m e)) (resized m.head m.width m.height);
     })
 
-pub hflip_owed : Owed (definition_of filter.HFlip)
+pub hflip_owed : Owed (definition_of filter.HFlip) (relation_of filter.HFlip)
 hflip_owed = plain_owed false is_video IsHFlip (λ h. h) hflip_view (λ h. h) (plain_is is_video (λ h. h))
     (λ h k. record {
       ins = refl;
@@ -142,7 +143,7 @@ hflip_owed = plain_owed false is_video IsHFlip (λ h. h) hflip_view (λ h. h) (p
       becomes = itself h;
     })
 
-pub vflip_owed : Owed (definition_of filter.VFlip)
+pub vflip_owed : Owed (definition_of filter.VFlip) (relation_of filter.VFlip)
 vflip_owed = plain_owed false is_video IsVFlip (λ h. h) vflip_view (λ h. h) (plain_is is_video (λ h. h))
     (λ h k. record {
       ins = refl;
@@ -152,7 +153,7 @@ vflip_owed = plain_owed false is_video IsVFlip (λ h. h) vflip_view (λ h. h) (p
       becomes = itself h;
     })
 
-pub fps_owed : Owed (definition_of filter.Fps)
+pub fps_owed : Owed (definition_of filter.Fps) (relation_of filter.Fps)
 fps_owed = sure_owed false is_video IsFps fps_manual set_fps (record { base = record { num = 1; den = 25 } }) (λ h u. (h, u.base)) fps_view fps_head fps_is
     (λ (u : FpsSettings). IsBase u.base) (IsBase-unit 25 (lit< tt) (lit< tt)) rate_keeps
     (λ h u k base. record {

@@ -10,7 +10,7 @@ use Rattle.ff_fsync.specs.declared.stacks.shape.Direction.TheVariants.{Beside, B
 use Rattle.ff_filters.specs.declared.name.FilterName.{FilterName}
 use Rattle.ff_filters.specs.declared.name.FilterName.TheVariants as filter
 use Rattle.ff_filters.specs.Configured.{Filtered}
-use Rattle.ff_filters.specs.Definitions.{definition_of}
+use Rattle.ff_filters.specs.Definitions.{definition_of, relation_of}
 use Rattle.ff_node_filter.specs.Limiting.{IsLimited}
 use Rattle.ff_filters.specs.limited.Cuts.{cuts_in, AreTimed}
 use Rattle.ff_filters.specs.Makes.{configured_as}
@@ -20,7 +20,7 @@ use Rattle.ff_filters.proofs.LimitedLemmas.Opening.{opened_limited}
 use Rattle.ff_filters.proofs.OneOwed.{null_owed, trim_owed, setpts_owed, crop_owed, pad_owed, hflip_owed, vflip_owed, fps_owed, atrim_owed}
 use Rattle.ff_filters.proofs.ManyOwed.{split_owed, channelsplit_owed, stack_owed, concat_owed, join_owed}
 
-pub owed : (name : FilterName) → Owed (definition_of name)
+pub owed : (name : FilterName) → Owed (definition_of name) (relation_of name)
 owed filter.Null = null_owed false is_video
 owed filter.Trim = trim_owed
 owed filter.SetPts = setpts_owed false is_video

@@ -17,7 +17,7 @@ use Rattle.ff_fsync.specs.declared.stacks.shape.Direction.{Direction}
 use Rattle.ff_fsync.specs.stacks.Heads.{with_length}
 use Rattle.ff_joins.specs.JoinOptions.{channels_in as all_channels, with_channels}
 use Rattle.ff_filters.specs.Configured.{Filtered, filtered}
-use Rattle.ff_filters.specs.Definitions.{Definition, merging, sharing}
+use Rattle.ff_filters.specs.Definitions.{Definition, Relation, merging, sharing, one, several}
 use Rattle.ff_filters.specs.limited.Cuts.{AreTimed}
 use Rattle.ff_filters.proofs.LimitedLemmas.Opening.{Owes}
 use Rattle.ff_filters.proofs.Refusing.{HasReason}
@@ -80,10 +80,10 @@ AreFew true n = n ≡ 0
 abbrev pub seen_so : View → List StreamHead → Result Filtered ConfigError
 seen_so v outs = Ok (record { view = v; outs = outs })
 
-pub record Owed (d : Definition) : Type 0 where
+pub record Owed (d : Definition) (r : Relation) : Type 0 where
   -- what it makes and why it refuses, is what the function says
-  pub made : (args : List Arg) (heads : List StreamHead) (v : View) (outs : List StreamHead) → d.Makes args heads v outs → d.by args heads ≡ seen_so v outs
-  pub refused : (args : List Arg) (heads : List StreamHead) (e : ConfigError) → d.Refuses args heads e → (e ≡ NoMemory) ⊎ (d.by args heads ≡ Err e)
+  pub made : (args : List Arg) (heads : List StreamHead) (v : View) (outs : List StreamHead) → r.Makes args heads v outs → d.by args heads ≡ seen_so v outs
+  pub refused : (args : List Arg) (heads : List StreamHead) (e : ConfigError) → r.Refuses args heads e → (e ≡ NoMemory) ⊎ (d.by args heads ≡ Err e)
   pub reason : (args : List Arg) (heads : List StreamHead) → HasReason (d.by args heads)
   -- how many pads it has
   pub inputs : (args : List Arg) → d.inputs args ≤ 16
@@ -135,15 +135,15 @@ module _ {X : Type 0} (is : List Arg → List StreamHead → Result X ConfigErro
   pub merging_owed : (inputs : List Arg → ℕ) (takes_sound : List Arg → Bool) (shown : List StreamHead → X → View) (head : X → StreamHead)
       → ((args : List Arg) → inputs args ≤ 16)
       → ((args : List Arg) (heads : List StreamHead) (m : X) → by args heads ≡ Ok m → GivesOne heads (shown heads m) (head m))
-      → Owed (merging inputs takes_sound is by shown head)
-  merging_owed inputs takes_sound shown head few one = record {
+      → Owed (merging inputs takes_sound by shown head) (one is shown head)
+  merging_owed inputs takes_sound shown head few each = record {
     made = λ args heads v hs h. made_so (shown heads) (λ m. head m ∷ []) (is args heads) (by args heads) (same args heads) v hs h;
     refused = λ args heads e h. refused_so (shown heads) (λ m. head m ∷ []) (is args heads) (by args heads) (same args heads) e h;
     reason = λ args heads. reason_so (shown heads) (λ m. head m ∷ []) (by args heads) (so args heads);
     inputs = few;
     outputs = λ args. (omega arith, omega arith);
-    gives = λ args heads f e. at_each (shown heads) (λ m. head m ∷ []) (λ (g : Filtered). Gives (merging inputs takes_sound is by shown head) args heads g)
-        (by args heads) f (λ m k. let o = one args heads m k in record {
+    gives = λ args heads f e. at_each (shown heads) (λ m. head m ∷ []) (λ (g : Filtered). Gives (merging inputs takes_sound by shown head) args heads g)
+        (by args heads) f (λ m k. let o = each args heads m k in record {
           first = o.first;
           others = o.others;
           fed = o.fed;
@@ -159,14 +159,14 @@ module _ {X : Type 0} (is : List Arg → List StreamHead → Result X ConfigErro
   pub sharing_owed : (outputs : List Arg → ℕ) (is_apart takes_sound : Bool) (shown : X → View) (outs : X → List StreamHead)
       → ((args : List Arg) → AreFew is_apart (outputs args))
       → ((args : List Arg) (heads : List StreamHead) (m : X) → by args heads ≡ Ok m
-      → Gives (sharing outputs is_apart takes_sound is by shown outs) args heads (record { view = shown m; outs = outs m }))
-      → Owed (sharing outputs is_apart takes_sound is by shown outs)
+      → Gives (sharing outputs is_apart takes_sound by shown outs) args heads (record { view = shown m; outs = outs m }))
+      → Owed (sharing outputs is_apart takes_sound by shown outs) (several is (λ heads. shown) outs)
   sharing_owed outputs is_apart takes_sound shown outs few each = record {
     made = λ args heads v hs h. made_so shown outs (is args heads) (by args heads) (same args heads) v hs h;
     refused = λ args heads e h. refused_so shown outs (is args heads) (by args heads) (same args heads) e h;
     reason = λ args heads. reason_so shown outs (by args heads) (so args heads);
     inputs = λ args. omega arith;
     outputs = few;
-    gives = λ args heads f e. at_each shown outs (λ (g : Filtered). Gives (sharing outputs is_apart takes_sound is by shown outs) args heads g)
+    gives = λ args heads f e. at_each shown outs (λ (g : Filtered). Gives (sharing outputs is_apart takes_sound by shown outs) args heads g)
         (by args heads) f (each args heads) e;
   }

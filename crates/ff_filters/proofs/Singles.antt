@@ -8,7 +8,7 @@ use Rattle.ff_filter.specs.Options.{Manual}
 use Rattle.ff_filter.specs.Plain.{no_manual}
 use Rattle.ff_filter.specs.Views.{View, IsNew}
 use Rattle.ff_filters.specs.Configured.{plain_by}
-use Rattle.ff_filters.specs.Definitions.{single}
+use Rattle.ff_filters.specs.Definitions.{single, one}
 use Rattle.ff_filters.specs.ReadBy.{configured_by}
 use Rattle.ff_filters.specs.SetBy.{set_none}
 use Rattle.ff_filters.proofs.LimitedLemmas.Opening.{Owes}
@@ -33,13 +33,13 @@ module _ {S T X : Type 0} (takes_sound : Bool) (wanted : StreamHead → Bool) (i
       → ((h : StreamHead) (u : T) → HasReason (made h u))
       → (Fits : T → Type 0) → Fits t → ((u : T) (option : ℕ) (value : List ℕ) (w : T) → Fits u → set u option value ≡ Some w → Fits w)
       → ((h : StreamHead) (u : T) (m : X) → wanted h ≡ true → Fits u → made h u ≡ Ok m → IsSingle h (shown m) (head m))
-      → Owed (single takes_sound is (configured_by wanted manual set t made) shown head)
-  single_owed made shown head same so Fits start next one =
+      → Owed (single takes_sound (configured_by wanted manual set t made) shown head) (one is (λ heads. shown) head)
+  single_owed made shown head same so Fits start next each =
       merging_owed is (configured_by wanted manual set t made) same (λ args heads. configured-so wanted manual set t made args heads so)
       (λ args. 1) (λ args. takes_sound) (λ heads. shown) head (λ args. omega arith)
       (λ args heads m e.
       let p = parts_of wanted manual set t made args heads m e in
-      let o = one p.head p.settings m p.kind (read_keeps manual set Fits next false 0 t args p.settings start p.read) p.made_is in
+      let o = each p.head p.settings m p.kind (read_keeps manual set Fits next false 0 t args p.settings start p.read) p.made_is in
       record {
         first = p.head;
         others = [];
@@ -57,24 +57,24 @@ module _ {S T X : Type 0} (takes_sound : Bool) (wanted : StreamHead → Bool) (i
       → configured_by wanted manual set t (λ h u. Ok (of h u)) args heads ≡ r)
       → (Fits : T → Type 0) → Fits t → ((u : T) (option : ℕ) (value : List ℕ) (w : T) → Fits u → set u option value ≡ Some w → Fits w)
       → ((h : StreamHead) (u : T) → wanted h ≡ true → Fits u → IsSingle h (shown (of h u)) (head (of h u)))
-      → Owed (single takes_sound is (configured_by wanted manual set t (λ h u. Ok (of h u))) shown head)
-  sure_owed of shown head same Fits start next one =
+      → Owed (single takes_sound (configured_by wanted manual set t (λ h u. Ok (of h u))) shown head) (one is (λ heads. shown) head)
+  sure_owed of shown head same Fits start next each =
       single_owed (λ h u. Ok (of h u)) shown head same (λ h u. tt) Fits start next
-      (λ h u m k f e. subst (λ (n : X). IsSingle h (shown n) (head n)) (same_ok (of h u) m e) (one h u k f))
+      (λ h u m k f e. subst (λ (n : X). IsSingle h (shown n) (head n)) (same_ok (of h u) m e) (each h u k f))
 
   -- and no value is asked anything of
   pub free_owed : (of : StreamHead → T → X) (shown : X → View) (head : X → StreamHead)
       → ((args : List Arg) (heads : List StreamHead) (r : Result X ConfigError) → is args heads r
       → configured_by wanted manual set t (λ h u. Ok (of h u)) args heads ≡ r)
       → ((h : StreamHead) (u : T) → wanted h ≡ true → IsSingle h (shown (of h u)) (head (of h u)))
-      → Owed (single takes_sound is (configured_by wanted manual set t (λ h u. Ok (of h u))) shown head)
-  free_owed of shown head same one = sure_owed of shown head same (λ u. Unit {0}) tt (λ u option value w f e. tt) (λ h u k f. one h u k)
+      → Owed (single takes_sound (configured_by wanted manual set t (λ h u. Ok (of h u))) shown head) (one is (λ heads. shown) head)
+  free_owed of shown head same each = sure_owed of shown head same (λ u. Unit {0}) tt (λ u option value w f e. tt) (λ h u k f. each h u k)
 
 -- of no option
 pub plain_owed : {X : Type 0} (takes_sound : Bool) (wanted : StreamHead → Bool) (is : List Arg → List StreamHead → Result X ConfigError → Type 0) (of : StreamHead → X)
     (shown : X → View) (head : X → StreamHead)
     → ((args : List Arg) (heads : List StreamHead) (r : Result X ConfigError) → is args heads r → plain_by wanted of args heads ≡ r)
     → ((h : StreamHead) → wanted h ≡ true → IsSingle h (shown (of h)) (head (of h)))
-    → Owed (single takes_sound is (plain_by wanted of) shown head)
-plain_owed takes_sound wanted is of shown head same one =
-    free_owed takes_sound wanted is no_manual set_none (record {}) (λ h u. of h) shown head same (λ h u k. one h k)
+    → Owed (single takes_sound (plain_by wanted of) shown head) (one is (λ heads. shown) head)
+plain_owed takes_sound wanted is of shown head same each =
+    free_owed takes_sound wanted is no_manual set_none (record {}) (λ h u. of h) shown head same (λ h u k. each h k)

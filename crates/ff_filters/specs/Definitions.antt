@@ -1,9 +1,9 @@
--- The filters that there are: each by one name and one definition (ffmpeg-filters).
+-- The filters that there are: each by one name, as a function and by a relation (ffmpeg-filters).
 use Rattle.std.specs.Prelude.{ℕ, ◌&&◌, Bool, true, false, not, List, [], ◌∷◌, codes, Result}
 use Rattle.ff_frame.specs.declared.config.ConfigError.{ConfigError}
 use Rattle.ff_frame.specs.declared.head.StreamHead.{StreamHead}
 use Rattle.ff_lang.specs.declared.graph.Arg.{Arg}
-use Rattle.ff_filter.specs.Options.{is_sound, is_video, IsMade, IsRefused}
+use Rattle.ff_filter.specs.Options.{is_sound, is_video, IsRefused}
 use Rattle.ff_filter.specs.Plain.{IsPass, pass_view, IsRebase, rebase_view}
 use Rattle.ff_filter.specs.Views.{View}
 use Rattle.ff_filter.specs.spread.Many.{AreMade}
@@ -50,13 +50,9 @@ filter_names =
     (codes "join", filter.Join) ∷
     []
 
--- a filter, by its arguments and the heads of its inputs
-pub record Definition : Type 1 where
-  -- how it is seen before anything was fed, and the heads of its outputs
-  pub Makes : List Arg → List StreamHead → View → List StreamHead → Type 0
-  -- there was no memory, or it refuses the arguments and heads so
-  pub Refuses : List Arg → List StreamHead → ConfigError → Type 0
-  -- the same as a function, which needs no memory
+-- what a filter is by its arguments and the heads of its inputs
+pub record Definition : Type 0 where
+  -- how it is seen before anything was fed, and the heads of its outputs; or why it is refused
   pub by : List Arg → List StreamHead → Result Filtered ConfigError
   -- How many input pads it has. The last argument that says so counts; where it is refused, the number without one.
   pub inputs : List Arg → ℕ
@@ -67,12 +63,10 @@ pub record Definition : Type 1 where
   -- its input pads take sound; else they take pictures
   pub takes_sound : List Arg → Bool
 
--- of one output: whoever is configured so, by relation and by function, how it is seen, and the head of the output
-abbrev pub merging : {X : Type 0} → (List Arg → ℕ) → (List Arg → Bool) → (List Arg → List StreamHead → Result X ConfigError → Type 0)
-    → (List Arg → List StreamHead → Result X ConfigError) → (List StreamHead → X → View) → (X → StreamHead) → Definition
-merging inputs takes_sound is by shown head = record {
-  Makes = λ args heads v outs. IsMade (is args heads) (shown heads) head v outs;
-  Refuses = λ args heads e. IsRefused (is args heads) e;
+-- of one output: what configures it, how it is seen, and the head of the output
+abbrev pub merging : {X : Type 0} → (List Arg → ℕ) → (List Arg → Bool) → (List Arg → List StreamHead → Result X ConfigError) → (List StreamHead → X → View)
+    → (X → StreamHead) → Definition
+merging inputs takes_sound by shown head = record {
   by = λ args heads. filtered (shown heads) (λ m. head m ∷ []) (by args heads);
   inputs = inputs;
   outputs = λ args. 1;
@@ -81,16 +75,13 @@ merging inputs takes_sound is by shown head = record {
 }
 
 -- of one input and one output
-abbrev pub single : {X : Type 0} → Bool → (List Arg → List StreamHead → Result X ConfigError → Type 0) → (List Arg → List StreamHead → Result X ConfigError)
-    → (X → View) → (X → StreamHead) → Definition
-single takes_sound is by shown head = merging (λ args. 1) (λ args. takes_sound) is by (λ heads. shown) head
+abbrev pub single : {X : Type 0} → Bool → (List Arg → List StreamHead → Result X ConfigError) → (X → View) → (X → StreamHead) → Definition
+single takes_sound by shown head = merging (λ args. 1) (λ args. takes_sound) by (λ heads. shown) head
 
 -- of one input and several outputs, with the heads of the outputs
-abbrev pub sharing : {X : Type 0} → (List Arg → ℕ) → Bool → Bool → (List Arg → List StreamHead → Result X ConfigError → Type 0)
-    → (List Arg → List StreamHead → Result X ConfigError) → (X → View) → (X → List StreamHead) → Definition
-sharing outputs is_apart takes_sound is by shown outs = record {
-  Makes = λ args heads v hs. AreMade (is args heads) shown outs v hs;
-  Refuses = λ args heads e. IsRefused (is args heads) e;
+abbrev pub sharing : {X : Type 0} → (List Arg → ℕ) → Bool → Bool → (List Arg → List StreamHead → Result X ConfigError) → (X → View) → (X → List StreamHead)
+    → Definition
+sharing outputs is_apart takes_sound by shown outs = record {
   by = λ args heads. filtered shown outs (by args heads);
   inputs = λ args. 1;
   outputs = outputs;
@@ -100,22 +91,60 @@ sharing outputs is_apart takes_sound is by shown outs = record {
 
 -- the filter of this name
 abbrev pub definition_of : FilterName → Definition
-definition_of filter.Null = single false (IsPass is_video) (pass_by is_video) pass_view (λ m. m.head)
-definition_of filter.Trim = single false IsTrim trim_by trim_view (λ m. m.head)
-definition_of filter.SetPts = single false (IsRebase is_video) (rebase_by is_video) rebase_view (λ m. m.head)
-definition_of filter.Crop = single false IsCrop crop_by crop_view crop_head
-definition_of filter.Pad = single false IsPad pad_by pad_view pad_head
-definition_of filter.HFlip = single false IsHFlip (plain_by is_video (λ head. head)) hflip_view (λ head. head)
-definition_of filter.VFlip = single false IsVFlip (plain_by is_video (λ head. head)) vflip_view (λ head. head)
-definition_of filter.Fps = single false IsFps fps_by fps_view fps_head
-definition_of filter.Split = sharing (last_number split_manual 0 1 16 2) false false (IsSplit is_video) (split_by is_video) split_view split_heads
-definition_of filter.HStack = merging (counted false 0 2) (λ args. false) (IsStack Beside) (stack_by Beside) (λ heads. stack_view) head_of
-definition_of filter.VStack = merging (counted false 0 2) (λ args. false) (IsStack Below) (stack_by Below) (λ heads. stack_view) head_of
-definition_of filter.Concat =
-    merging segments_said (λ args. sound_said args && not (video_said args)) IsConcat concat_by (λ heads. concat_view) concat_head
-definition_of filter.ANull = single true (IsPass is_sound) (pass_by is_sound) pass_view (λ m. m.head)
-definition_of filter.ATrim = single true IsATrim atrim_by atrim_view (λ m. m.head)
-definition_of filter.ASetPts = single true (IsRebase is_sound) (rebase_by is_sound) rebase_view (λ m. m.head)
-definition_of filter.ASplit = sharing (last_number split_manual 0 1 16 2) false true (IsSplit is_sound) (split_by is_sound) split_view split_heads
-definition_of filter.ChannelSplit = sharing (λ args. 0) true true IsChannelSplit (plain_by is_sound (λ head. head)) channels_view mono_heads
-definition_of filter.Join = merging inputs_said (λ args. true) IsJoin join_by join_view head_itself
+definition_of filter.Null = single false (pass_by is_video) pass_view (λ m. m.head)
+definition_of filter.Trim = single false trim_by trim_view (λ m. m.head)
+definition_of filter.SetPts = single false (rebase_by is_video) rebase_view (λ m. m.head)
+definition_of filter.Crop = single false crop_by crop_view crop_head
+definition_of filter.Pad = single false pad_by pad_view pad_head
+definition_of filter.HFlip = single false (plain_by is_video (λ head. head)) hflip_view (λ head. head)
+definition_of filter.VFlip = single false (plain_by is_video (λ head. head)) vflip_view (λ head. head)
+definition_of filter.Fps = single false fps_by fps_view fps_head
+definition_of filter.Split = sharing (last_number split_manual 0 1 16 2) false false (split_by is_video) split_view split_heads
+definition_of filter.HStack = merging (counted false 0 2) (λ args. false) (stack_by Beside) (λ heads. stack_view) head_of
+definition_of filter.VStack = merging (counted false 0 2) (λ args. false) (stack_by Below) (λ heads. stack_view) head_of
+definition_of filter.Concat = merging segments_said (λ args. sound_said args && not (video_said args)) concat_by (λ heads. concat_view) concat_head
+definition_of filter.ANull = single true (pass_by is_sound) pass_view (λ m. m.head)
+definition_of filter.ATrim = single true atrim_by atrim_view (λ m. m.head)
+definition_of filter.ASetPts = single true (rebase_by is_sound) rebase_view (λ m. m.head)
+definition_of filter.ASplit = sharing (last_number split_manual 0 1 16 2) false true (split_by is_sound) split_view split_heads
+definition_of filter.ChannelSplit = sharing (λ args. 0) true true (plain_by is_sound (λ head. head)) channels_view mono_heads
+definition_of filter.Join = merging inputs_said (λ args. true) join_by join_view head_itself
+
+-- ---- the same by relations, which say what an argument is and not how it is read
+
+pub record Relation : Type 1 where
+  -- with these arguments, on streams of these heads: how it is seen before anything was fed, and the heads of its outputs
+  pub Makes : List Arg → List StreamHead → View → List StreamHead → Type 0
+  -- there was no memory, or it refuses the arguments and heads so
+  pub Refuses : List Arg → List StreamHead → ConfigError → Type 0
+
+-- of several outputs: who is configured so, how it is seen, and the heads of the outputs
+abbrev pub several : {X : Type 0} → (List Arg → List StreamHead → Result X ConfigError → Type 0) → (List StreamHead → X → View) → (X → List StreamHead) → Relation
+several is shown outs = record {
+  Makes = λ args heads v hs. AreMade (is args heads) (shown heads) outs v hs;
+  Refuses = λ args heads e. IsRefused (is args heads) e;
+}
+
+-- of one output
+abbrev pub one : {X : Type 0} → (List Arg → List StreamHead → Result X ConfigError → Type 0) → (List StreamHead → X → View) → (X → StreamHead) → Relation
+one is shown head = several is shown (λ m. head m ∷ [])
+
+abbrev pub relation_of : FilterName → Relation
+relation_of filter.Null = one (IsPass is_video) (λ heads. pass_view) (λ m. m.head)
+relation_of filter.Trim = one IsTrim (λ heads. trim_view) (λ m. m.head)
+relation_of filter.SetPts = one (IsRebase is_video) (λ heads. rebase_view) (λ m. m.head)
+relation_of filter.Crop = one IsCrop (λ heads. crop_view) crop_head
+relation_of filter.Pad = one IsPad (λ heads. pad_view) pad_head
+relation_of filter.HFlip = one IsHFlip (λ heads. hflip_view) (λ head. head)
+relation_of filter.VFlip = one IsVFlip (λ heads. vflip_view) (λ head. head)
+relation_of filter.Fps = one IsFps (λ heads. fps_view) fps_head
+relation_of filter.Split = several (IsSplit is_video) (λ heads. split_view) split_heads
+relation_of filter.HStack = one (IsStack Beside) (λ heads. stack_view) head_of
+relation_of filter.VStack = one (IsStack Below) (λ heads. stack_view) head_of
+relation_of filter.Concat = one IsConcat (λ heads. concat_view) concat_head
+relation_of filter.ANull = one (IsPass is_sound) (λ heads. pass_view) (λ m. m.head)
+relation_of filter.ATrim = one IsATrim (λ heads. atrim_view) (λ m. m.head)
+relation_of filter.ASetPts = one (IsRebase is_sound) (λ heads. rebase_view) (λ m. m.head)
+relation_of filter.ASplit = several (IsSplit is_sound) (λ heads. split_view) split_heads
+relation_of filter.ChannelSplit = several IsChannelSplit (λ heads. channels_view) mono_heads
+relation_of filter.Join = one IsJoin join_view head_itself

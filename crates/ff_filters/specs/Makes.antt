@@ -6,16 +6,16 @@ use Rattle.ff_lang.specs.declared.graph.Arg.{Arg}
 use Rattle.ff_filter.specs.Views.{View}
 use Rattle.ff_filters.specs.declared.name.FilterName.{FilterName}
 use Rattle.ff_filters.specs.Configured.{Filtered}
-use Rattle.ff_filters.specs.Definitions.{definition_of}
+use Rattle.ff_filters.specs.Definitions.{definition_of, relation_of}
 
 -- a filter of this name with these arguments, on streams of these heads: how it is seen before anything was fed, and the heads
 -- of its outputs
 abbrev pub Makes : FilterName → List Arg → List StreamHead → View → List StreamHead → Type 0
-Makes name args heads v outs = (definition_of name).Makes args heads v outs
+Makes name args heads v outs = (relation_of name).Makes args heads v outs
 
 -- there was no memory, or the filter refuses the arguments and heads so
 abbrev pub Refuses : FilterName → List Arg → List StreamHead → ConfigError → Type 0
-Refuses name args heads e = (definition_of name).Refuses args heads e
+Refuses name args heads e = (relation_of name).Refuses args heads e
 
 -- the same as a function
 abbrev pub configured_as : FilterName → List Arg → List StreamHead → Result Filtered ConfigError
