@@ -17,6 +17,7 @@ use Rattle.ff_stream.specs.Lanes.{IsItemFor, IsValid}
 use Rattle.ff_stream.specs.Stream.{Stream}
 use Rattle.ff_stream.specs.declared.item.Item.{Item}
 use Rattle.ff_stream.specs.declared.item.Item.TheVariants.{Audio, Video, Packet, Trailer, End, Broken}
+use Rattle.ff_stream.specs.declared.item.Lane.{Lane}
 use Rattle.ff_stream.specs.declared.item.Lane.TheVariants.{Packets}
 use Rattle.ff_time.specs.Fraction.{Fraction}
 use Rattle.ff_node_mux.specs.Growing.{fits_less}
@@ -40,26 +41,29 @@ packet_size (Pcm form) channels p pcm few is =
 packet_size Flac channels p pcm few is = absurd pcm
 packet_size RawVideo channels p pcm few is = absurd pcm
 
-others : {P : Item → Type 0} (x : Item) (xs : List Item) → All P (x ∷ xs) → All P xs
-others x xs all = λ k d lt. all (suc k) d (omega (arith, lt))
+others : (lane : Lane) (x : Item) (xs : List Item) → All (IsItemFor lane) (x ∷ xs) → All (IsItemFor lane) xs
+others lane x xs all = λ k d lt. all (suc k) d (omega (arith, lt))
 
 module _ (layout : Layout) (plain : WritesBodies layout) (tb : Fraction) (rate bits channels : ℕ) (codec : Codec) (pcm : IsPcmCodec codec) (few : channels ≤ 8) where
-  body_size : (xs : List Item) → All (IsItemFor (Packets (AudioHead tb rate bits channels codec))) xs
+  abbrev lane : Lane
+  lane = Packets (AudioHead tb rate bits channels codec)
+
+  body_size : (xs : List Item) → All (IsItemFor lane) xs
       → length (body layout (placed 0 (packets_of xs))) ≤ length xs * 2097120
   body_size [] all = omega arith
   body_size (Packet p ∷ xs) all =
-      let rest = body_size xs (others (Packet p) xs all) in
+      let rest = body_size xs (others lane (Packet p) xs all) in
       let here = all 0 (Packet p) (omega arith) in
       let one = packet_size (coding_of codec) channels p pcm few here.fits.1 in
       let text : length (layout.text 0 p) ≡ length p.bytes = ap length (plain 0 p) in
       omega (arith, rest, one, text, length-append (layout.text 0 p) (body layout (placed 0 (packets_of xs))))
-  body_size (Audio f ∷ xs) all = let rest = body_size xs (others (Audio f) xs all) in omega (arith, rest)
-  body_size (Video f ∷ xs) all = let rest = body_size xs (others (Video f) xs all) in omega (arith, rest)
-  body_size (Trailer t ∷ xs) all = let rest = body_size xs (others (Trailer t) xs all) in omega (arith, rest)
-  body_size (End ∷ xs) all = let rest = body_size xs (others End xs all) in omega (arith, rest)
-  body_size (Broken ∷ xs) all = let rest = body_size xs (others Broken xs all) in omega (arith, rest)
+  body_size (Audio f ∷ xs) all = let rest = body_size xs (others lane (Audio f) xs all) in omega (arith, rest)
+  body_size (Video f ∷ xs) all = let rest = body_size xs (others lane (Video f) xs all) in omega (arith, rest)
+  body_size (Trailer t ∷ xs) all = let rest = body_size xs (others lane (Trailer t) xs all) in omega (arith, rest)
+  body_size (End ∷ xs) all = let rest = body_size xs (others lane End xs all) in omega (arith, rest)
+  body_size (Broken ∷ xs) all = let rest = body_size xs (others lane Broken xs all) in omega (arith, rest)
 
-  stream_size : (s : Flow) → IsValid (Packets (AudioHead tb rate bits channels codec)) s → size_for layout (mixed (tb ∷ []) (s ∷ [])) < 2 ^ 62
+  stream_size : (s : Flow) → IsValid lane s → size_for layout (mixed (tb ∷ []) (s ∷ [])) < 2 ^ 62
   stream_size s v =
       let same : size_for layout (mixed (tb ∷ []) (s ∷ [])) ≡ length (body layout (placed 0 (packets_of s.items))) =
       ap (λ (t : Stream Placed). size_for layout t) (mixed_one tb s) in
