@@ -45,15 +45,15 @@ fit_few : (h : StreamHead) → IsFitHead h → channels_in h ≤ 16
 fit_few (Audio tb rate bits channels codec) fit = (let few : channels ≤ 8 = fit.channels.1 in omega (arith, few))
 fit_few (Video tb format width height sar_num sar_den) fit = omega arith
 
-at_few : (apart : Bool) (first : StreamHead) (others : List StreamHead) (given said : ℕ) → Counted apart first others given said → AreFew apart said → IsFitHead first
+count_few : (apart : Bool) (first : StreamHead) (others : List StreamHead) (given said : ℕ) → Counted apart first others given said → AreFew apart said → IsFitHead first
     → given ≤ 16
-at_few false first others given said c few fit = (let le = few.1 in omega (arith, c, le))
-at_few true first others given said c few fit = (let le = fit_few first fit in let size = c.2 in omega (arith, le, size))
+count_few false first others given said c few fit = (let le = few.1 in omega (arith, c, le))
+count_few true first others given said c few fit = (let le = fit_few first fit in let size = c.2 in omega (arith, le, size))
 
 gives_few : (name : FilterName) (args : List Arg) (heads : List StreamHead) (f : Filtered) → AreFitHeads heads → configured_as name args heads ≡ Ok f → IsFew f.outs
 gives_few name args heads f all e =
     let g = gives name args heads f e in
-    at_few (is_apart name) g.first g.others (length f.outs) (outputs_of name args) g.count ((owed name).outputs args) (subst AreFitHeads g.fed all).0
+    count_few (is_apart name) g.first g.others (length f.outs) (outputs_of name args) g.count ((owed name).outputs args) (subst AreFitHeads g.fed all).0
 
 -- ---- of a graph
 
