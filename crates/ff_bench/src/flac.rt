@@ -17,8 +17,8 @@ const BLOCKS: u32 = 6460;
 /// How many sample frames a block has.
 const SAMPLE_FRAMES: usize = 4096;
 
-/// Prints how long ten minutes of two channels of 16 bits take, in blocks that are coded one after another, and to how many
-/// bytes they come.
+/// Prints how long ten minutes of two channels of 16 bits take, and to how many bytes they come. Their blocks are
+/// coded one after another.
 pub fn measure(rt: &(impl Print + AllocGlobal + Clock)) -> io::Result<()> {
     let alloc = rt.alloc();
     let mut music = Music { time: 0, noise: 1 };

@@ -203,16 +203,17 @@ fn out_of_memory(alloc: Global) -> Report
 
 /// A command: all that the program does, whatever works its jobs.
 ///
-/// It reads the arguments, opens the inputs by number, each with its head, plans by the heads, creates the outputs by number, and runs;
-/// then it closes the inputs and then the outputs by number, and appends the line of a fault to the log. Where a step is refused,
-/// only the closings and the line still follow, and the first refusal is the status; in the run it is the fault of the first node
-/// that has one. Want of memory may end it at any step. That the run ends isn't claimed.
+/// It reads the arguments, opens the inputs by number, each with its head, plans by the heads, creates the outputs by
+/// number, and runs. Then it closes the inputs and then the outputs by number, and appends the line of a fault to the
+/// log. Where a step is refused, only the closings and the line still follow, and the first refusal is the status. In
+/// the run it is the fault of the first node that has one. Want of memory may end it at any step. That the run ends
+/// isn't claimed.
 ///
-/// Where the arguments ask for a trace, its file is created after the outputs, gets the printed history in one append where no node
-/// has a fault, and is closed last.
+/// Where the arguments ask for a trace, its file is created after the outputs, and closed last. It gets the printed
+/// history in one append where no node has a fault.
 ///
-/// Where the arguments ask for the run over generated input, that job is worked by `own` over a host in memory, nothing of `host` is
-/// touched, and the line that tells of its output is appended to the log.
+/// Where the arguments ask for the run over generated input, that job is worked by `own` over a host in memory.
+/// Nothing of `host` is touched, and the line that tells of its output is appended to the log.
 pub fn run_command<
     H: Host,
     E: Sink,
@@ -222,8 +223,9 @@ pub fn run_command<
     requires able { P.is_able worker.now }
     requires own { Q.is_able own.now }
 
-    // With status Fine the arguments ask for a job, and each of its outputs holds the bytes that the job means; or for what an option
-    // says that stands alone, which touches no file. A string that is asked for so is told, or memory ran out.
+    // With status Fine the arguments ask for a job, and each of its outputs holds the bytes that the job means. Or
+    // they ask for what an option says that stands alone, which touches no file. A string that is asked for so is
+    // told, or memory ran out.
     ensures bytes { result.status ≡ Status.Fine → AsksAlone (texts words.now) ⊎ HoldsMeaning (P.means worker.now) (texts words.now) (H.files host.old) (H.files host.new) }
 
     ensures alone { AsksAlone (texts words.now) → host.new ≡ host.old }
@@ -232,8 +234,9 @@ pub fn run_command<
     // The run over generated input answers as its one job over its own files does; nothing of these fails.
     ensures generated { (seconds : ℕ) → AskGenerated (texts words.now) seconds → IsOwnAnswer (Q.means own.now) seconds result.status }
 
-    // Whatever the status, no other file changes but the trace. Arguments, heads and plans are refused before any file is created, and a run that
-    // fails later leaves of each output what was there, a prefix of what is written to it, or all of it.
+    // Whatever the status, no other file changes but the trace. Arguments, heads and plans are refused before any
+    // file is created. A run that fails later leaves of each output what was there, a prefix of what is written to
+    // it, or all of it.
     ensures others { KeepsOtherFiles (texts words.now) (H.files host.old) (H.files host.new) }
     ensures untouched { ComesBeforeOutputs result.status → KeepsFiles (H.files host.old) (H.files host.new) }
     ensures front { HoldsFront (P.means worker.now) (texts words.now) (H.files host.old) (H.files host.new) }
@@ -288,8 +291,8 @@ pub fn run_command<
     // Whatever the status, each source and each sink that it opened is given back.
     ensures closed { (H.open_sources host.new ≡ H.open_sources host.old) × (H.open_sinks host.new ≡ H.open_sinks host.old) }
 
-    // The string that an option asks for that stands alone, for the run over generated input the line that tells of its output; or the
-    // line of a fault. That of a device's names the file.
+    // The string that an option asks for that stands alone. For the run over generated input it is the line that
+    // tells of its output. Else it is the line of a fault. That of a device's names the file.
     ensures line_not_due { (result.line ≡ Line.NotDue) ↔ ((result.status ≡ Status.Fine) × AskFor (texts words.now) (λ job. ⊤)) }
     ensures not_logged { result.line ≡ Line.NotDue → Keeps (E.holds log.old) (E.holds log.new) }
     ensures logged { result.line ≡ Line.Whole → (text : List ℕ) × IsDue (Q.means own.now) (texts words.now) result.status text

@@ -5,12 +5,13 @@
 //!   └─ wrong ────────────┴─ refused ─────────────────┴─ refused ─────┴─ failed ─────┴──────────────────┘
 //! ```
 //!
-//! `specs/Command` says, readable alone, what a command means, when each answer comes, and what stands then; `specs/Texts` has the
-//! lines of faults and the numbers. [`run_command`] is proved to keep to them over any host, any log and any [`Worker`]: what is done
-//! of a job between the opening of its inputs and the closing of its outputs a worker says, and does. The history of a run is
-//! reported, and printed into the file of the trace where the arguments ask for one. What is told of the command itself, where an option
-//! stands alone, is in `specs/Help`, over the lists by which arguments are read. The run over generated input (ff_selfrun) is a job like
-//! any other, over a host in memory, by a worker of its own.
+//! `specs/Command` says, readable alone, what a command means, when each answer comes, and what stands then.
+//! `specs/Texts` has the lines of faults and the numbers. [`run_command`] is proved to keep to them over any host,
+//! any log and any [`Worker`]. A worker says, and does, what is done of a job between the opening of its inputs and
+//! the closing of its outputs. The history of a run is reported, and printed into the file of the trace where the
+//! arguments ask for one. What is told of the command itself, where an option stands alone, is in `specs/Help`, over
+//! the lists by which arguments are read. The run over generated input (ff_selfrun) is a job like any other, over a
+//! host in memory, by a worker of its own.
 #![tactic(auto)]
 
 mod command;

@@ -28,7 +28,8 @@ pub trait Worker<Src: Source + Send + Drop, Snk: Sink + Send + Drop> {
     /// What a job means: all that contracts see of its work.
     ghost means: { Self → Job → Meaning InputHead PlanError RunFault };
 
-    /// It may be the history of a run of a job that did all, over inputs with these heads and, where these are told, these bytes.
+    /// It may be the history of a run of a job that did all. The inputs have these heads and, where these are told,
+    /// these bytes.
     ghost tells: { Self → Job → List InputHead → Option (List (List ℕ)) → List Event → Type 0 };
 
     /// These may be the reads of such a run, for each input places of this history.
@@ -47,8 +48,9 @@ pub trait Worker<Src: Source + Send + Drop, Snk: Sink + Send + Drop> {
         ensures some { OnOk result ((means self.now job.now).refusal heads.now ≡ None) }
         ensures refused { (why : _) → IfErr result (λ end. end ≡ PlanEnd.Refused why → (means self.now job.now).refusal heads.now ≡ Some why) };
 
-    /// Runs a plan over the sources of the inputs, which give these from the first byte on, and the sinks of the outputs, which
-    /// hold nothing. The end is the fault of the first that has one, the inputs before the outputs.
+    /// Runs a plan over the sources of the inputs and the sinks of the outputs. The sources give the inputs from the
+    /// first byte on, and the sinks hold nothing. The end is the fault of the first that has one, the inputs before
+    /// the outputs.
     fn run(
         &self,
         job: &Job,

@@ -123,7 +123,8 @@ fn read_pieces<I: InputFile, S: Source>(
     }
 }
 
-/// The head of what a source has left, read in pieces of 4,096 bytes until it is decided, and the bytes that were read with it.
+/// The head of what a source has left, and the bytes that were read with it. It is read in pieces of 4,096 bytes
+/// until it is decided.
 ///
 /// Refused for a fault of reading, for a head that is damaged or of a kind that isn't read, and for want of memory.
 pub fn read_begin<I: InputFile, S: Source>(

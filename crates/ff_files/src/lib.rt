@@ -1,5 +1,5 @@
-//! The files of a run: the inputs are opened by number, each with its head, the outputs are created by number, and all are
-//! closed again, over one host.
+//! The files of a run, all over one host. The inputs are opened by number, each with its head, the outputs are
+//! created by number, and all are closed again.
 //!
 //! ```text
 //!  inputs   0 1 2 ..   opened ──► head read ──┐                                  ┌──► sources closed, 0 1 2 ..
@@ -8,9 +8,10 @@
 //!                                   refused ──┴──► only the closings follow
 //! ```
 //!
-//! What an input's head is, and how it is read, an [`InputFile`] says: nothing here but `job` knows formats. What is done between
-//! the opening and the closing is a [`Work`]: it plans by the heads, and runs. One more file may stand after the outputs, the
-//! trace: the work doesn't get its sink, and what the run has logged is printed into it once all was done.
+//! What an input's head is, and how it is read, an [`InputFile`] says: nothing here but `job` knows formats. What is
+//! done between the opening and the closing is a [`Work`]: it plans by the heads, and runs. One more file may stand
+//! after the outputs, the trace. The work doesn't get its sink, and what the run has logged is printed into it once
+//! all was done.
 #![tactic(auto)]
 
 mod closing;

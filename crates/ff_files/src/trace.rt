@@ -96,8 +96,8 @@ fn take_trace<Snk: Drop>(snks: &mut Vec<Snk>, count: usize) -> Option<Snk>
     if count < snks.len() { snks.pop() } else { None }
 }
 
-/// Runs a plan over the sources of the inputs and the sinks of so many outputs. One more sink may stand after these, that of the
-/// trace: it gains what the run has logged, as a string, in one append, where all was done.
+/// Runs a plan over the sources of the inputs and the sinks of so many outputs. One more sink may stand after these,
+/// that of the trace. It gains what the run has logged, as a string, in one append, where all was done.
 pub(crate) fn run_traced<
     H,
     Src: Source + Send + Drop,

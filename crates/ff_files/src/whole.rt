@@ -240,12 +240,13 @@ fn run_files<H: Host, I: InputFile, N: Named, W: Work<I::Head, Begun<H::Src>, H:
 
 /// A command over files: all that is done between its arguments and its status.
 ///
-/// It opens the inputs by number, each with its head, plans by the heads, creates the outputs by number, runs, and closes the
-/// sources and then the sinks by number. Where a step is refused, only the closings still follow, and the first refusal is the
-/// end. Two inputs may have one name, which is then read twice; two outputs may not. Want of memory may end it at any step.
+/// It opens the inputs by number, each with its head, plans by the heads, creates the outputs by number, and runs.
+/// Then it closes the sources and then the sinks by number. Where a step is refused, only the closings still follow,
+/// and the first refusal is the end. Two inputs may have one name, which is then read twice; two outputs may not.
+/// Want of memory may end it at any step.
 ///
-/// So many of the outputs are the work's. One more may stand after them, the trace: it is created last, gets what the run has
-/// logged in one append where all was done, and is closed last.
+/// So many of the outputs are the work's. One more may stand after them, the trace. It is created last, gets what the
+/// run has logged in one append where all was done, and is closed last.
 pub fn over_files<H: Host, I: InputFile, N: Named, W: Work<I::Head, Begun<H::Src>, H::Snk>>(
     alloc: Global,
     host: &mut H,

@@ -80,8 +80,9 @@ pub trait Work<H, Src: Source + Send + Drop, Snk: Sink + Send + Drop> {
         ensures some { OnOk result ((means self.now).refusal heads.now ≡ None) }
         ensures refused { (why : _) → IfErr result (λ end. end ≡ PlanEnd.Refused why → (means self.now).refusal heads.now ≡ Some why) };
 
-    /// Runs a plan over the sources of the inputs, which give these from the first byte on, and the sinks of the outputs, which
-    /// hold nothing. The end is the fault of the first that has one, the inputs before the outputs.
+    /// Runs a plan over the sources of the inputs and the sinks of the outputs. The sources give the inputs from the
+    /// first byte on, and the sinks hold nothing. The end is the fault of the first that has one, the inputs before
+    /// the outputs.
     fn run(
         &self,
         plan: Self::Plan,

@@ -32,8 +32,8 @@ pub fn the_function_needs_no_memory()
     ensures { (name : FilterName) (args : List Arg) (heads : List StreamHead) → configured_as name args heads ≢ Err NoMemory }
 {}
 
-/// The inputs of a filter carry frames of the heads that it was configured for, its outputs frames of the heads beside it, and
-/// nothing came to it yet.
+/// The inputs of a filter carry frames of the heads that it was configured for. Its outputs carry frames of the heads
+/// beside it, and nothing came to it yet.
 pub fn filters_carry_their_heads()
     ensures ins { (name : FilterName) (args : List Arg) (heads : List StreamHead) (f : Filtered)
         → configured_as name args heads ≡ Ok f → f.view.ins ≡ map Frames heads }

@@ -5,9 +5,10 @@
 //!   arguments, heads ────┴─► configure ──► AnyFilter, the heads of its outputs
 //! ```
 //!
-//! [`AnyFilter`] is the machine of any filter that there is, so that a graph can hold them side by side; it meets
-//! `ff_filter::Filter` as each of them does. What a filter is stands in one record, by its name (`specs/Definitions`); what every
-//! filter owes in one more (`proofs/Owed`), which all that is proved of graphs takes whole.
+//! [`AnyFilter`] is the machine of any filter that there is, so that a graph can hold them side by side. It meets
+//! `ff_filter::Filter` as each of them does. What a filter is stands in one record, by its name
+//! (`specs/Definitions`). What every filter owes stands in one more (`proofs/Owed`), which all that is proved of
+//! graphs takes whole.
 //!
 //! `limited`: Each filter, as it is configured, is a function within the limits of its outputs.
 #![tactic(auto)]

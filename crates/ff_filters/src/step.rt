@@ -1,5 +1,5 @@
-//! Any function of one stream that gives at most one item for each. A further one is a line in [`AnyStep`] and one in each of its
-//! matches here; the machine around it, and all that stands on [`crate::AnyFilter`], stay as they are.
+//! Any function of one stream that gives at most one item for each. A further one is a line in [`AnyStep`] and one in
+//! each of its matches here. The machine around it, and all that stands on [`crate::AnyFilter`], stay as they are.
 ghost use Rattle.std.specs.Prelude.{◌≡◌, refl};
 ghost use Rattle.ff_stream.specs.Stream.{opened, still_open, whole, broken};
 ghost use Rattle.ff_stream.specs.Order.{below_self};

@@ -17,8 +17,8 @@ pub enum FileFormat {
     FrameHash,
 }
 
-/// The values of `-f`, each with how the names of such files end (empty where no ending tells), and whether an input and an
-/// output may have it.
+/// The values of `-f`, each with how the names of such files end (empty where no ending tells). Beside them stands
+/// whether an input and an output may have it.
 pub static FORMATS: [(&'static str, &'static str, FileFormat, bool, bool); 4] = [
     ("wav", ".wav", FileFormat::Wav, true, true),
     ("flac", ".flac", FileFormat::Flac, true, true),
@@ -116,8 +116,9 @@ pub struct Taken {
 impl FileFormat {
     ghost use Rattle.ff_format.specs.Formats.{taken_by};
 
-    /// What an output of it takes: WAV linear PCM with the lowest byte first, unsigned where a sample has one byte and signed else, FLAC
-    /// what is coded so, YUV4MPEG2 video, each of one stream; framehash any linear PCM and video, of up to 16 streams.
+    /// What an output of it takes: WAV takes linear PCM with the lowest byte first, unsigned where a sample has one
+    /// byte and signed else. FLAC takes what is coded so, YUV4MPEG2 video, each of one stream. Framehash takes any
+    /// linear PCM and video, of up to 16 streams.
     pub fn taken(self) -> Taken
         ensures row { result ≡ taken_by self }
         ensures few { result.streams ≤ 16 }

@@ -5,10 +5,10 @@
 //!           last ──► takes the place of as many bytes of it, once every stream is whole
 //! ```
 //!
-//! `specs/Formats` has a row for each format. `specs/Layouts` says what a format is to whoever writes files: a `Layout`, and by it
-//! the file as a whole, and the finished file, which is defined once for all formats. `Writer` is what gives the pieces.
-//! `specs/Outputs` has the record of a format that is written, which its writer's crate gives: which streams it takes, how it writes
-//! them, and that it can write what its row takes.
+//! `specs/Formats` has a row for each format. `specs/Layouts` says what a format is to whoever writes files. That is
+//! a `Layout`, and by it the file as a whole, and the finished file, which is defined once for all formats. `Writer`
+//! is what gives the pieces. `specs/Outputs` has the record of a format that is written, which its writer's crate
+//! gives. It says which streams it takes, how it writes them, and that it can write what its row takes.
 #![tactic(auto)]
 
 mod format;

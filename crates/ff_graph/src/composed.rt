@@ -6,8 +6,8 @@
 //!   cuts ──► Cutting (ff_trim): a cut after each output
 //! ```
 //!
-//! The filter does what the definition of the graph says, pad by pad; its outputs are broken off by a limit only where a limit of one of
-//! its filters cuts. What it gives may then be cut in time, output by output.
+//! The filter does what the definition of the graph says, pad by pad. Its outputs are broken off by a limit only
+//! where a limit of one of its filters cuts. What it gives may then be cut in time, output by output.
 
 mod connecting;
 mod graph;

@@ -60,8 +60,9 @@ fn in_this_order(
     })
 }
 
-/// The filters of a graph where its open input pads have these heads (None: no stream), each by the heads of what those before it
-/// give, and its open output pads. `Loop` only where its filters feed one another in a loop.
+/// The filters of a graph where its open input pads have these heads (None: no stream), and its open output pads.
+/// Each filter is made by the heads of what those before it give. `Loop` only where its filters feed one another in a
+/// loop.
 pub fn configure_graph(
     alloc: Global,
     graph: &Graph,

@@ -30,8 +30,8 @@ fn stands_at(pads: &[Pad], place: usize, filter: usize) -> bool
     place < pads.len() && pads[place].filter == filter
 }
 
-/// Whether a filter has more labels at its inputs than pads, its chain leaves outputs over, it is the 65th, or it has the graph's
-/// 17th open input pad.
+/// Whether a filter has more labels at its inputs than pads, its chain leaves outputs over, or it is one too many.
+/// That is the 65th, or one that has the graph's 17th open input pad.
 pub(crate) fn is_misfit(drawn: &[Drawn<'_>], opens: &[Pad], filter: usize, own: &Drawn<'_>) -> bool
     ensures { result ≡ misfits (all_seen drawn.now) opens.now filter (seen own.now) }
 {

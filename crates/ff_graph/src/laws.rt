@@ -13,8 +13,8 @@ pub fn refusals_are_of_filters()
     ensures memory { (g : Text) (given : List (Option StreamHead)) (r : Refused) → configured g given ≡ Err r → r.kind ≢ fault.NoMemory }
 {}
 
-/// Four graphs: two videos beside one another; one video that goes two ways, each of which is open at its end; one label too many;
-/// and a filter that has the graph's 17th open input pad.
+/// Four graphs: two videos beside one another, and one video that goes two ways, each of which is open at its end.
+/// Then one label too many, and a filter that has the graph's 17th open input pad.
 pub fn graphs_by_example()
     ensures stacked { configured two_beside (Some (picture 2) ∷ Some (picture 4) ∷ []) ≡ Ok (out 0 0 None (picture 6) ∷ []) }
     ensures unlike { configured two_beside (Some (picture 2) ∷ None ∷ []) ≡ Err (record { filter = 0; kind = fault.Pads }) }

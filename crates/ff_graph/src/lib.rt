@@ -1,5 +1,6 @@
-//! Filtergraphs as they are written: the filters in their order, what feeds each, the order in which they can be made, what the open
-//! pads are, and the filters themselves, each configured by the heads of what comes to it.
+//! Filtergraphs as they are written. That is the filters in their order, what feeds each, and the order in which they
+//! can be made. It is what the open pads are, and the filters themselves, each configured by the heads of what comes
+//! to it.
 //!
 //! ```text
 //!   Graph ──► drawn ──► sources (ff_graph_links): the output pad that feeds each input pad

@@ -122,8 +122,8 @@ fn no_heads(alloc: Global, count: usize) -> Result<Vec<Vec<StreamHead>>, AllocEr
     Ok(heads)
 }
 
-/// The filters of this order one by one, each by the heads of what those before it give, and the heads of the output pads of each by
-/// its number.
+/// The filters of this order one by one, each by the heads of what those before it give. Beside them stand the heads
+/// of the output pads of each, by its number.
 pub fn make_all(
     alloc: Global,
     drawn: &[Drawn<'_>],

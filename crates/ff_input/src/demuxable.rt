@@ -14,8 +14,8 @@ use std::alloc::AllocError;
 /// An input is read in pieces of at most so many bytes, where the rest of a packet is no reason for more.
 pub const PIECE: usize = 65536;
 
-/// A format whose inputs can be demuxed: of each the packets are in shape for their lane, and more is read only where what was
-/// read leaves the next packet undecided.
+/// A format whose inputs can be demuxed. The packets of each are in shape for their lane. More is read only where
+/// what was read leaves the next packet undecided.
 pub trait Demuxable: PacketCut {
     ghost use Rattle.ff_input.specs.Owed.{Owes};
     ghost use Rattle.ff_input.specs.Reading.{LeavesOpen, AsksWithin};
@@ -120,8 +120,8 @@ impl Demuxable for FlacCut {
 
     ghost ahead = { λ head. longest_frame };
 
-    /// As many bytes as wait, where these are more than a piece: so a frame that isn't whole yet is read anew only once it has
-    /// doubled, and not once for each piece.
+    /// As many bytes as wait, where these are more than a piece. So a frame that isn't whole yet is read anew only
+    /// once it has doubled, and not once for each piece.
     fn piece(&self) -> usize {
         PIECE.max(self.held() as usize)
     }

@@ -5,12 +5,14 @@
 //!       └─► AnyCut: the cut of one of the formats ──► packets
 //! ```
 //!
-//! A format is a head, a walk that reads it, and a cut of what follows: [`HeadReader`], `PacketCut` of ff_reader and [`Demuxable`].
-//! [`OneOf`] two of each is one of each again, by one `impl` of each trait; so the formats of inputs, nested, are one format.
-//! `formats` lists them, and beside it `specs/Formats` says what the head of a whole input is: in the format that was given, or in the
-//! one whose first words the input has. `specs/FirstWords` says when these are told. `specs/Answers` says what an answer means that was
-//! given at a prefix of the input: not yet exactly where some bytes decide otherwise than others, and else the head, whatever follows.
-//! `specs/Places` says how far a walk has read, `specs/Reading` which bytes a cut asks for, and `specs/Shapes` that packets are in shape.
+//! A format is a head, a walk that reads it, and a cut of what follows: [`HeadReader`], `PacketCut` of ff_reader and
+//! [`Demuxable`]. [`OneOf`] two of each is one of each again, by one `impl` of each trait. So the formats of inputs,
+//! nested, are one format. `formats` lists them, and beside it `specs/Formats` says what the head of a whole input
+//! is. It is the head in the format that was given, or in the one whose first words the input has. `specs/FirstWords`
+//! says when these are told. `specs/Answers` says what an answer means that was given at a prefix of the input. It is
+//! not yet exactly where some bytes decide otherwise than others, and else the head, whatever follows. `specs/Places`
+//! says how far a walk has read, `specs/Reading` which bytes a cut asks for, and `specs/Shapes` that packets are in
+//! shape.
 #![tactic(auto)]
 
 mod demuxable;

@@ -8,9 +8,10 @@ use crate::walk::InputWalk;
 use ff_format::FileFormat;
 use ff_frame::HeadEnd;
 
-/// The head of an input that begins with these bytes, and where `whole` ends with them: in this format, or without one in the
-/// format whose first word the input has. Unsupported at 0 where it has that of none, and in a format that isn't read; else
-/// what the format says of it. Where it is read in pieces, [`InputWalk`] goes on from where it was.
+/// The head of an input that begins with these bytes, and where `whole` ends with them. It is read in this format, or
+/// without one in the format whose first word the input has. Unsupported at 0 where it has that of none, and in a
+/// format that isn't read; else what the format says of it. Where it is read in pieces, [`InputWalk`] goes on from
+/// where it was.
 pub fn read_input_head(
     format: Option<FileFormat>,
     bytes: &[u8],

@@ -86,8 +86,9 @@ fn no_totals() -> Totals
     }
 }
 
-/// What stands before the frames of a FLAC file before its stream has ended: the mark, and STREAMINFO with blocks of 4,096 sample
-/// frames, in which the sizes of frames, the number of sample frames and the digest are 0 (RFC 9639, sections 6, 8 and 8.2).
+/// What stands before the frames of a FLAC file before its stream has ended: the mark, and STREAMINFO with blocks of
+/// 4,096 sample frames. The sizes of frames, the number of sample frames and the digest are 0 in it (RFC 9639,
+/// sections 6, 8 and 8.2).
 #[tactic(auto, unfolding(crate::specs::FlacHead::before_info))]
 pub fn flac_first(alloc: Global, head: &StreamHead) -> Result<Vec<u8>, AllocError>
     requires { HasRoomFor head.now }
@@ -98,8 +99,8 @@ pub fn flac_first(alloc: Global, head: &StreamHead) -> Result<Vec<u8>, AllocErro
     Ok(out)
 }
 
-/// The 34 bytes of STREAMINFO with these totals; a size of 2^24 or more is written as 0, and so is a number of 2^36 sample frames or
-/// more (RFC 9639, section 8.2).
+/// The 34 bytes of STREAMINFO with these totals (RFC 9639, section 8.2). A size of 2^24 or more is written as 0, and
+/// so is a number of 2^36 sample frames or more.
 pub fn flac_last(alloc: Global, head: &StreamHead, totals: &Totals) -> Result<Vec<u8>, AllocError>
     requires { HasRoomFor head.now }
     ensures { IfOk result (λ bytes. bytes.items ≡ info_of head.now totals.now) }

@@ -166,8 +166,8 @@ fn push_streams(alloc: Global, out: &mut Vec<u8>, heads: &[StreamHead]) -> Resul
     Ok(())
 }
 
-/// The lines before those of the packets, of a file with these streams: which digest stands for the bytes of a packet, and what
-/// is known of each stream.
+/// The lines before those of the packets, of a file with these streams. They tell which digest stands for the bytes
+/// of a packet, and what is known of each stream.
 #[tactic(auto, unfolding(crate::specs::HashTexts::text_before, crate::specs::FrameHash::columns))]
 pub(crate) fn hash_header(
     alloc: Global,
@@ -236,7 +236,8 @@ fn push_digest(
     line.extend_from_slice(digest.as_bytes())
 }
 
-/// The line of a packet of a stream: its times, duration and size, each of them right in its column, and the digest of its bytes.
+/// The line of a packet of a stream. It has its times, duration and size, each of them right in its column, and the
+/// digest of its bytes.
 pub(crate) fn hash_line(
     alloc: Global,
     kind: HashKind,

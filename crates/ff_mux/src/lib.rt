@@ -1,7 +1,7 @@
 //! What is written to files that hold packets or tell of them: the lines and headers, as pure functions.
 //!
-//! [`HashPut`] gives the lines of a framehash file, in the pieces in which they are written: those before the packets, and a line for
-//! each packet. `specs/HashTexts` has them, for any number of streams and either digest.
+//! [`HashPut`] gives the lines of a framehash file, in the pieces in which they are written. These are those before
+//! the packets, and a line for each packet. `specs/HashTexts` has them, for any number of streams and either digest.
 //!
 //! `writers` has what an output's format writes: its bytes around the packets and of each, as pure state, in any format.
 #![tactic(auto)]

@@ -34,8 +34,8 @@ impl HashPut {
         hash_header(self.alloc, self.kind, &self.heads)
     }
 
-    /// The line of a packet of this stream: its times, duration and size, each of them right in its column, and the digest of its
-    /// bytes.
+    /// The line of a packet of this stream. It has its times, duration and size, each of them right in its column,
+    /// and the digest of its bytes.
     pub fn line(&self, stream: u32, pkt: &Pkt) -> Result<Vec<u8>, AllocError>
         ensures { IfOk result (λ line. line.items ≡ line_by (put_kind self.now) stream pkt.now) }
     {

@@ -4,9 +4,10 @@
 //! packet ──► Decoder ──► frame, with the packet's times        frame ──► Encoder ──► packet, with the frame's times
 //! ```
 //!
-//! `Decoder` and `Encoder` say what a codec is to whoever runs it: which items it takes, what it makes of each, and that this fits
-//! the lane and keeps the times. A codec has a file here and a variant of `AnyDecoder` and `AnyEncoder`: linear PCM, FLAC,
-//! which is read here alone, and raw video, whose planes are moved. `specs/codecs/Decoding` and `specs/codecs/Encoding` have what they make.
+//! `Decoder` and `Encoder` say what a codec is to whoever runs it. That is which items it takes, what it makes of
+//! each, and that this fits the lane and keeps the times. A codec has a file here and a variant of `AnyDecoder` and
+//! `AnyEncoder`. The codecs are linear PCM, FLAC, which is read here alone, and raw video, whose planes are moved.
+//! `specs/codecs/Decoding` and `specs/codecs/Encoding` have what they make.
 
 mod any;
 mod choice;

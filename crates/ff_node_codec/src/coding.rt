@@ -41,8 +41,9 @@ pub fn plain_packets_are_undamaged()
     ensures raw { (head : StreamHead) (items : List Item) → IsPictureHead head → damage_in (decoded_item (raw_frame head)) items ≡ None }
 {}
 
-/// What a decoder, where each packet has a frame, and an encoder mean keeps the broken rule, with a cut as well: a broken input
-/// counts as open without a further item, and the output is broken exactly where the input is and no cut was over before.
+/// What a decoder, where each packet has a frame, and an encoder mean keeps the broken rule, with a cut as well. A
+/// broken input counts as open without a further item. The output is broken exactly where the input is and no cut was
+/// over before.
 pub fn coding_keeps_the_broken_rule()
     ensures decoding { (made : Pkt → Option Item) → KeepsBrokenRule (IsUndamaged (decoded_item made)) (λ ss. decoded made (stream_at ss 0)) }
     ensures cut_decoding { (head : StreamHead) (made : Pkt → Option Item) (c : TimeCut)

@@ -19,9 +19,9 @@ use ff_stream::{Item, Refused};
 use ff_time::TimeCut;
 use std::alloc::{AllocError, Global};
 
-/// Decodes the packets of a stream, whatever its codec: gives what a cut leaves of the frame of each packet on each output, and
-/// how the stream ends. A packet that has no frame breaks it off, with the fault that the input is damaged there; after the end
-/// of the cut no packet is looked at.
+/// Decodes the packets of a stream, whatever its codec. It gives what a cut leaves of the frame of each packet on
+/// each output, and how the stream ends. A packet that has no frame breaks it off, with the fault that the input is
+/// damaged there. After the end of the cut no packet is looked at.
 #[derive(Drop)]
 pub struct Dec<D> {
     alloc: Global,

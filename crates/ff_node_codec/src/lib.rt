@@ -6,12 +6,13 @@
 //!                  └──► frames
 //! ```
 //!
-//! [`Dec`] gives what a cut leaves of the frame of each packet on each of its outputs: a frame is decoded and cut once, copied for
-//! all outputs that are still wanted but the last, and moved to that. A packet that has no frame breaks the outputs off, with the
-//! fault that the input is damaged there; once the cut is over they are whole, and nothing more is asked of the input. [`Enc`] gives
-//! the packet of each frame. Which codec it is they know by the traits of ff_node_codec alone. `specs/Making` says what is made of a
-//! stream, `Decoding` and `Encoding` what the two mean, and `Spreads` what a machine of one input and some outputs keeps, from which
-//! every law of a machine follows once for both.
+//! [`Dec`] gives what a cut leaves of the frame of each packet on each of its outputs. A frame is decoded and cut
+//! once, copied for all outputs that are still wanted but the last, and moved to that. A packet that has no frame
+//! breaks the outputs off, with the fault that the input is damaged there. Once the cut is over they are whole, and
+//! nothing more is asked of the input. [`Enc`] gives the packet of each frame. Which codec it is they know by the
+//! traits of ff_node_codec alone. `specs/Making` says what is made of a stream, and `Decoding` and `Encoding` what
+//! the two mean. `Spreads` says what a machine of one input and some outputs keeps. From that every law of a machine
+//! follows once for both.
 //!
 //! `codecs`: What decodes the packets of a stream and encodes its frames, one for one, as pure state.
 #![tactic(auto)]

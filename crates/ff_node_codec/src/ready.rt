@@ -81,8 +81,8 @@ impl Ready {
         }
     }
 
-    /// Puts the item that is to be put after the others, and what closes the output after it; once the output was stopped, it is
-    /// let go.
+    /// Puts the item that is to be put after the others, and what closes the output after it. Once the output was
+    /// stopped, it is let go.
     pub fn put_next(&mut self, after: After)
         requires { HasRoom self.old }
         ensures stopped { self.new.stopped ≡ self.old.stopped }

@@ -101,8 +101,8 @@ impl<S: Source + Drop, C: Demuxable + Drop> Demux<S, C> {
         })
     }
 
-    /// Under how many of its tickets, from the first on, it has tried a packet or the end: as many as it gave, and so at most one more
-    /// than its stream has packets.
+    /// Under how many of its tickets, from the first on, it has tried a packet or the end. That is as many as it
+    /// gave, and so at most one more than its stream has packets.
     pub fn tried(&self) -> u64
         ensures reads { result ≡ demux_reads self.now }
         ensures few { (past : Past) → demux_stands S.left self.now past → result ≤ length (stream_at (past.task.means past.got) 0).items + 1 }
@@ -121,8 +121,8 @@ impl<S: Source + Drop, C: Demuxable + Drop> Demux<S, C> {
         self.ended || self.stopped || self.fault.is_some()
     }
 
-    /// The source, as it is now. All that there is to tell of it is that it has exited, once nothing more is given: where there is a
-    /// fault, or the output was stopped or has closed.
+    /// The source, as it is now. All that there is to tell of it is that it has exited, once nothing more is given.
+    /// That is where there is a fault, or the output was stopped or has closed.
     pub fn into_source(self) -> S
         ensures name { S.name result ≡ demux_device S.name self }
         ensures faults { S.faults result ≡ demux_failures S.faults self }

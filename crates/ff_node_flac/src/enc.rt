@@ -17,8 +17,8 @@ use ff_net::{Fault, Machine};
 use ff_stream::{Item, Refused};
 use std::alloc::{AllocError, Global};
 
-/// Encodes the frames of an audio stream as FLAC: a packet of each block of 4,096 sample frames, the last one of the rest, and
-/// after them the totals. A stream with more than 2^31 packets breaks off as too long.
+/// Encodes the frames of an audio stream as FLAC. It gives a packet of each block of 4,096 sample frames, the last
+/// one of the rest, and after them the totals. A stream with more than 2^31 packets breaks off as too long.
 #[derive(Drop)]
 pub struct FlacEnc<C> {
     coder: C,

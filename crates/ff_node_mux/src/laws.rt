@@ -5,15 +5,16 @@ ghost use Rattle.ff_node_mux.specs.Sizes.{PcmIsShort, PcmFits};
 ghost use Rattle.ff_node_mux.specs.StreamEvents.{ToldOfStreams, ToldOfOne};
 ghost use Rattle.ff_node_mux.specs.Telling.{AllOfStreams, SentTimes};
 
-/// What a muxer's sink holds of the streams that it was fed is held of all streams that go on from them, but for breaks: a prefix of
-/// what is written, or the file.
+/// What a muxer's sink holds of the streams that it was fed is held of all streams that go on from them, but for
+/// breaks. It is a prefix of what is written, or the file.
 pub fn held_parts_stay()
     ensures { HeldPartsStay }
 {}
 
-/// What a muxer tells is of its output streams, and each time is below 2^63, whatever it is fed; of a valid packet it is the time at
-/// which it is decoded, rescaled to microseconds. Of a valid stream that it was fed to its end it has to tell when each packet is decoded,
-/// in order, and then that the output stream has finished; with one stream that is all it tells.
+/// What a muxer tells is of its output streams, and each time is below 2^63, whatever it is fed. Of a valid packet it
+/// is the time at which it is decoded, rescaled to microseconds. Of a valid stream that it was fed to its end it has
+/// to tell when each packet is decoded, in order. Then it tells that the output stream has finished. With one stream
+/// that is all it tells.
 pub fn events_of_a_stream()
     ensures streams { AllOfStreams }
     ensures times { SentTimes }
@@ -26,8 +27,8 @@ pub fn one_stream_is_written_as_it_is()
     ensures { MixedOne }
 {}
 
-/// Of a valid stream of linear PCM fewer than 2^62 bytes are written, where a packet is written as it stands; a format that holds so
-/// many is never too small for it.
+/// Of a valid stream of linear PCM fewer than 2^62 bytes are written, where a packet is written as it stands. A
+/// format that holds so many is never too small for it.
 pub fn sound_is_short()
     ensures short { PcmIsShort }
     ensures fits { PcmFits }

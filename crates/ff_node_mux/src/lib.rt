@@ -1,8 +1,9 @@
 //! The part of a run that writes an output in any format.
 //!
-//! [`Mux`] is a machine over a sink and a writer of a format, with an input for each stream of the output, whose packets it writes in
-//! the order of their merge. `specs/Muxing` says what of the streams it writes, and which file that is once each is whole, by the
-//! format's layout and the bases of their times alone, and `specs/Telling` what it tells of them.
+//! [`Mux`] is a machine over a sink and a writer of a format. It has an input for each stream of the output, whose
+//! packets it writes in the order of their merge. `specs/Muxing` says what of the streams it writes, and which file
+//! that is once each is whole. It says so by the format's layout and the bases of their times alone. `specs/Telling`
+//! says what it tells of them.
 //!
 //! `merge`: The packets of several streams in one order: by the time at which each is decoded, exactly, then by stream, then by position.
 #![tactic(auto)]

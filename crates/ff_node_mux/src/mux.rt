@@ -25,16 +25,17 @@ use ff_time::Rational;
 use std::alloc::{AllocError, Global};
 use std::collections::VecDeque;
 
-/// Writes streams of packets in a writer's format on its sink: what stands before the packets in one append, before its first item,
-/// what is written of each packet in one append, in the order of their merge and as soon as it is decided there, and once each stream has
-/// ended whole what follows them in one append and what takes the place of bytes in one patch.
+/// Writes streams of packets in a writer's format on its sink. Before its first item it writes what stands before the
+/// packets, in one append. Then it writes each packet in one append, in the order of their merge and as soon as it is
+/// decided there. Once each stream has ended whole, it writes what follows them in one append, and what takes the
+/// place of bytes in one patch.
 ///
 /// A packet that makes the packets more bytes than the format holds is the fault TooLarge, and nothing of it is written. Want of memory
 /// in an append, or for what is written of a packet that waited, is a fault, and the item counts as fed. After a fault it takes what comes and
 /// writes nothing. Of a trailer nothing is written: the totals that it tells are kept for the end, of the first stream alone.
 ///
-/// Of each packet that it is fed it tells the time, and of what closes a stream that its output stream has finished, after a fault
-/// too.
+/// Of each packet that it is fed it tells the time. Of what closes a stream it tells that its output stream has
+/// finished, after a fault too.
 #[derive(Drop)]
 pub struct Mux<K: Sink, W: Writer> {
     alloc: Global,
@@ -86,8 +87,8 @@ fn merge_of(alloc: Global, heads: &[StreamHead]) -> Result<Interleave, AllocErro
 impl<K: Sink + Drop, W: Writer + Drop> Mux<K, W> {
     ghost use Rattle.ff_node_mux.specs.Muxers.{mux_sink, mux_stands, mux_in_lanes, mux_fault};
 
-    /// Over a sink that holds nothing and a writer that counted nothing, for the packets of output streams of these heads, with numbers
-    /// from this one on. The sink comes back where memory is refused.
+    /// Over a sink that holds nothing and a writer that counted nothing, for the packets of output streams of these
+    /// heads. Their numbers go from this one on. The sink comes back where memory is refused.
     pub fn new(
         alloc: Global,
         first: u32,
@@ -127,10 +128,11 @@ impl<K: Sink + Drop, W: Writer + Drop> Mux<K, W> {
         })
     }
 
-    /// Gives the sink back. It holds nothing before the first item, afterwards what is written of the streams, and once each is whole
-    /// their file; where there is a fault a prefix of what is written, or the file, and none of the packets from the first on that makes
-    /// them too many bytes, where it is of one stream. What there was to tell of a stream that has closed are the events of its output stream. The layout and the
-    /// bases are whichever the muxer's task is of.
+    /// Gives the sink back. It holds nothing before the first item, afterwards what is written of the streams, and
+    /// once each is whole their file. Where there is a fault it holds a prefix of what is written, or the file. Of
+    /// one stream it then holds none of the packets from the first on that makes them too many bytes. What there was
+    /// to tell of a stream that has closed are the events of its output stream. The layout and the bases are
+    /// whichever the muxer's task is of.
     pub fn into_sink(self) -> K
         ensures sink { result ≡ mux_sink self }
         ensures fresh { (past : Past) → mux_stands self past → NothingCame past.got → K.holds result ≡ Some [] }

@@ -38,8 +38,8 @@ pub(crate) fn time_base(head: &StreamHead) -> Rational
     }
 }
 
-/// What the output stream of this number and head tells of an item: of a packet the time at which it is decoded, in microseconds, and
-/// of what closes the stream that it has finished.
+/// What the output stream of this number and head tells of an item. Of a packet it is the time at which it is
+/// decoded, in microseconds, and of what closes the stream that it has finished.
 pub(crate) fn told_by(stream: u32, head: &StreamHead, item: &Item) -> Option<Event>
     ensures { option_to_list result ≡ told_by stream (base_of_head head.now) item.now }
 {

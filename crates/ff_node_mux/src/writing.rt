@@ -99,8 +99,8 @@ fn write_decided<K: Sink, W: Writer>(
     }
 }
 
-/// Writes what stands before the packets, where nothing was written yet, then the packets that are decided, and where each stream is
-/// whole what follows them and what takes the place of bytes, by the totals that were told.
+/// Writes what stands before the packets, where nothing was written yet, and then the packets that are decided. Where
+/// each stream is whole, it writes what follows them and what takes the place of bytes, by the totals that were told.
 pub(crate) fn write_on<K: Sink, W: Writer>(
     alloc: Global,
     snk: &mut K,

@@ -7,8 +7,8 @@ ghost use Rattle.ff_stream.specs.edges.Ports.{tally};
 use ff_stream::{Edge, Lane};
 use std::alloc::{AllocError, Global};
 
-/// From a node to a later one. An output port is named where the node is a graph, by the number of its open output pad;
-/// else it is the node's next one. The input port is always the next one.
+/// From a node to a later one. An output port is named where the node is a graph, by the number of its open output
+/// pad. Else it is the node's next one. The input port is always the next one.
 #[derive(Debug, Drop)]
 pub struct Wire {
     /// The node that it leaves.

@@ -22,8 +22,7 @@ pub enum PlanNode {
     Mux { output: u32 },
 }
 
-/// The nodes of a run, the edges between them, how the output streams hang on the sources, and by number where the string of each
-/// graph stands.
+/// The plan of a run.
 #[derive(Debug, Drop)]
 pub struct Plan {
     /// The nodes, each after those that feed it.

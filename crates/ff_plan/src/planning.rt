@@ -12,10 +12,11 @@ use ff_plan_layout::{Filtering, PlanError, lay_out};
 use ff_words::Job;
 use std::alloc::Global;
 
-/// The plan of a job, by the rules of graphs that `filtering` has, with these heads of each of its inputs, or the refusal that
-/// comes first: of names and labels of complex graphs, of loops, of what their filters can't do, of each output in turn its maps,
-/// its lack of streams, what its format takes and its simple graphs, of a label that nothing uses, of too many streams or graphs.
-/// `NoMemory` may come in place of any answer.
+/// The plan of a job, by the rules of graphs that `filtering` has, with these heads of each of its inputs, or the
+/// refusal that comes first. Refusals come in this order: of names and labels of complex graphs, of loops, and of
+/// what their filters can't do. Then come those of each output in turn: its maps, its lack of streams, what its
+/// format takes, and its simple graphs. Last come those of a label that nothing uses, and of too many streams or
+/// graphs. `NoMemory` may come in place of any answer.
 pub fn plan<F: Filtering>(
     alloc: Global,
     filtering: &F,

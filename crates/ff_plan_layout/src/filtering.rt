@@ -26,8 +26,8 @@ pub trait Filtering {
         ensures pads { IfOk result (λ pads. pads ≡ (rules self.now).open_ins graph.now) }
         ensures few { IfOk result (λ pads. length pads ≤ 2 ^ 20) };
 
-    /// The open output pads of a graph whose open input pads have these heads, none where a pad found no stream; or the refusal
-    /// that comes first.
+    /// The open output pads of a graph whose open input pads have these heads, none where a pad found no stream. Else
+    /// it is the refusal that comes first.
     fn configured(
         &self,
         alloc: Global,

@@ -208,9 +208,10 @@ fn rows_behind<F: Filtering>(
     output_rows(alloc, filtering, &ready, outs, pads.as_slice())
 }
 
-/// The graphs of a job, the streams of its outputs and the strings of all graphs, or the refusal that comes first: of names and labels
-/// of complex graphs, of loops, of their heads, of each output in turn, of labels that nothing uses, of too many streams or graphs.
-/// `NoMemory` may come in place of any answer.
+/// The graphs of a job, the streams of its outputs and the strings of all graphs, or the refusal that comes first.
+/// Refusals come in this order: of names and labels of complex graphs, of loops, of their heads, and of each output
+/// in turn. Then come those of labels that nothing uses, and of too many streams or graphs. `NoMemory` may come in
+/// place of any answer.
 pub fn lay_out<F: Filtering>(
     alloc: Global,
     filtering: &F,

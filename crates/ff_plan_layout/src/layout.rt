@@ -64,8 +64,8 @@ pub struct Made {
     pub outs: Sequence<OpenOut>,
 }
 
-/// What an open input pad of a complex graph gets: a stream of an input, what has this label in the graph of this number, or
-/// nothing.
+/// What an open input pad of a complex graph gets. It is a stream of an input, what has this label in the graph of
+/// this number, or nothing.
 #[derive(Drop)]
 pub enum Want {
     /// A stream of an input.
@@ -96,7 +96,7 @@ pub enum GraphText {
     Null { kind: Kind },
 }
 
-/// What a plan is made of, before its nodes are numbered: graphs in the order of their nodes, streams by output, and by number where the string of each graph stands.
+/// What a plan is made of, before its nodes are numbered.
 #[derive(Drop)]
 pub struct Laying {
     /// The graphs in the order of their nodes.

@@ -38,8 +38,9 @@ fn have_few_maps(outs: &[OutputJob]) -> bool
     true
 }
 
-/// Whether a job and the heads of its inputs are within the limits that `plan` asks for: at most 16 inputs of at most 16
-/// streams, at most 16 outputs of at most 16 maps, and at most 16 graphs, each of at most 65,536 filters, as are those of outputs.
+/// Whether a job and the heads of its inputs are within the limits that `plan` asks for. These are at most 16 inputs
+/// of at most 16 streams, and at most 16 outputs of at most 16 maps. There are at most 16 graphs, each of at most
+/// 65,536 filters, as are those of outputs.
 pub fn is_within_limits(job: &Job, heads: &[Vec<StreamHead>]) -> bool
     ensures yes { result ≡ true → IsWithinLimits job.now (lists heads.now) }
     ensures no { result ≡ false → IsWithinLimits job.now (lists heads.now) → ⊥ }

@@ -17,8 +17,8 @@ pub fn maps_are_read()
     ensures { (text : List ℕ) (map : MapSpec) → (map_of text ≡ Some map) ↔ IsMap text map }
 {}
 
-/// The rules are such as the laws of plans need: where a graph can be had, each of its open input pads has a stream, and the
-/// labels that it takes and gives stand at its open pads.
+/// The rules are such as the laws of plans need. Where a graph can be had, each of its open input pads has a stream.
+/// The labels that it takes and gives stand at its open pads.
 pub fn rules_are_rules()
     ensures { AreRules graph_rules }
 {}
@@ -28,8 +28,8 @@ pub fn heads_are_kept()
     ensures { KeepHeads graph_rules }
 {}
 
-/// A graph of as many filters as an argument of a command can write has no more open pads than the code can give, where the heads that it
-/// gets are fit, and a filter that is refused has a number of few bits.
+/// A graph of as many filters as an argument of a command can write has no more open pads than the code can give,
+/// where its heads are fit. A filter that is refused has a number of few bits.
 pub fn words_have_few_pads()
     ensures inputs { (g : Text) → length (filters_of g) ≤ 65536 → length (open_ins g) ≤ 2 ^ 20 }
     ensures outputs { (g : Text) (heads : List StreamHead) (outs : List OpenOut) → length (filters_of g) ≤ 65536 → AreFitHeads heads

@@ -5,9 +5,9 @@
 //!   ff_graph ───────► known, loops, open_ins, configured ────┴─► graph_rules ─► ff_plan
 //! ```
 //!
-//! A plan is defined over rules that say which names are filters, what the open pads of a graph are, and which map a string is
-//! (`ff_plan/specs/Rules`). Here they are those of the product (`specs/Rules`), [`GraphRules`] is them as code, and the laws say
-//! what plans need of them (`specs/Kept`, and `AreRules` of ff_plan).
+//! A plan is defined over rules (`ff_plan/specs/Rules`). They say which names are filters, what the open pads of a
+//! graph are, and which map a string is. Here they are those of the product (`specs/Rules`), and [`GraphRules`] is
+//! them as code. The laws say what plans need of them (`specs/Kept`, and `AreRules` of ff_plan).
 #![tactic(auto)]
 
 mod examples;

@@ -168,8 +168,8 @@ fn add_words(words: Words, out: &mut Vec<String>, at: usize) -> Result<(), Stop>
     Ok(())
 }
 
-/// `command_of TIMES BYTES ..`: the same of so many arguments of a string, then so many of the next, and so on; each string is told
-/// as bytes are.
+/// `command_of TIMES BYTES ..`: the same of so many arguments of a string, then so many of the next, and so on. Each
+/// string is told as bytes are.
 pub fn made(words: Words) -> Result<String, Stop> {
     let mut made = Vec::new(words.alloc);
     for pair in 0..words.len() / 2 {

@@ -204,9 +204,9 @@ fn cut_text(words: Words, bytes: &[u8], piece: usize) -> Result<String, Stop>
     show(words.alloc, &given)
 }
 
-/// `cut FORMAT soon|late|open PIECE BYTES`: the packets of an input that is fed in pieces of this size, each as `packet PLACE
-/// PTS DTS DURATION SIZE`, what comes after them, and how many bytes are held then. `soon`: packets are taken after each
-/// piece; `late`: when the input ended; `open`: as `soon`, and the input doesn't end.
+/// `cut FORMAT soon|late|open PIECE BYTES`: the packets of an input that is fed in pieces of this size. Each is
+/// `packet PLACE PTS DTS DURATION SIZE`. Then comes what comes after them, and how many bytes are held then. `soon`:
+/// packets are taken after each piece; `late`: when the input ended; `open`: as `soon`, and the input doesn't end.
 pub fn cut(words: Words) -> Result<String, Stop> {
     let bytes = words.bytes(3)?;
     cut_text(words, bytes.as_slice(), size_at(words, 2)?)

@@ -73,8 +73,8 @@ fn frame_text(alloc: Global, stream: &FlacStream, bytes: &[u8]) -> Result<String
     }
 }
 
-/// `flac_frame RATE BITS CHANNELS BYTES`: the frame with which bytes begin: its size, its block size and channel code, and of
-/// each subframe the kind, the order, the warm-up samples and the residuals.
+/// `flac_frame RATE BITS CHANNELS BYTES`: the frame with which bytes begin: its size, its block size and channel
+/// code. Of each subframe there are the kind, the order, the warm-up samples and the residuals.
 pub fn frame(words: Words) -> Result<String, Stop> {
     let bytes = words.bytes(3)?;
     frame_text(words.alloc, &stream_at(words)?, bytes.as_slice())
@@ -157,8 +157,8 @@ fn sound_in(alloc: Global, stream: FlacStream, time: i64, bytes: &[u8]) -> Resul
     }
 }
 
-/// `flac_walk BYTES`: what one walk over a head answers to each prefix of these bytes, from none to all, and the offset of
-/// the block that it reads at last.
+/// `flac_walk BYTES`: what one walk over a head answers to each prefix of these bytes, from none to all. Beside it
+/// stands the offset of the block that it reads at last.
 pub fn walk(words: Words) -> Result<String, Stop> {
     let bytes = words.bytes(0)?;
     let mut walk = FlacWalk::new();

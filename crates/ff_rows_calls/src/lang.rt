@@ -106,8 +106,8 @@ fn add_chains(words: Words, graph: &mut Graph) -> Result<(), Stop> {
     Ok(())
 }
 
-/// `has_text NAME KEY LABEL`: whether the graph `[LABEL]NAME=KEY=1[LABEL]` has a string; `empty` after them adds a chain
-/// without filters, and no arguments at all stand for a graph without chains.
+/// `has_text NAME KEY LABEL`: whether the graph `[LABEL]NAME=KEY=1[LABEL]` has a string. `empty` after them adds a
+/// chain without filters, and no arguments at all stand for a graph without chains.
 pub fn has_text(words: Words) -> Result<String, Stop> {
     let mut graph = Graph {
         chains: Sequence::new(words.alloc),

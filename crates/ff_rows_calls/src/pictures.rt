@@ -70,8 +70,8 @@ fn side_at(words: Words, at: usize) -> Result<u32, Stop>
     Ok(side as u32)
 }
 
-/// `picture FORMAT WIDTH HEIGHT PLANES`: the frame of a packet of these planes, at time 7: its time, duration, format,
-/// columns and rows, and the bytes of its packet again.
+/// `picture FORMAT WIDTH HEIGHT PLANES`: the frame of a packet of these planes, at time 7. It has its time, duration,
+/// format, columns and rows, and the bytes of its packet again.
 pub fn picture(words: Words) -> Result<String, Stop> {
     let format = format_of(words.text(0)?)?;
     let (width, height) = (side_at(words, 1)?, side_at(words, 2)?);

@@ -22,8 +22,8 @@ fn coded(alloc: Global, us: &[u32], order: usize) -> Result<String, Stop> {
     Ok(format!(in alloc; "{cost} bits {hex}")?)
 }
 
-/// `residual ORDER NUMBER..`: the best coding of residuals after a predictor of this order, where 0, -1, 1, -2 .. are told as
-/// 0, 1, 2, 3 ..
+/// `residual ORDER NUMBER..`: the best coding of residuals after a predictor of this order. In it 0, -1, 1, -2 .. are
+/// told as 0, 1, 2, 3 ..
 pub fn residual(words: Words) -> Result<String, Stop> {
     let order = words.number(0)?;
     let us = words.numbers(1)?;

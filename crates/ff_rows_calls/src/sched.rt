@@ -143,8 +143,9 @@ fn show_state(alloc: Global, state: &SchedState) -> Result<String, Stop> {
     Ok(format!(in alloc; "{all}; count {count}")?)
 }
 
-/// `sched_state SOURCES STREAMS GRAPHS UNUSED EVENT..`: the state after these events, where the sources with a bit in UNUSED
-/// have exited before: of each number the last dts and the marks, and the best input; and the count.
+/// `sched_state SOURCES STREAMS GRAPHS UNUSED EVENT..`: the state after these events, where the sources with a bit in
+/// UNUSED have exited before. It has of each number the last dts and the marks, and the best input, and it has the
+/// count.
 pub fn state(words: Words) -> Result<String, Stop> {
     match state_after(words, &routes(words)?)? {
         Some(state) => show_state(words.alloc, &state),

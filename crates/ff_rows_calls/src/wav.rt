@@ -65,8 +65,8 @@ fn count(words: Words, put: &mut WavPut, text: &mut String) -> Result<(), Stop> 
     Ok(())
 }
 
-/// `wav_last CODEC CHANNELS SIZE..`: for each size whether so many bytes of the body are taken; the header then; and `pad`
-/// where a byte follows the body.
+/// `wav_last CODEC CHANNELS SIZE..`: for each size whether so many bytes of the body are taken. Then comes the
+/// header, and `pad` where a byte follows the body.
 pub fn last(words: Words) -> Result<String, Stop> {
     let head = head_of(words)?;
     let mut put = WavPut::new(words.alloc, &head);

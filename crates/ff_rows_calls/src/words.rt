@@ -82,8 +82,8 @@ impl<'a> Words<'a> {
         }
     }
 
-    /// The bytes at this place: parts with a `+` between them, each of them hex, or a string after a `'`, and either so many
-    /// times as a number after a `*` says.
+    /// The bytes at this place: parts with a `+` between them. Each is hex, or a string after a `'`, and stands so
+    /// many times as a number after a `*` says.
     pub fn bytes(&self, at: usize) -> Result<Vec<u8>, Stop> {
         let mut out = Vec::new(self.alloc);
         for part in self.text(at)?.split('+') {

@@ -56,14 +56,14 @@ fn run_parts<R: Threads + Wait + Sync, Src: Source + Send + Drop, Snk: Sink + Se
 
 /// The command: all that the program does.
 ///
-/// It reads the arguments, opens the inputs by number, each with its head, plans by the heads, creates the outputs by number, and runs
-/// the plan's nodes, each in a thread of its own, until all are done; then it closes the inputs and then the outputs by number, and
-/// appends the line of a fault to the log. Where a step is refused, only the closings and the line still follow, and the first
-/// refusal is the status; in the run it is the fault of the first node that has one. Want of memory may end it at any step. That
-/// the run ends isn't claimed.
+/// It reads the arguments, opens the inputs by number, each with its head, plans by the heads, and creates the
+/// outputs by number. It runs the plan's nodes, each in a thread of its own, until all are done. Then it closes the
+/// inputs and then the outputs by number, and appends the line of a fault to the log. Where a step is refused, only
+/// the closings and the line still follow, and the first refusal is the status. In the run it is the fault of the
+/// first node that has one. Want of memory may end it at any step. That the run ends isn't claimed.
 ///
-/// Where the arguments ask for a trace, its file is created after the outputs, gets the printed history in one append where no node
-/// has a fault, and is closed last.
+/// Where the arguments ask for a trace, its file is created after the outputs, and closed last. It gets the printed
+/// history in one append where no node has a fault.
 pub fn ffmpeg<R: Threads + Wait + Sync, H: Host, E: Sink>(
     rt: &R,
     alloc: Global,
@@ -71,8 +71,9 @@ pub fn ffmpeg<R: Threads + Wait + Sync, H: Host, E: Sink>(
     host: &mut H,
     log: &mut E,
 ) -> Report
-    // With status Fine the arguments ask for a job, and each of its outputs holds the bytes that the job means; or for what an option
-    // says that stands alone, which touches no file. A string that is asked for so is told, or memory ran out.
+    // With status Fine the arguments ask for a job, and each of its outputs holds the bytes that the job means. Or
+    // they ask for what an option says that stands alone, which touches no file. A string that is asked for so is
+    // told, or memory ran out.
     ensures bytes { result.status ≡ Status.Fine → AsksAlone (texts words.now) ⊎ HoldsMeaning job_means (texts words.now) (H.files host.old) (H.files host.new) }
 
     ensures alone { AsksAlone (texts words.now) → host.new ≡ host.old }
@@ -81,8 +82,9 @@ pub fn ffmpeg<R: Threads + Wait + Sync, H: Host, E: Sink>(
     // The run over generated input answers as its one job over its own files does; nothing of these fails.
     ensures generated { (seconds : ℕ) → AskGenerated (texts words.now) seconds → IsOwnAnswer job_means seconds result.status }
 
-    // Whatever the status, no other file changes but the trace. Arguments, heads and plans are refused before any file is created, and a run that
-    // fails later leaves of each output what was there, a prefix of what is written to it, or all of it.
+    // Whatever the status, no other file changes but the trace. Arguments, heads and plans are refused before any
+    // file is created. A run that fails later leaves of each output what was there, a prefix of what is written to
+    // it, or all of it.
     ensures others { KeepsOtherFiles (texts words.now) (H.files host.old) (H.files host.new) }
     ensures untouched { ComesBeforeOutputs result.status → KeepsFiles (H.files host.old) (H.files host.new) }
     ensures front { HoldsFront job_means (texts words.now) (H.files host.old) (H.files host.new) }
@@ -138,8 +140,8 @@ pub fn ffmpeg<R: Threads + Wait + Sync, H: Host, E: Sink>(
     // Whatever the status, each source and each sink that it opened is given back.
     ensures closed { (H.open_sources host.new ≡ H.open_sources host.old) × (H.open_sinks host.new ≡ H.open_sinks host.old) }
 
-    // The string that an option asks for that stands alone, for the run over generated input the line that tells of its output; or the
-    // line of a fault. That of a device's names the file.
+    // The string that an option asks for that stands alone. For the run over generated input it is the line that
+    // tells of its output. Else it is the line of a fault. That of a device's names the file.
     ensures line_not_due { (result.line ≡ Line.NotDue) ↔ ((result.status ≡ Status.Fine) × AskFor (texts words.now) (λ job. ⊤)) }
     ensures not_logged { result.line ≡ Line.NotDue → Keeps (E.holds log.old) (E.holds log.new) }
     ensures logged { result.line ≡ Line.Whole → (text : List ℕ) × IsDue job_means (texts words.now) result.status text
@@ -149,16 +151,17 @@ pub fn ffmpeg<R: Threads + Wait + Sync, H: Host, E: Sink>(
     ensures line_no_memory { result.line ≡ Line.NoMemory → Keeps (E.holds log.old) (E.holds log.new) }
     ensures fine_line { result.status ≡ Status.Fine → result.line ≢ Line.NoMemory }
 
-    // The history of what the scheduler of the run granted and was told, from the opening state of the plan on, which the trace
-    // holds where the arguments ask for one: legal, and where the files are told with the times of each output's packets and then its
-    // end, and with the exit of each input that is read, after all its grants.
+    // The history of what the scheduler of the run granted and was told, from the opening state of the plan on. The
+    // trace holds it where the arguments ask for one. It is legal. Where the files are told it has the times of each
+    // output's packets and then its end. It has the exit of each input that is read, after all its grants.
     ensures history { result.status ≡ Status.Fine → AsksAlone (texts words.now) ⊎ ReportsHistory job_means IsJobHistory (texts words.now) (H.files host.old) result.history }
     ensures trace { result.status ≡ Status.Fine → AsksAlone (texts words.now) ⊎ HoldsTrace (texts words.now) (H.files host.old) (H.files host.new) result.history }
     ensures no_history { result.status ≢ Status.Fine → result.history ≡ [] }
 
-    // For each input the places in that history of the grants under which its source tried a packet or found the end: the first grants
-    // of the input, in order, and none where no stream asks for it. Where the files are told they are enough: what comes of the packets
-    // read under them is at each output the whole stream already, and each input has at most one more than packets.
+    // For each input the places in that history of the grants under which its source tried a packet or found the end.
+    // They are the first grants of the input, in order, and none where no stream asks for it. Where the files are
+    // told they are enough. What comes of the packets read under them is at each output the whole stream already.
+    // Each input has at most one more than packets.
     ensures reads { result.status ≡ Status.Fine → AsksAlone (texts words.now)
         ⊎ ReportsReads job_means AreJobReads (texts words.now) (H.files host.old) result.history (places_in result.reads.items) }
     ensures no_reads { (result.status ≢ Status.Fine) ⊎ AsksText (texts words.now) → result.reads.items ≡ [] }

@@ -17,7 +17,7 @@ use ff_plan_layout::PlanError;
 use ff_run_plan::{RunFault, RunLog};
 use ff_words::Job;
 
-/// Each node of a plan in a thread of its own: whoever has the threads says how a plan is made, and how it is run.
+/// Each node of a plan in a thread of its own. Whoever has the threads says how a plan is made, and how it is run.
 #[derive(Drop)]
 pub(crate) struct Threaded<P: Drop, Q: Drop> {
     pub(crate) plan: P,

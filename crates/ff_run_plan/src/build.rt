@@ -99,8 +99,8 @@ fn muxer_at<
     }
 }
 
-// The part of a node with these lanes at its inputs and outputs, whose first output stream has this number, with these cuts after its
-// outputs. None where memory is refused; then all is in its place.
+// The part of a node with these lanes at its inputs and outputs, and with these cuts after its outputs. Its first
+// output stream has this number. None where memory is refused; then all is in its place.
 fn part_at<
     K: Kinds<Src, Snk, M>,
     Src: Source + Send + Drop,
@@ -224,7 +224,8 @@ fn part_of<
     )
 }
 
-/// The parts of all nodes, told of each other along the edges, or where memory is refused those of the nodes before that, at most of all.
+/// The parts of all nodes, told of each other along the edges. Where memory is refused they are those of the first
+/// nodes, at most of all.
 pub(crate) fn build<
     K: Kinds<Src, Snk, M>,
     Src: Source + Send + Drop,

@@ -120,8 +120,8 @@ pub trait Kinds<Src: Source + Send + Drop, Snk: Sink + Send + Drop, Part: Machin
         ensures starts { IfOk result (λ m. Snk.holds snk ≡ Some [] → (Part.view m).stands (start (is.mux_task first out.now coded.now))) }
         ensures back { IfErr result (λ back. back ≡ snk) };
 
-    /// Lets a part that gives packets and a part that takes them know of each other, where the queue between them holds so many, so that
-    /// the one may spare the other some work. Nothing that they mean changes.
+    /// Lets a part that gives packets and a part that takes them know of each other, where the queue between them
+    /// holds so many. So the one may spare the other some work. Nothing that they mean changes.
     fn connect(
         alloc: Global,
         queue: usize,

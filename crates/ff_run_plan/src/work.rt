@@ -82,8 +82,8 @@ pub fn make_plan<
 
 /// Runs a plan, each node of it in a thread of its own. Where there is no memory to begin, the sources and sinks are as they were.
 ///
-/// What comes back with them is the history of the run: all that its scheduler granted and was told, in one order, and for each input
-/// the places of the grants in it under which its source has tried a unit.
+/// What comes back with them is the history of the run: all that its scheduler granted and was told, in one order.
+/// For each input there are the places of the grants in it under which its source has tried a unit.
 pub fn run_plan<
     K: Kinds<Src, Snk, M>,
     R: Threads + Wait + Sync,

@@ -5,8 +5,9 @@
 //!       args ───────────────────────► job ────────────────────────────┴─► run ──► out ──► selfrun N: B bytes, sha256 X
 //! ```
 //!
-//! `specs/SelfRun` has the arguments, the files and the line. [`own_job`] gives the job that the arguments ask for, [`own_host`] the files, and
-//! [`own_line`] the line that tells of what the job wrote. How a job is run isn't known here.
+//! `specs/SelfRun` has the arguments, the files and the line. [`own_job`] gives the job that the arguments ask for,
+//! and [`own_host`] the files. [`own_line`] gives the line that tells of what the job wrote. How a job is run isn't
+//! known here.
 //!
 //! `generated`: Inputs that are made and not read: audio and video of any number of seconds, as whole files.
 #![tactic(auto)]

@@ -69,8 +69,8 @@ impl Kept {
     }
 }
 
-/// Joins two inputs: pairs their items by number, and gives the first of each pair. It ends as its first input does once
-/// all items of that are paired, and as its second where that has no partner for an item of the first.
+/// Joins two inputs: pairs their items by number, and gives the first of each pair. It ends as its first input does
+/// once all items of that are paired. It ends as its second where that has no partner for an item of the first.
 #[derive(Drop)]
 pub struct Join {
     alloc: Global,

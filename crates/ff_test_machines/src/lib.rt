@@ -1,6 +1,6 @@
-//! Plain machines, to try a network with: a source of a list, a relay that repeats its input on its outputs, ends after so
-//! many items, and keeps all that it was fed, and one that joins two inputs. Each meets every law of a machine. Beside them
-//! packets of one byte, and a thread that sends them over a link to another.
+//! Plain machines, to try a network with: a source of a list, a relay, and one that joins two inputs. The relay
+//! repeats its input on its outputs, ends after so many items, and keeps all that it was fed. Each meets every law of
+//! a machine. Beside them packets of one byte, and a thread that sends them over a link to another.
 #![tactic(auto)]
 
 mod join;

@@ -1,4 +1,4 @@
-//! A host in memory that counts the calls on it, on its sources and on its sinks, by name and kind, and notes the
+//! A host in memory that counts the calls on it, on its sources and on its sinks, by name and kind. It notes the
 //! order of closings.
 ghost use Rattle.std.specs.Prelude.{};
 

@@ -149,8 +149,8 @@ fn run_failing<R: Threads + Wait + Sync>(
     Ok((is_met, is_right & left.keeps_the_rest(job)))
 }
 
-// In how many of these runs the call came that was planned to fail, where that is this one of so many calls of a kind; none where what
-// one of the runs came to isn't right.
+// In how many of these runs the call came that was planned to fail, where that is this one of so many calls of a
+// kind. None where what one of the runs came to isn't right.
 fn failures<R: Threads + Wait + Sync>(
     rt: &R,
     alloc: Global,
@@ -180,8 +180,9 @@ fn number_due(due: &[(HostCall, u32)], call: HostCall) -> u32 {
     0
 }
 
-/// Whether a run in which nothing fails makes these calls under a name, and no others but further reads, of which there may be more in
-/// one run than in another; and whether all comes to what is right in each of as many further runs, in which one of these calls fails.
+/// Whether a run in which nothing fails makes these calls under a name, and no others but further reads. Of these
+/// there may be more in one run than in another. All has to come to what is right in each of as many further runs, in
+/// which one of these calls fails.
 pub fn fails_well<R: Threads + Wait + Sync>(
     rt: &R,
     alloc: Global,

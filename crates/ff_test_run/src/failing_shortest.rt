@@ -38,7 +38,8 @@ fn pictures(alloc: Global) -> Result<Vec<u8>, AllocError> {
     Ok(bytes)
 }
 
-// The digests of what begins in the first 2 seconds, by the ticks of the audio: a packet of it each 1,024, a frame each 2,250.
+// The digests of what begins in the first 2 seconds, by the ticks of the audio. There is a packet of it each 1,024,
+// and a frame each 2,250.
 fn digests(alloc: Global) -> Result<String, AllocError> {
     let mut text = String::from_str(alloc, HEAD)?;
     for tick in 0..18_000 {

@@ -1,5 +1,5 @@
-//! A source that waits for a sink or fails before it, or gives a few bytes a read, and a sink that waits for a
-//! source.
+//! A source that waits for a sink or fails before it, or gives a few bytes a read. Beside it is a sink that waits for
+//! a source.
 ghost use Rattle.std.specs.Prelude.{◌≡◌, ◌+◌, ◌<◌, ◌≤◌, ℕ, List, length, None, Some, false, string_bytes};
 
 use ff_host::{Failed, Sink, SinkError, Source};
@@ -29,8 +29,8 @@ fn comes(count: &AtomicU64, wanted: u64, looks: u32) -> bool {
     count.load(Ordering::SeqCst) >= wanted
 }
 
-/// How calls go. Reads that begin at or past the offset fail unless the gate is open, for which they look again so often; each gives at
-/// most so many bytes. A sink's first append fails unless so many bytes were read before.
+/// How calls go. Reads that begin at or past the offset fail unless the gate is open, for which they look again so
+/// often. Each gives at most so many bytes. A sink's first append fails unless so many bytes were read before.
 #[derive(Clone, Copy)]
 pub struct Pace {
     /// The offset from which on a read waits for the gate.

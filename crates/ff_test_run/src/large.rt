@@ -63,8 +63,8 @@ fn reading_waits_for_writing(rt: HostRuntime) -> Result<(), AllocError> {
     Ok(())
 }
 
-// A read that begins at or past byte 262,144 fails while the sink took fewer than two appends: few packets wait between the source and
-// the sink, and few bytes are read ahead, so no run that writes as it reads meets the failure.
+// A read that begins at or past byte 262,144 fails while the sink took fewer than two appends. Few packets wait
+// between the source and the sink, and few bytes are read ahead. So no run that writes as it reads meets the failure.
 #[test]
 fn output_before_end(rt: HostRuntime) -> Result<(), AllocError> {
     let alloc = rt.alloc();
@@ -84,8 +84,8 @@ fn output_before_end(rt: HostRuntime) -> Result<(), AllocError> {
     Ok(())
 }
 
-// The output's first append fails while fewer than 400,000 bytes were read, which is more than the nodes and queues of 8 items hold: queues
-// are as long as the command says.
+// The output's first append fails while fewer than 400,000 bytes were read, which is more than the nodes and queues
+// of 8 items hold. So queues are as long as the command says.
 #[test]
 fn queues_are_as_long_as_asked(rt: HostRuntime) -> Result<(), AllocError> {
     let alloc = rt.alloc();

@@ -28,8 +28,8 @@ pub fn input(alloc: Global, body: &[u8]) -> Result<Vec<u8>, AllocError> {
     Ok(bytes)
 }
 
-/// The bytes of a WAV file of 16-bit samples on one channel, at 8,000 sample frames a second, with these two sizes in its head and this
-/// body.
+/// The bytes of a WAV file of 16-bit samples on one channel, at 8,000 sample frames a second. Its head has these two
+/// sizes, and it has this body.
 pub fn sized(alloc: Global, riff: u32, data: u32, body: &[u8]) -> Result<Vec<u8>, AllocError> {
     let mut bytes = Vec::new(alloc);
     bytes.extend_from_slice(b"RIFF")?;
@@ -85,8 +85,8 @@ pub fn run<R: Threads + Wait + Sync, H: Host>(
     Ok(ffmpeg(rt, alloc, &words, host, log))
 }
 
-/// Whether the command of these arguments over this host comes to this number and logs this string, with a history and reads exactly
-/// where all was done.
+/// Whether the command of these arguments over this host comes to this number and logs this string. It has to have a
+/// history and reads exactly where all was done.
 pub fn comes_to<R: Threads + Wait + Sync, H: Host>(
     rt: &R,
     alloc: Global,

@@ -12,9 +12,10 @@ ghost use Rattle.ff_filter.specs.Joins.{Flow};
 ghost use Rattle.ff_filter.specs.Shifts.{earlier, start_ticks};
 ghost use Rattle.ff_trim.specs.Cuts.{cut};
 
-/// A second of three at 8,000 samples a second is 8,000 samples, and the stream is whole there, however it goes on (`second`); five
-/// seconds into three there is nothing (`behind`); of frames 25 a second one a second in lasts to below the next, which isn't kept,
-/// and counts from 0 (`pictures`); and a length of 0 gives the empty whole stream, whatever comes (`empty`).
+/// A second of three at 8,000 samples a second is 8,000 samples, and the stream is whole there, however it goes on
+/// (`second`). Five seconds into three there is nothing (`behind`). Of frames 25 a second one a second in lasts to
+/// below the next, which isn't kept, and counts from 0 (`pictures`). A length of 0 gives the empty whole stream,
+/// whatever comes (`empty`).
 pub fn cuts_of_some_streams()
     ensures second { (c : TimeCut) (bits : ℕ) (codec : Codec) (f : AFrame) (m : Mark)
         → c.start ≡ 0 → c.length ≡ Some 1000000 → f.channels ≡ 1 → f.pts ≡ pos 0 → length f.samples ≡ 24000

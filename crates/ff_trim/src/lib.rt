@@ -1,13 +1,13 @@
-//! Cuts in time: of a stream what lies from a start on to below an end, with the start taken from all times; and a filter with a
-//! cut after each output.
+//! Cuts in time, and a filter with a cut after each output. A cut keeps of a stream what lies from a start on to
+//! below an end, with the start taken from all times.
 //!
 //! ```text
 //!   of the stream   ──a──┼──b──┼──c──┼──d──►      from a start within b to below an end within c
 //!   is left            ├─b─┼─c┤                   audio is cut at the sample frame, video frames stay whole
 //! ```
 //!
-//! A cut closes with the frame that reaches its end; from then on nothing more is wanted of the filter there, which may so be done
-//! with its inputs early.
+//! A cut closes with the frame that reaches its end. From then on nothing more is wanted of the filter there, which
+//! may so be done with its inputs early.
 #![tactic(auto)]
 
 mod cut;

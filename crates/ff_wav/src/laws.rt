@@ -2,8 +2,8 @@
 ghost use Rattle.ff_wav.specs.Layout.{WavsAreFiles};
 ghost use Rattle.ff_wav.specs.Written.{HeadersAreRead, FilesAreRead, BodiesAreRead};
 
-/// What is written around a body is read again: a header with any sizes as its stream and its body's size, and a whole
-/// file as that head and the packets of that body.
+/// What is written around a body is read again. A header with any sizes is read as its stream and its body's size. A
+/// whole file is read as that head and the packets of that body.
 pub fn what_is_written_is_read_again()
     ensures headers { HeadersAreRead }
     ensures files { FilesAreRead }

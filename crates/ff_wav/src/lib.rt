@@ -1,9 +1,9 @@
 //! WAV (RIFF WAVE): heads, the packets of a body, and the headers around a body that is written.
 //!
-//! A file is `RIFF`, a size, `WAVE`, and chunks: an id of 4 bytes, a size of 32 bits, the bytes, and a pad byte where
-//! the size is odd. `specs/Chunks` says what one chunk does to the reading of a head, and `specs/Heads` what the head of
-//! a whole input is and which first bytes decide it. The body is linear PCM, and its packets are those of ff_pcm_cut.
-//! `specs/Layout` says how a file is written.
+//! A file is `RIFF`, a size, `WAVE`, and chunks. A chunk is an id of 4 bytes, a size of 32 bits, the bytes, and a pad
+//! byte where the size is odd. `specs/Chunks` says what one chunk does to the reading of a head. `specs/Heads` says
+//! what the head of a whole input is, and which first bytes decide it. The body is linear PCM, and its packets are
+//! those of ff_pcm_cut. `specs/Layout` says how a file is written.
 #![tactic(auto)]
 
 mod chunk;

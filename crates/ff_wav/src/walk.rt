@@ -67,11 +67,11 @@ pub type WavWalk = HeadWalk<Wav>;
 /// The packets of a WAV's body, from pieces of any size.
 pub type WavCut = PcmCut;
 
-/// The head of an input that begins with these bytes, and where `whole` ends with them (RIFF WAVE). The first fault in
-/// the order of reading decides: Unsupported at 0 where the first bytes aren't `RIFF`, a size and `WAVE`, and at a
-/// field of `fmt ` that isn't read (integer PCM of 8, 16, 24 or 32 bits, 1 to 8 channels); Damaged at a chunk that is
-/// too short or out of place, and at the input's length where it ends too early; Unsupported at 2^28 where the head
-/// isn't complete within so many bytes.
+/// The head of an input that begins with these bytes, and where `whole` ends with them (RIFF WAVE). The first fault
+/// in the order of reading decides: Unsupported at 0 where the first bytes aren't `RIFF`, a size and `WAVE`.
+/// Unsupported at a field of `fmt ` that isn't read (integer PCM of 8, 16, 24 or 32 bits, 1 to 8 channels). Damaged
+/// at a chunk that is too short or out of place, and at the input's length where it ends too early. Unsupported at
+/// 2^28 where the head isn't complete within so many bytes.
 pub fn read_head(bytes: &[u8], whole: bool) -> Result<WavHead, HeadEnd>
     // Not yet exactly where the input goes on, and some bytes decide otherwise than others.
     ensures not_yet { (result ≡ Err HeadEnd.NotYet) ↔ ((whole ≡ false) × IsOpen bytes.now) }

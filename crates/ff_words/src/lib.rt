@@ -7,11 +7,11 @@
 //! (c)      inputs: in.wav, cut from 1 s on        outputs: out.txt, maps 0:a and [v]        graphs: G
 //! ```
 //!
-//! `table` has the options as one list, that of `specs/Options`. `specs/Words` says what arguments mean in three layers, each
-//! readable alone: (a) the arguments fall into options with their values, inputs and outputs; (b) each file has the options between
-//! it and the file before; (c) the fields of a job are those options' values. It says for each argument, each file and the end what
-//! is wrong there by itself; the answer is the first in order of reading. It has no options that wait and no state: `read_words`
-//! has them, and goes over the arguments once.
+//! `table` has the options as one list, that of `specs/Options`. `specs/Words` says what arguments mean in three
+//! layers, each readable alone. (a) The arguments fall into options with their values, inputs and outputs. (b) Each
+//! file has the options between it and the file before. (c) The fields of a job are those options' values. It says
+//! for each argument, each file and the end what is wrong there by itself; the answer is the first in order of
+//! reading. It has no options that wait and no state: `read_words` has them, and goes over the arguments once.
 #![tactic(auto)]
 
 mod cuts;

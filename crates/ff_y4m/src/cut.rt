@@ -96,8 +96,8 @@ impl PacketCut for Y4mCut {
         self.held.push(bytes)
     }
 
-    /// Makes room for so many bytes more, which `feed` then takes without fail, and beyond them for the rest of the frame in
-    /// hand; that is no more than came so far, since the head alone may promise frames that never come.
+    /// Makes room for so many bytes more, which `feed` then takes without fail, and for the rest of the frame in
+    /// hand. That is no more than came so far, since the head alone may promise frames that never come.
     fn reserve(&mut self, count: usize) -> Result<(), AllocError> {
         let waits = self.held.len();
         let frame = 1024 + self.head.frame_bytes as usize;

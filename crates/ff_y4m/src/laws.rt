@@ -15,22 +15,22 @@ pub fn written_frames_are_read_again()
         → (planes_of (packets_from size 0 at n (frames packets)) ≡ planes_of packets) × (broken_from size 0 at (frames packets) ≡ None) }
 {}
 
-/// What is written is read again, the aspect of a sample as 0:0 where one of its numbers is 0: a header as its stream,
-/// whatever follows, and a whole file as that head and the planes of its frames.
+/// What is written is read again, the aspect of a sample as 0:0 where one of its numbers is 0. A header is read as
+/// its stream, whatever follows. A whole file is read as that head and the planes of its frames.
 pub fn what_is_written_is_read_again()
     ensures headers { HeadersAreRead }
     ensures files { FilesAreRead }
     ensures frames { FramesAreRead }
 {}
 
-/// What some bytes begin with is decided as soon as it can be: a frame is found exactly where a whole one begins, none exactly
-/// where whatever follows makes none, and more bytes are wanted exactly in between.
+/// What some bytes begin with is decided as soon as it can be. A frame is found exactly where a whole one begins,
+/// none exactly where whatever follows makes none. More bytes are wanted exactly in between.
 pub fn frames_are_decided()
     ensures { (size : ℕ) (bytes : List ℕ) → IsDecided size bytes }
 {}
 
-/// A rate's time base is what ff_time says of its two numbers: their fraction in lowest terms, and none exactly where that is
-/// no time base.
+/// A rate's time base is what ff_time says of its two numbers. That is their fraction in lowest terms, and none
+/// exactly where that is no time base.
 pub fn rates_are_in_lowest_terms()
     ensures { (num den : ℕ) (f : Fraction) → IsBaseOf num den f }
 {}

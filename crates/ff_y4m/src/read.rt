@@ -147,12 +147,13 @@ fn decide(bytes: &[u8]) -> Option<Result<Y4mHead, HeadFault>>
     Some(head_in(front(bytes, end)))
 }
 
-/// The head of an input that begins with these bytes, and where `whole` ends with them (yuv4mpeg(5), "Stream Header").
-/// Unsupported at 0 where the first word isn't `YUV4MPEG2`; Damaged at 1,024 where the first line is longer, and at the
-/// input's length where it ends before the line does. Of the parameters the first fault from left to right counts, at the
-/// parameter's first byte: Damaged where a value can't be read, Unsupported where it isn't taken (1 to 16,384 columns and
-/// rows; a rate of two positive numbers, below 2^31 in lowest terms; an aspect of two numbers below 2^32; frames without
-/// fields; 4:2:0, 4:2:2, 4:4:4 or Y alone, of 8 bits). Damaged at the line feed where columns, rows or rate are missing.
+/// The head of an input that begins with these bytes, and where `whole` ends with them (yuv4mpeg(5), "Stream
+/// Header"). Unsupported at 0 where the first word isn't `YUV4MPEG2`. Damaged at 1,024 where the first line is
+/// longer, and at the input's length where it ends before the line does. Of the parameters the first fault from left
+/// to right counts, at the parameter's first byte: Damaged where a value can't be read, Unsupported where it isn't
+/// taken. Taken are 1 to 16,384 columns and rows, and a rate of two positive numbers, below 2^31 in lowest terms.
+/// Taken are an aspect of two numbers below 2^32, frames without fields, and 4:2:0, 4:2:2, 4:4:4 or Y alone, of 8
+/// bits. Damaged at the line feed where columns, rows or rate are missing.
 pub fn read_head(bytes: &[u8], whole: bool) -> Result<Y4mHead, HeadEnd>
     // Not yet exactly where the input goes on, and some bytes decide otherwise than others.
     ensures not_yet { (result ≡ Err HeadEnd.NotYet) ↔ ((whole ≡ false) × IsOpen bytes.now) }

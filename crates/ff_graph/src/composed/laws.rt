@@ -39,8 +39,8 @@ pub fn texts_are_limited()
         → IsLimited (map FramesOf heads) (map (λ o. FramesOf o.head) outs) (graph_means g (all_given heads)) (graph_cuts g (all_given heads)) }
 {}
 
-/// A graph without a loop that has a filter has an open input pad, and where all audio that comes to it has a channel an open output
-/// pad.
+/// A graph without a loop that has a filter has an open input pad. Where all audio that comes to it has a channel, it
+/// has an open output pad.
 pub fn graphs_have_open_pads()
     ensures inputs { (g : Text) (heads : List StreamHead) (outs : List OpenOut) → IsClear g → loops g ≡ false → configured g (all_given heads) ≡ Ok outs
         → HasFilter g → 1 ≤ length (open_ins g) }

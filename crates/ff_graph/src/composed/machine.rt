@@ -22,8 +22,8 @@ use std::alloc::Global;
 /// The filters of a graph with a cut after each output, as one filter.
 pub type CutGraph = Cutting<GraphFilter>;
 
-/// A graph as one machine of a network, where a stream of each of these heads comes to its open input pads in the order of writing, with
-/// one of these cuts after each of its open output pads.
+/// A graph as one machine of a network. A stream of each of these heads comes to its open input pads in the order of
+/// writing. After each of its open output pads stands one of these cuts.
 pub fn graph_machine(
     alloc: Global,
     graph: &Graph,

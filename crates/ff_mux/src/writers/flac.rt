@@ -11,8 +11,8 @@ use std::alloc::{AllocError, Global};
 /// Where STREAMINFO stands: after the mark and the head of its block.
 const INFO_AT: u64 = 8;
 
-/// Gives the bytes of a FLAC file (RFC 9639): the mark and STREAMINFO, the frame that each packet holds, and STREAMINFO with the
-/// stream's totals, where they were told, in the place of that without.
+/// Gives the bytes of a FLAC file (RFC 9639): the mark and STREAMINFO, and the frame that each packet holds. Where
+/// the stream's totals were told, STREAMINFO with them takes the place of that without.
 #[derive(Drop)]
 pub struct FlacWriter {
     alloc: Global,

@@ -159,8 +159,8 @@ impl Decoder for FlacDecoder {
     ghost carries = { λ d p fits. flac_decoded (flac_head d) p d.stream fits };
 }
 
-/// A packet has a frame exactly where its bytes are one frame of the grammar and nothing more, with as many sample frames as the
-/// packet lasts ticks, and each sample is within its subframe's depth and the stream's.
+/// A packet has a frame exactly where its bytes are one frame of the grammar and nothing more. The frame has as many
+/// sample frames as the packet lasts ticks. Each sample is within its subframe's depth and the stream's.
 pub fn flac_frames_are_their_packets()
     ensures { (head : StreamHead) (packet : Pkt) (sound : AFrame) → flac_frame head packet ≡ Some (Audio sound) ↔ HoldsSound head packet sound }
 {}

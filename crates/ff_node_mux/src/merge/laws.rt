@@ -12,8 +12,8 @@ pub fn a_merge_has_each_stream()
     ensures { (base : ℕ → Fraction) (n q : ℕ) (ss : ℕ → Stream APkt) → q < n → of_stream q (merge_to base n ss) ≡ (ss q).items }
 {}
 
-/// Where each stream by itself is in order, so is the merge: no packet is sooner than the one before it, and of two at one time
-/// that of the lower stream goes first.
+/// Where each stream by itself is in order, so is the merge. No packet is sooner than the one before it, and of two
+/// at one time that of the lower stream goes first.
 pub fn a_merge_is_in_order()
     ensures { (base : ℕ → Fraction) (n : ℕ) (ss : ℕ → Stream APkt) → ((p : ℕ) → p < n → InOrder base (placed p (ss p).items)) → InOrder base (merge_to base n ss) }
 {}

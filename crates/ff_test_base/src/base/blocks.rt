@@ -98,8 +98,8 @@ fn feed(blocks: &mut Blocks, frame: AFrame) -> Result<(), AllocError>
     Ok(())
 }
 
-// The blocks of frames of these sizes, each of which starts `gap` ticks after the one before it: taken as they come, or all
-// at the end.
+// The blocks of frames of these sizes, taken as they come, or all at the end. Each frame starts `gap` ticks after the
+// one before it.
 fn blocks_of(
     alloc: Global,
     channels: u8,

@@ -251,8 +251,8 @@ fn holds(alloc: Global, snk: MemSink, texts: [&'static str; 3]) -> Result<bool, 
     Ok(held.as_str() == wanted.as_str())
 }
 
-// Whether so many packets and their end, and no less, spend the muxer's input, with this fault, and its sink then holds the bytes
-// of these strings.
+// Whether so many packets and their end, and no less, spend the muxer's input, with this fault. Its sink then has to
+// hold the bytes of these strings.
 fn leaves(
     alloc: Global,
     mux: OutMux,

@@ -24,8 +24,8 @@ fn new_link(alloc: Global, size: usize, tb: Rational) -> Result<(Sender, Receive
     link(alloc, size, &lane_of(tb))
 }
 
-/// A source of so many packets, a relay that ends after `limit` items, and a sink, over links of this size, each with a part of
-/// the share of a pass.
+/// A source of so many packets, a relay that ends after `limit` items, and a sink, over links of this size. Each has
+/// a part of the share of a pass.
 pub fn chain(
     alloc: Global,
     tb: Rational,

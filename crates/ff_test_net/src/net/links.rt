@@ -93,8 +93,8 @@ fn size_one(rt: HostRuntime) -> Result<(), AllocError> {
     Ok(())
 }
 
-// Whether over a link of this size, with so many packets sent before an end and so many items taken at most, the numbers
-// sent (least and most) and taken are these.
+// Whether over a link of this size the numbers sent (least and most) and taken are these. So many packets are sent
+// before an end, and so many items taken at most.
 fn passes<R: Threads + Wait + Sync>(
     rt: &R,
     alloc: Global,

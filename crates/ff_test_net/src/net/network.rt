@@ -39,8 +39,8 @@ pub enum Place {
     Sink,
 }
 
-/// A run of the network: so many packets, of which the stopper lets `limit` through, over wires of this size, with the
-/// nodes' turns in this order, and a fault in a place at an item.
+/// A run of the network: so many packets over wires of this size, of which the stopper lets `limit` through. The
+/// nodes' turns go in this order, and a fault is made in a place at an item.
 #[derive(Clone, Copy)]
 pub struct Plan {
     /// How many packets the source has.
@@ -299,8 +299,8 @@ fn five_wires(alloc: Global, tb: Rational, size: usize) -> Result<Wires, AllocEr
     Ok(wires)
 }
 
-/// The network of a source, a machine that repeats its items on two outputs, one that ends early after the first of
-/// these, one that joins what that gives with the second, and a sink. No more than 99 packets are sent.
+/// The network of a source, a machine that repeats its items on two outputs, and one that ends early after the first
+/// of these. One more joins what that gives with the second, and feeds a sink. No more than 99 packets are sent.
 pub fn try_network<R: Wait>(
     rt: &R,
     alloc: Global,

@@ -31,8 +31,8 @@ fn is_spent(got: Option<Outcome>, limit: usize, taken: u32) -> bool {
     (got == want) & (got.sent <= limit.saturating_add(6))
 }
 
-// A relay that ends early stops the source: at most six packets more are on their way, one at each port, wire, end and
-// link between them.
+// A relay that ends early stops the source. At most six packets more are on their way, one at each port, wire, end
+// and link between them.
 #[test]
 fn spent(rt: HostRuntime) {
     for (limit, taken) in [(0usize, 0u32), (1, 1), (2, 2), (3, 3)] {

@@ -126,8 +126,8 @@ fn noted(trial: Trial, take: &Take) -> Trial
     }
 }
 
-// A turn of the relay between an item that is offered, where it is wanted, and one that is taken: whether the first went, and
-// what has come out.
+// A turn of the relay between an item that is offered, where it is wanted, and one that is taken. The answer is
+// whether the first went, and what has come out.
 fn turn<R: Wait>(
     rt: &R,
     nodes: &mut [Node<Relay>],
@@ -187,8 +187,8 @@ fn turns<R: Wait>(
     Ok(trial)
 }
 
-/// A relay of one output between two wires of this size, by so many turns: it is sent `count` packets and the end, ends
-/// itself after `limit` items, and refuses what comes after `room`.
+/// A relay of one output between two wires of this size, by so many turns. It is sent `count` packets and the end,
+/// ends itself after `limit` items, and refuses what comes after `room`.
 pub fn try_relay<R: Wait>(
     rt: &R,
     alloc: Global,
