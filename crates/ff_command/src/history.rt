@@ -23,6 +23,7 @@ impl Model for History {
 }
 
 impl History {
+    /// The events of what was scheduled; none where nothing was.
     pub(crate) fn new(scheduled: Option<Scheduled>) -> Self
         ensures { result ≡ events_in scheduled }
     {

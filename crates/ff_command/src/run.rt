@@ -72,6 +72,7 @@ fn status_of_end(count: u32, end: RunEnd<PlanError, RunFault>) -> Status
 /// How a job was run.
 #[derive(Drop)]
 pub(crate) struct JobRun {
+    /// How it ended.
     pub(crate) status: Status,
     /// What its run has logged. None where nothing was run, or there was no memory for it.
     pub(crate) log: Option<RunLog>,

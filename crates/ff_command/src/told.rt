@@ -20,8 +20,11 @@ use std::alloc::{AllocError, Global};
 /// How it ended, the string that is told where it is fine, and what the run has logged, where there was one.
 #[derive(Drop)]
 pub(crate) struct Told {
+    /// How it ended.
     pub(crate) status: Status,
+    /// The string that is told.
     pub(crate) text: Option<Vec<u8>>,
+    /// What the run has logged.
     pub(crate) run: Option<RunLog>,
 }
 

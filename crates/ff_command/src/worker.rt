@@ -1,4 +1,4 @@
-//! How jobs are worked.
+//! The trait of a worker, which plans jobs and runs the plans.
 ghost use Rattle.std.specs.Prelude.{◌≡◌, List, ℕ, Option, None, Some, IfErr, OnOk, IfOk};
 ghost use Rattle.ff_files.specs.Runs.{RunSays};
 ghost use Rattle.ff_files.specs.Works.{Meaning};
@@ -68,7 +68,9 @@ pub trait Worker<Src: Source + Send + Drop, Snk: Sink + Send + Drop> {
 /// A job, and how it is worked.
 #[derive(Drop)]
 pub(crate) struct JobWork<'a, P> {
+    /// Who works the job.
     pub(crate) worker: &'a P,
+    /// The job.
     pub(crate) job: &'a Job,
 }
 

@@ -28,7 +28,7 @@ pub fn is_known(name: &str) -> bool
     named(name).is_some()
 }
 
-// The label at a pad, if it has one.
+/// The label at a pad, if it has one.
 pub(crate) fn label_at<'a>(labels: &'a [Text], pad: usize) -> Option<&'a str>
     ensures { option_copied result ≡ slice_get labels.entry.now pad }
 {

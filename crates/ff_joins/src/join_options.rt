@@ -60,7 +60,7 @@ fn are_sound(heads: &[StreamHead]) -> bool
     true
 }
 
-// The rate and the bits of an audio head.
+/// The rate and the bits of an audio head.
 pub(crate) fn rate_and_bits(head: &StreamHead) -> (u32, u8)
     ensures { (result.0 ≡ rate_of head.now) × (result.1 ≡ bits_of head.now) }
 {
@@ -91,7 +91,7 @@ fn are_alike(first: &StreamHead, heads: &[StreamHead]) -> bool
     true
 }
 
-// The channels of an audio head.
+/// The channels of an audio head.
 pub(crate) fn channels(head: &StreamHead) -> u8
     ensures { result ≡ channels_of_head head.now }
 {

@@ -15,6 +15,7 @@ pub struct Arg {
 }
 
 impl Arg {
+    /// The empty value without a key.
     pub(super) fn new(alloc: Global) -> Arg
         ensures { result ≡ empty_arg }
     {
@@ -39,6 +40,7 @@ pub struct Filter {
 }
 
 impl Filter {
+    /// A filter without name, labels and arguments.
     pub(super) fn new(alloc: Global) -> Filter
         ensures { result ≡ empty_filter }
     {
@@ -59,6 +61,7 @@ pub struct Chain {
 }
 
 impl Chain {
+    /// A chain without filters.
     pub(super) fn new(alloc: Global) -> Chain
         ensures { result ≡ empty_chain }
     {

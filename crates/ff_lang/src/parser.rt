@@ -45,6 +45,7 @@ pub(super) struct Parser {
 }
 
 impl Parser {
+    /// A parser that has read nothing.
     pub(super) fn new(alloc: Global) -> Parser
         ensures { result ≡ start }
     {

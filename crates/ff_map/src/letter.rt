@@ -7,10 +7,13 @@ ghost use Rattle.ff_map.specs.Reading.{letter_of, IsDecimal};
 pub(super) enum Letter {
     /// A digit's value.
     Digit(u8),
+    /// A colon.
     Colon,
     /// The mark of a map that may name nothing.
     Question,
+    /// The letter `a`.
     A,
+    /// The letter `v`.
     V,
     /// The bracket before a label.
     Bracket,
@@ -18,6 +21,7 @@ pub(super) enum Letter {
     Other,
 }
 
+/// What a byte is.
 pub(super) fn classify(byte: u8) -> Letter
     ensures letter { result ≡ letter_of byte }
     ensures digit { IsDecimal result }

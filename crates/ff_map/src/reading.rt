@@ -18,6 +18,7 @@ const LONGEST: usize = 64;
 /// What was read of a map. A number that may go on has its count of digits and its value so far.
 #[derive(Drop)]
 pub(super) enum Reading {
+    /// Nothing was read.
     Start,
     /// The number of the file.
     File {

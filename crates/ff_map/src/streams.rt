@@ -23,6 +23,7 @@ pub struct Stream {
     pub head: StreamHead,
 }
 
+/// Whether a stream of this head has this kind.
 pub(crate) fn has_kind(kind: Kind, head: StreamHead) -> bool
     ensures { result ≡ is_of_kind kind head }
 {
@@ -32,7 +33,7 @@ pub(crate) fn has_kind(kind: Kind, head: StreamHead) -> bool
     }
 }
 
-// How large a stream is: the samples of a video frame, the channels of audio.
+/// How large a stream is: the samples of a video frame, the channels of audio.
 pub(crate) fn size(head: StreamHead) -> u64
     ensures { result ≡ size_of head }
 {

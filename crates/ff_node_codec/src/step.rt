@@ -25,6 +25,7 @@ pub enum Step {
     Passes,
 }
 
+/// Lets an item go.
 pub(crate) fn discard(_item: Item) {}
 
 /// Whether nothing more comes.

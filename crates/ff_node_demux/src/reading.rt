@@ -55,7 +55,7 @@ fn feed_piece<C: PacketCut>(cut: &mut C, skip: &mut u64, piece: &[u8])
     }
 }
 
-// Reads a piece of the input into the cut, of at most so many bytes. Room is made first, so that no byte that was read is lost.
+/// Reads a piece of the input into the cut, of at most so many bytes. Room is made first, so that no byte that was read is lost.
 pub(crate) fn read_more<S: Source, C: PacketCut>(
     src: &mut S,
     cut: &mut C,

@@ -15,9 +15,11 @@ use std::alloc::AllocError;
 /// What the cut says next.
 #[derive(Debug, Drop)]
 pub(crate) enum Unit {
+    /// A packet.
     Packet(Pkt),
     /// A packet that passes a limit.
     Long,
+    /// The input has ended.
     End,
     /// No further packet begins at this offset, or one that isn't whole.
     Broken(u64),
@@ -25,7 +27,7 @@ pub(crate) enum Unit {
     Wait,
 }
 
-// The next packet of what was read, where so many were given.
+/// The next packet of what was read, where so many were given.
 pub(crate) fn next_unit<C: Demuxable>(
     cut: &mut C,
     head: &StreamHead,

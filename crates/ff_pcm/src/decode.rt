@@ -58,7 +58,7 @@ fn silence(alloc: Global, count: usize) -> Result<Vec<i32>, AllocError>
     vec![in alloc; 0; count]
 }
 
-// How a PCM codec writes a sample.
+/// How a PCM codec writes a sample.
 pub(crate) fn form_of(codec: Codec) -> PcmForm
     requires { IsPcmCodec codec }
     ensures { coding_of codec ≡ Pcm result }
@@ -69,7 +69,7 @@ pub(crate) fn form_of(codec: Codec) -> PcmForm
     }
 }
 
-// The bytes of one sample.
+/// The bytes of one sample.
 pub(crate) fn size_of_sample(codec: Codec) -> usize
     requires { IsPcmCodec codec }
     ensures { result ≡ sample_bytes codec }
@@ -96,7 +96,7 @@ fn decoded(alloc: Global, codec: Codec, bytes: &[u8], count: usize) -> Result<Sa
     Ok(Samples::new(samples))
 }
 
-// The rate, bits, channels and codec of an audio head.
+/// The rate, bits, channels and codec of an audio head.
 pub(crate) fn audio_of(head: &StreamHead) -> (u32, u8, u8, Codec)
     requires { IsSoundHead head.now }
     ensures rate { result.0 ≡ rate_of head.now }

@@ -8,7 +8,7 @@ ghost use Rattle.ff_pcm.specs.Depth.{shifted, at_depth};
 
 use ff_frame::{AFrame, Samples};
 
-// A sample at a lower depth.
+/// A sample at a lower depth.
 pub(crate) fn lowered(sample: i32, by: u8) -> i32
     requires { by ≤ 31 }
     ensures { result ≡ shr_z sample (2 ^ by) }

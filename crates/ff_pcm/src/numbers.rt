@@ -2,6 +2,7 @@
 ghost use Rattle.std.specs.Prelude.{◌≡◌, ◌+◌, ◌<◌, ◌≤◌, ◌^◌, ◌⊎◌, ℕ, length, slice_index};
 ghost use Rattle.ff_pcm.specs.Samples.{number, high_number};
 
+/// The number in the two bytes at a place, the lowest first.
 pub(crate) fn number_2(bytes: &[u8], place: usize) -> u32
     requires { place + 2 ≤ length bytes.now }
     ensures value { result ≡ number 2 place bytes.now }
@@ -10,6 +11,7 @@ pub(crate) fn number_2(bytes: &[u8], place: usize) -> u32
     bytes[place] as u32 + 256 * bytes[place + 1] as u32
 }
 
+/// The number in the three bytes at a place, the lowest first.
 pub(crate) fn number_3(bytes: &[u8], place: usize) -> u32
     requires { place + 3 ≤ length bytes.now }
     ensures value { result ≡ number 3 place bytes.now }
@@ -18,6 +20,7 @@ pub(crate) fn number_3(bytes: &[u8], place: usize) -> u32
     bytes[place] as u32 + 256 * bytes[place + 1] as u32 + 65536 * bytes[place + 2] as u32
 }
 
+/// The number in the four bytes at a place, the lowest first.
 pub(crate) fn number_4(bytes: &[u8], place: usize) -> u32
     requires { place + 4 ≤ length bytes.now }
     ensures { result ≡ number 4 place bytes.now }
@@ -25,6 +28,7 @@ pub(crate) fn number_4(bytes: &[u8], place: usize) -> u32
     number_3(bytes, place) + 16777216 * bytes[place + 3] as u32
 }
 
+/// The number in the two bytes at a place, the highest first.
 pub(crate) fn high_number_2(bytes: &[u8], place: usize) -> u32
     requires { place + 2 ≤ length bytes.now }
     ensures value { result ≡ high_number 2 place bytes.now }
@@ -33,6 +37,7 @@ pub(crate) fn high_number_2(bytes: &[u8], place: usize) -> u32
     256 * bytes[place] as u32 + bytes[place + 1] as u32
 }
 
+/// The number in the three bytes at a place, the highest first.
 pub(crate) fn high_number_3(bytes: &[u8], place: usize) -> u32
     requires { place + 3 ≤ length bytes.now }
     ensures value { result ≡ high_number 3 place bytes.now }
@@ -41,6 +46,7 @@ pub(crate) fn high_number_3(bytes: &[u8], place: usize) -> u32
     65536 * bytes[place] as u32 + 256 * bytes[place + 1] as u32 + bytes[place + 2] as u32
 }
 
+/// The number in the four bytes at a place, the highest first.
 pub(crate) fn high_number_4(bytes: &[u8], place: usize) -> u32
     requires { place + 4 ≤ length bytes.now }
     ensures { result ≡ high_number 4 place bytes.now }
@@ -48,7 +54,7 @@ pub(crate) fn high_number_4(bytes: &[u8], place: usize) -> u32
     256 * high_number_3(bytes, place) + bytes[place + 3] as u32
 }
 
-// Writes a number into the two bytes at a place, the lowest first.
+/// Writes a number into the two bytes at a place, the lowest first.
 pub(crate) fn put_2(bytes: &mut [u8], place: usize, n: u32)
     requires there { place + 2 ≤ length bytes.old }
     requires small { n < 2 ^ 16 }
@@ -59,7 +65,7 @@ pub(crate) fn put_2(bytes: &mut [u8], place: usize, n: u32)
     bytes[place + 1] = (n / 256) as u8;
 }
 
-// Writes a number into the three bytes at a place, the lowest first.
+/// Writes a number into the three bytes at a place, the lowest first.
 pub(crate) fn put_3(bytes: &mut [u8], place: usize, n: u32)
     requires there { place + 3 ≤ length bytes.old }
     requires small { n < 2 ^ 24 }
@@ -70,7 +76,7 @@ pub(crate) fn put_3(bytes: &mut [u8], place: usize, n: u32)
     put_2(bytes, place + 1, n / 256);
 }
 
-// Writes a number into the four bytes at a place, the lowest first.
+/// Writes a number into the four bytes at a place, the lowest first.
 pub(crate) fn put_4(bytes: &mut [u8], place: usize, n: u32)
     requires there { place + 4 ≤ length bytes.old }
     ensures here { number 4 place bytes.new ≡ n }
@@ -80,7 +86,7 @@ pub(crate) fn put_4(bytes: &mut [u8], place: usize, n: u32)
     put_3(bytes, place + 1, n / 256);
 }
 
-// Writes a number into the two bytes at a place, the highest first.
+/// Writes a number into the two bytes at a place, the highest first.
 pub(crate) fn put_high_2(bytes: &mut [u8], place: usize, n: u32)
     requires there { place + 2 ≤ length bytes.old }
     requires small { n < 2 ^ 16 }
@@ -91,7 +97,7 @@ pub(crate) fn put_high_2(bytes: &mut [u8], place: usize, n: u32)
     bytes[place + 1] = (n % 256) as u8;
 }
 
-// Writes a number into the three bytes at a place, the highest first.
+/// Writes a number into the three bytes at a place, the highest first.
 pub(crate) fn put_high_3(bytes: &mut [u8], place: usize, n: u32)
     requires there { place + 3 ≤ length bytes.old }
     requires small { n < 2 ^ 24 }
@@ -102,7 +108,7 @@ pub(crate) fn put_high_3(bytes: &mut [u8], place: usize, n: u32)
     bytes[place + 2] = (n % 256) as u8;
 }
 
-// Writes a number into the four bytes at a place, the highest first.
+/// Writes a number into the four bytes at a place, the highest first.
 pub(crate) fn put_high_4(bytes: &mut [u8], place: usize, n: u32)
     requires there { place + 4 ≤ length bytes.old }
     ensures here { high_number 4 place bytes.new ≡ n }

@@ -32,6 +32,7 @@ pub(crate) trait Sample {
         ensures others { (i : ℕ) → i ≢ k → sample_in bits sign E.order bytes.new i ≡ sample_in bits sign E.order bytes.old i };
 }
 
+/// Signed samples of 8 bits.
 pub(crate) struct Signed8;
 
 impl Sample for Signed8 {
@@ -48,6 +49,7 @@ impl Sample for Signed8 {
     }
 }
 
+/// Unsigned samples of 8 bits.
 pub(crate) struct Unsigned8;
 
 impl Sample for Unsigned8 {
@@ -64,6 +66,7 @@ impl Sample for Unsigned8 {
     }
 }
 
+/// Signed samples of 16 bits.
 pub(crate) struct Signed16;
 
 impl Sample for Signed16 {
@@ -80,6 +83,7 @@ impl Sample for Signed16 {
     }
 }
 
+/// Unsigned samples of 16 bits.
 pub(crate) struct Unsigned16;
 
 impl Sample for Unsigned16 {
@@ -96,6 +100,7 @@ impl Sample for Unsigned16 {
     }
 }
 
+/// Signed samples of 24 bits.
 pub(crate) struct Signed24;
 
 impl Sample for Signed24 {
@@ -112,6 +117,7 @@ impl Sample for Signed24 {
     }
 }
 
+/// Unsigned samples of 24 bits.
 pub(crate) struct Unsigned24;
 
 impl Sample for Unsigned24 {
@@ -128,6 +134,7 @@ impl Sample for Unsigned24 {
     }
 }
 
+/// Signed samples of 32 bits.
 pub(crate) struct Signed32;
 
 impl Sample for Signed32 {
@@ -144,6 +151,7 @@ impl Sample for Signed32 {
     }
 }
 
+/// Unsigned samples of 32 bits.
 pub(crate) struct Unsigned32;
 
 impl Sample for Unsigned32 {

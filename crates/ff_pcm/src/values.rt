@@ -4,7 +4,7 @@ ghost use Rattle.ff_frame.specs.Audio.{FitsBits};
 ghost use Rattle.ff_bits.specs.Integers.{signed};
 ghost use Rattle.ff_pcm.specs.Samples.{value_of};
 
-// Two's complement of a number of 8 bits.
+/// Two's complement of a number of 8 bits.
 pub(crate) fn signed_8(n: u32) -> i32
     requires { n < 2 ^ 8 }
     ensures value { result ≡ signed 8 n }
@@ -16,7 +16,7 @@ pub(crate) fn signed_8(n: u32) -> i32
     }
 }
 
-// Two's complement of a number of 16 bits.
+/// Two's complement of a number of 16 bits.
 pub(crate) fn signed_16(n: u32) -> i32
     requires { n < 2 ^ 16 }
     ensures value { result ≡ signed 16 n }
@@ -28,7 +28,7 @@ pub(crate) fn signed_16(n: u32) -> i32
     }
 }
 
-// Two's complement of a number of 24 bits.
+/// Two's complement of a number of 24 bits.
 pub(crate) fn signed_24(n: u32) -> i32
     requires { n < 2 ^ 24 }
     ensures value { result ≡ signed 24 n }
@@ -40,14 +40,14 @@ pub(crate) fn signed_24(n: u32) -> i32
     }
 }
 
-// Two's complement of a number of 32 bits.
+/// Two's complement of a number of 32 bits.
 pub(crate) fn signed_32(n: u32) -> i32
     ensures value { result ≡ signed 32 n }
 {
     n.cast_signed()
 }
 
-// The number of 8 bits whose two's complement is a sample.
+/// The number of 8 bits whose two's complement is a sample.
 pub(crate) fn unsigned_8(sample: i32) -> u32
     requires { FitsBits 8 sample }
     ensures bound { result < 2 ^ 8 }
@@ -60,7 +60,7 @@ pub(crate) fn unsigned_8(sample: i32) -> u32
     }
 }
 
-// The number of 16 bits whose two's complement is a sample.
+/// The number of 16 bits whose two's complement is a sample.
 pub(crate) fn unsigned_16(sample: i32) -> u32
     requires { FitsBits 16 sample }
     ensures bound { result < 2 ^ 16 }
@@ -73,7 +73,7 @@ pub(crate) fn unsigned_16(sample: i32) -> u32
     }
 }
 
-// The number of 24 bits whose two's complement is a sample.
+/// The number of 24 bits whose two's complement is a sample.
 pub(crate) fn unsigned_24(sample: i32) -> u32
     requires { FitsBits 24 sample }
     ensures bound { result < 2 ^ 24 }
@@ -86,14 +86,14 @@ pub(crate) fn unsigned_24(sample: i32) -> u32
     }
 }
 
-// The number of 32 bits whose two's complement is a sample.
+/// The number of 32 bits whose two's complement is a sample.
 pub(crate) fn unsigned_32(sample: i32) -> u32
     ensures value { signed 32 result ≡ sample }
 {
     sample.cast_unsigned()
 }
 
-// A number of 8 bits, counted from the middle of its range.
+/// A number of 8 bits, counted from the middle of its range.
 pub(crate) fn centred_8(n: u32) -> i32
     requires { n < 2 ^ 8 }
     ensures { result ≡ value_of false 8 n }
@@ -101,7 +101,7 @@ pub(crate) fn centred_8(n: u32) -> i32
     n as i32 - (1 << 7)
 }
 
-// A number of 16 bits, counted from the middle of its range.
+/// A number of 16 bits, counted from the middle of its range.
 pub(crate) fn centred_16(n: u32) -> i32
     requires { n < 2 ^ 16 }
     ensures { result ≡ value_of false 16 n }
@@ -109,7 +109,7 @@ pub(crate) fn centred_16(n: u32) -> i32
     n as i32 - (1 << 15)
 }
 
-// A number of 24 bits, counted from the middle of its range.
+/// A number of 24 bits, counted from the middle of its range.
 pub(crate) fn centred_24(n: u32) -> i32
     requires { n < 2 ^ 24 }
     ensures { result ≡ value_of false 24 n }
@@ -117,7 +117,7 @@ pub(crate) fn centred_24(n: u32) -> i32
     n as i32 - (1 << 23)
 }
 
-// A number of 32 bits, counted from the middle of its range.
+/// A number of 32 bits, counted from the middle of its range.
 pub(crate) fn centred_32(n: u32) -> i32
     ensures { result ≡ value_of false 32 n }
 {
@@ -128,7 +128,7 @@ pub(crate) fn centred_32(n: u32) -> i32
     }
 }
 
-// The number of 8 bits that stands as far from the middle of its range as a sample from 0.
+/// The number of 8 bits that stands as far from the middle of its range as a sample from 0.
 pub(crate) fn from_centre_8(sample: i32) -> u32
     requires { FitsBits 8 sample }
     ensures bound { result < 2 ^ 8 }
@@ -137,7 +137,7 @@ pub(crate) fn from_centre_8(sample: i32) -> u32
     (sample + (1 << 7)) as u32
 }
 
-// The number of 16 bits that stands as far from the middle of its range as a sample from 0.
+/// The number of 16 bits that stands as far from the middle of its range as a sample from 0.
 pub(crate) fn from_centre_16(sample: i32) -> u32
     requires { FitsBits 16 sample }
     ensures bound { result < 2 ^ 16 }
@@ -146,7 +146,7 @@ pub(crate) fn from_centre_16(sample: i32) -> u32
     (sample + (1 << 15)) as u32
 }
 
-// The number of 24 bits that stands as far from the middle of its range as a sample from 0.
+/// The number of 24 bits that stands as far from the middle of its range as a sample from 0.
 pub(crate) fn from_centre_24(sample: i32) -> u32
     requires { FitsBits 24 sample }
     ensures bound { result < 2 ^ 24 }
@@ -155,7 +155,7 @@ pub(crate) fn from_centre_24(sample: i32) -> u32
     (sample + (1 << 23)) as u32
 }
 
-// The number of 32 bits that stands as far from the middle of its range as a sample from 0.
+/// The number of 32 bits that stands as far from the middle of its range as a sample from 0.
 pub(crate) fn from_centre_32(sample: i32) -> u32
     ensures value { value_of false 32 result ≡ sample }
 {

@@ -13,10 +13,15 @@ use ff_plan_layout::{Laid, Origin, same_ref};
 /// The number of the first node of each kind after the Demux nodes.
 #[derive(Clone, Copy)]
 pub(crate) struct Firsts {
+    /// The number of the first Dec.
     pub(crate) decs: u32,
+    /// The number of the first graph's node.
     pub(crate) graphs: u32,
+    /// The number of the first Shortest node.
     pub(crate) shortests: u32,
+    /// The number of the first Enc.
     pub(crate) encs: u32,
+    /// The number of the first Mux.
     pub(crate) muxes: u32,
 }
 

@@ -11,8 +11,11 @@ use ff_lang::Graph;
 /// What was made before the outputs.
 #[derive(Drop)]
 pub(crate) struct Ready<'a> {
+    /// The heads of the streams of each input.
     pub(crate) heads: &'a [Vec<StreamHead>],
+    /// The complex graphs of the job.
     pub(crate) graphs: &'a [Graph],
+    /// These graphs, configured, in the order of their nodes.
     pub(crate) made: &'a [Made],
     ghost inputs: { length heads.now < 2 ^ 32 },
     ghost streams: { AllByRecursion (λ v. vec_len v < 2 ^ 32) heads.now } by { Prim.hlevel props },

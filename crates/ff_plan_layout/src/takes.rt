@@ -1,4 +1,4 @@
-//! The streams that a format takes, and the codecs that it gives them.
+//! The streams that an output takes by its format, and the heads of their packets.
 ghost use Rattle.std.specs.Prelude.{◌≡◌, ◌<◌, ◌≤◌, true};
 ghost use Rattle.std.specs.List.{list_any};
 ghost use Rattle.ff_map.specs.Choice.{has_kind};
@@ -16,6 +16,7 @@ use ff_frame::{Codec, Coding, StreamHead};
 use ff_map::Kind;
 use ff_words::OutputJob;
 
+/// The kind of a stream of this head.
 pub(crate) fn kind_of(head: StreamHead) -> Kind
     ensures { result ≡ kind_in head }
 {

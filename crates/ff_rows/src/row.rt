@@ -10,8 +10,11 @@ use std::thread::Threads;
 // What a row ran.
 #[derive(Drop)]
 enum Ran {
+    /// Nothing yet.
     Nothing,
+    /// A command, with what its run left.
     Command(Left),
+    /// A call of a library, with its answer.
     Call(String),
 }
 

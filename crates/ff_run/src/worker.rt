@@ -20,7 +20,9 @@ use ff_words::Job;
 /// Each node of a plan in a thread of its own. Whoever has the threads says how a plan is made, and how it is run.
 #[derive(Drop)]
 pub(crate) struct Threaded<P: Drop, Q: Drop> {
+    /// How a plan is made.
     pub(crate) plan: P,
+    /// How a plan is run.
     pub(crate) run: Q,
 }
 

@@ -31,7 +31,9 @@ use std::alloc::Global;
 /// The sources and sinks of a run in their places, by number; a place is empty while a part has what belongs there.
 #[derive(Drop)]
 pub(crate) struct Places<Src: Drop, Snk: Drop> {
+    /// The sources, by input.
     pub(crate) srcs: Vec<Option<Src>>,
+    /// The sinks, by output.
     pub(crate) snks: Vec<Option<Snk>>,
 }
 

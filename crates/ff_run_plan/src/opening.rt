@@ -55,7 +55,9 @@ fn unused_inputs(nodes: &[PlanNode], inputs: u32) -> u16
 /// What the scheduler of a run begins with.
 #[derive(Drop)]
 pub(crate) struct Opening {
+    /// The opening state.
     pub(crate) state: SchedState,
+    /// The routes.
     pub(crate) routes: Routes,
 }
 

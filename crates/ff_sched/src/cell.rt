@@ -38,7 +38,9 @@ pub enum Grant {
 /// made.
 #[derive(Drop)]
 pub struct SchedCell {
+    /// Where its passes take their memory from.
     pub(crate) alloc: Global,
+    /// The cell itself.
     pub(crate) cell: Cell,
     routes: Routes,
     opening: SchedState,
@@ -156,7 +158,7 @@ fn part_as<F: Portion>(cell: &Cell, seat: &mut Seat, share: u64) -> Seat
     cell.split_pass::<Parts<F>>(seat)
 }
 
-// Puts all that another seat knows to what a seat knows.
+/// Puts all that another seat knows to what a seat knows.
 pub(crate) fn absorb(cell: &Cell, seat: &mut Seat, mut other: Seat)
     requires cell { (seat.old.table_id ≡ cell.now.table.shared.table_id)
         × (other.table_id ≡ cell.now.table.shared.table_id) }
@@ -167,7 +169,7 @@ pub(crate) fn absorb(cell: &Cell, seat: &mut Seat, mut other: Seat)
     cell.join_pass::<Everything>(seat, whole);
 }
 
-// What a seat with the whole share sees: all of the history.
+/// What a seat with the whole share sees: all of the history.
 pub(crate) fn last_look<R: Wait>(rt: &R, cell: &Cell, seat: &mut Seat)
     requires cell { seat.old.table_id ≡ cell.now.table.shared.table_id }
     requires opened { (cell_view seat.old).opened ≡ true }

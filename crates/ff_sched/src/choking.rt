@@ -117,10 +117,11 @@ fn asked_by(state: &SchedState, routes: &Routes, trailing: Option<u64>, stream: 
 
 // For whom the streams ask.
 enum Asked {
-    // For this source.
+    /// For this source.
     ThisOne,
-    // For another that hasn't exited.
+    /// For another that hasn't exited.
     Another,
+    /// For no source that hasn't exited.
     Nobody,
 }
 

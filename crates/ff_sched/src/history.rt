@@ -7,6 +7,7 @@ use std::marker::Model;
 /// All that happened, in one order. Contracts see it as a list.
 #[derive(Debug, Drop)]
 pub struct History {
+    /// The events, the first one first.
     pub(crate) events: Vec<Event>,
 }
 

@@ -9,8 +9,11 @@ use std::marker::Model;
 /// The right to add so many events to the history of a cell, and the log of those that it added.
 #[derive(Drop)]
 pub struct Pass {
+    /// The pass of the cell itself.
     pub(crate) seat: Seat,
+    /// How many events it may add in all.
     pub(crate) share: u64,
+    /// The events that it added, with their places.
     pub(crate) log: Vec<Logged>,
 }
 

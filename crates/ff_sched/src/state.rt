@@ -11,6 +11,7 @@ use std::marker::Model;
 /// The state of the scheduler. Contracts see it as lists.
 #[derive(Drop)]
 pub struct SchedState {
+    /// The machine words of the cell.
     pub(crate) words: [u64; 20],
 }
 
@@ -74,7 +75,7 @@ impl SchedState {
         ((self.words[BEST] >> (4 * graph)) % 16) as u32
     }
 
-    // An equal state.
+    /// An equal state.
     pub(crate) fn again(&self) -> SchedState
         ensures { result ≡ self.now }
     {

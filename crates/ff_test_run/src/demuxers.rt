@@ -20,9 +20,13 @@ const HEAD: [u8; 44] = [
 // What a pull gave: of a packet its time, duration, place and number of bytes.
 #[derive(Clone, Copy, PartialEq, Eq, Debug)]
 enum Given {
+    /// A packet.
     Packet(i64, i64, u64, usize),
+    /// The end.
     End,
+    /// Nothing is due.
     Nothing,
+    /// Anything else.
     Other,
 }
 

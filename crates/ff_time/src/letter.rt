@@ -7,16 +7,21 @@ ghost use Rattle.ff_time.specs.Reading.{letter_of};
 pub(super) enum Letter {
     /// A digit's value.
     Digit(u8),
+    /// A colon.
     Colon,
+    /// A decimal point.
     Point,
     /// The letter `s`, and so on.
     S,
+    /// The letter `m`.
     M,
+    /// The letter `u`.
     U,
     /// No byte of a duration.
     Other,
 }
 
+/// What a byte is.
 pub(super) fn classify(byte: u8) -> Letter
     ensures { result ≡ letter_of byte }
 {

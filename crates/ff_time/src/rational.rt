@@ -92,7 +92,7 @@ impl Rational {
         i64::from(self.den)
     }
 
-    // Both numbers, with room for products.
+    /// Both numbers, with room for products.
     pub(super) fn parts(self) -> (u128, u128)
         ensures num { result.0 ≡ self.num }
         ensures den { result.1 ≡ self.den }

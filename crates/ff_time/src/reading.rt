@@ -203,12 +203,13 @@ fn after_decimals(
 }
 
 impl Reading {
+    /// Nothing was read.
     pub(super) const START: Reading = Reading::First {
         digits: 0,
         number: 0,
     };
 
-    // What is read with one more byte, unless no duration goes on so.
+    /// What is read with one more byte, unless no duration goes on so.
     pub(super) fn next(self, byte: u8) -> Option<Reading>
         ensures { (r : Exact) → IsSound r → self ≡ shown r
             → result ≡ option_map shown (next_of r (letter_of byte)) }
@@ -241,7 +242,7 @@ impl Reading {
         }
     }
 
-    // How many bytes are missing at least.
+    /// How many bytes are missing at least.
     pub(super) fn missing(self) -> usize
         ensures count { (r : Exact) → self ≡ shown r → result ≡ missing_of r }
         ensures bound { result ≤ 3 }
@@ -261,7 +262,7 @@ impl Reading {
         }
     }
 
-    // The value, where the string may end here.
+    /// The value, where the string may end here.
     pub(super) fn value(self) -> Option<u64>
         ensures { (r : Exact) → IsSound r → self ≡ shown r
             → result ≡ option_map cap (value_of r) }

@@ -172,6 +172,7 @@ impl Pending {
 }
 
 impl Reader {
+    /// A reader that has read nothing.
     pub(crate) fn new(alloc: Global) -> Reader
         ensures { result ≡ reader [] }
     {

@@ -6,6 +6,7 @@ ghost use Rattle.ff_graph_links.specs.labels.Labels.{is_one_of as one_of, filter
 
 use ff_lang::{Chain, Graph, Text};
 
+/// Whether a string is one of these.
 pub(crate) fn is_one_of(text: &str, texts: &[Text]) -> bool
     ensures { result ≡ one_of text.now texts.now }
 {

@@ -85,6 +85,7 @@ fn counts(all: bool, given: &[Text], label: &Text) -> bool
     all || is_one_of(label.as_str(), given)
 }
 
+/// Looks for a label that stands a second time and may stand only once.
 pub(crate) fn check_twice(
     alloc: Global,
     all: bool,
@@ -104,14 +105,16 @@ pub(crate) fn check_twice(
     Ok(())
 }
 
-// The labels that stood at input and at output pads.
+/// The labels that stood at input and at output pads.
 #[derive(Drop)]
 pub(crate) struct Seen {
+    /// Those at input pads.
     pub(crate) ins: Vec<Text>,
+    /// Those at output pads.
     pub(crate) outs: Vec<Text>,
 }
 
-// One more filter's labels.
+/// One more filter's labels.
 pub(crate) fn add_seen(seen: &mut Seen, alloc: Global, filter: &Filter) -> Result<(), AllocError>
     ensures ins { OnOk result (seen.new.ins.items ≡ seen.old.ins.items ++ filter.now.ins) }
     ensures outs { OnOk result (seen.new.outs.items ≡ seen.old.outs.items ++ filter.now.outs) }

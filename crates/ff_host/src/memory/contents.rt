@@ -9,9 +9,10 @@ ghost use Rattle.ff_host.specs.memory.Given.{given};
 use std::alloc::{AllocError, Global};
 use std::collections::BTreeMap;
 
+/// The bytes of each file by its name.
 pub(crate) type Contents = BTreeMap<String, Vec<u8>>;
 
-// A map of these files.
+/// A map of these files.
 pub(crate) fn contents_of(
     alloc: Global,
     mut files: Vec<(String, Vec<u8>)>,
@@ -25,6 +26,7 @@ pub(crate) fn contents_of(
     Ok(map)
 }
 
+/// The bytes of a file, or None where the name is not there.
 pub(crate) fn bytes_under<'a>(contents: &'a Contents, name: &str) -> Option<&'a [u8]>
     ensures { option_map (λ bytes. bytes.now) result ≡ file_at contents.now name.now }
 {
@@ -34,7 +36,7 @@ pub(crate) fn bytes_under<'a>(contents: &'a Contents, name: &str) -> Option<&'a 
     }
 }
 
-// The bytes under a name, or none where it is not there.
+/// The bytes under a name, or none where it is not there.
 pub(crate) fn copy_under(
     alloc: Global,
     contents: &Contents,
@@ -48,7 +50,7 @@ pub(crate) fn copy_under(
     }
 }
 
-// Makes room for the bytes of a file, and makes it empty.
+/// Makes room for the bytes of a file, and makes it empty.
 pub(crate) fn make_empty(
     contents: &mut Contents,
     alloc: Global,
@@ -62,7 +64,7 @@ pub(crate) fn make_empty(
     Ok(())
 }
 
-// Puts these bytes in the place of those of a file that is there.
+/// Puts these bytes in the place of those of a file that is there.
 pub(crate) fn put_bytes(contents: &mut Contents, name: &str, bytes: Vec<u8>)
     requires { IsSome (get_by_text contents.old name.now) }
     ensures { PutsFile (Some (file_at contents.old)) (Some (file_at contents.new)) name.now (Some bytes.items) }

@@ -42,6 +42,7 @@ impl Model for MeetSource {
 }
 
 impl MeetSource {
+    /// A source over this one, which waits at this offset.
     pub(crate) fn new(inner: QuietSource, meeting: Meeting, offset: u64) -> MeetSource
         ensures { result ≡ new_meeting inner.name inner.left offset }
     {
@@ -57,12 +58,14 @@ impl MeetSource {
         }
     }
 
+    /// How often reading failed.
     pub(crate) fn faults(&self) -> u64
         ensures { result ≡ self.now.faults }
     {
         self.faults
     }
 
+    /// The source without its meeting.
     pub(crate) fn into_inner(self) -> QuietSource
         ensures { result ≡ record { name = self.name; left = self.left } }
     {

@@ -9,7 +9,7 @@ use std::thread::yield_now;
 /// So many turns of one load and one yield a read waits at most.
 pub(crate) const TURNS: u32 = 10_000_000;
 
-// One of the two ends of a meeting: whether it has come to it, and whether the other has.
+/// One of the two ends of a meeting: whether it has come to it, and whether the other has.
 #[derive(Drop)]
 pub(crate) struct Meeting {
     own: Arc<AtomicBool>,
@@ -17,7 +17,7 @@ pub(crate) struct Meeting {
 }
 
 impl Meeting {
-    // The ends of a new meeting, to which neither has come.
+    /// The ends of a new meeting, to which neither has come.
     pub(crate) fn pair(alloc: Global) -> Result<(Meeting, Meeting), AllocError> {
         let one = Arc::new(alloc, AtomicBool::new(false))?;
         let two = Arc::new(alloc, AtomicBool::new(false))?;
@@ -32,7 +32,7 @@ impl Meeting {
         Ok((first, second))
     }
 
-    // The same end again.
+    /// The same end again.
     pub(crate) fn again(&self) -> Result<Meeting, AllocError> {
         Ok(Meeting {
             own: Arc::try_clone(&self.own)?,
@@ -40,8 +40,8 @@ impl Meeting {
         })
     }
 
-    // Comes to the meeting and waits for the other end. It answers after how many turns that had come, or all turns
-    // where it had in none.
+    /// Comes to the meeting and waits for the other end. It answers after how many turns that had come, or all turns
+    /// where it had in none.
     pub(crate) fn wait(&self) -> u32
         ensures { result ≤ TURNS }
     {

@@ -40,6 +40,7 @@ impl Model for MemSink {
 }
 
 impl MemSink {
+    /// A sink over this one, which holds nothing, with the numbers of the appends and patches that fail.
     pub(crate) fn new(
         inner: QuietSink,
         planned_appends: Vec<u64>,
@@ -66,7 +67,7 @@ impl MemSink {
         self.inner.bytes()
     }
 
-    // The sink without its plan, and how often it failed.
+    /// The sink without its plan, and how often it failed.
     pub(crate) fn into_parts(self) -> (QuietSink, u64)
         ensures sink { result.0 ≡ record { name = self.name; holds = self.holds } }
         ensures faults { result.1 ≡ self.faults }

@@ -35,6 +35,7 @@ impl Model for MemSource {
 }
 
 impl MemSource {
+    /// A source over this one, with the numbers of the reads that fail.
     pub(crate) fn new(inner: QuietSource, planned: Vec<u64>) -> MemSource
         ensures { result ≡ new_reading inner.name inner.left planned.items }
     {
@@ -47,12 +48,14 @@ impl MemSource {
         }
     }
 
+    /// How often reading failed.
     pub(crate) fn faults(&self) -> u64
         ensures { result ≡ self.now.faults }
     {
         self.faults
     }
 
+    /// The source without its plan.
     pub(crate) fn into_inner(self) -> QuietSource
         ensures { result ≡ record { name = self.name; left = self.left } }
     {

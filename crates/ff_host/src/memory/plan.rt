@@ -37,7 +37,7 @@ pub struct FailAt {
     pub number: u32,
 }
 
-// The numbers of the calls of this kind under this name that are planned to fail.
+/// The numbers of the calls of this kind under this name that are planned to fail.
 pub(crate) fn planned_numbers(
     alloc: Global,
     plan: &[FailAt],
@@ -62,21 +62,21 @@ fn is_planned(plan: &[FailAt], name: &str, call: HostCall, number: u64) -> bool
         .any(|n| number == n)
 }
 
-// Whether the next call of this kind under this name after so many is planned to fail.
+/// Whether the next call of this kind under this name after so many is planned to fail.
 pub(crate) fn is_planned_next(plan: &[FailAt], name: &str, call: HostCall, calls: u64) -> bool
     ensures { IsTrue result ↔ IsPlannedNext plan.now name.now call calls }
 {
     is_planned(plan, name, call, one_more(calls))
 }
 
-// Whether the next call on an object after so many fails: it failed before, or that call is planned to.
+/// Whether the next call on an object after so many fails: it failed before, or that call is planned to.
 pub(crate) fn fails_next(failed: bool, planned: &[u64], calls: u64) -> bool
     ensures { IsTrue result ↔ FailsNext failed planned.now calls }
 {
     failed || planned.contains(&one_more(calls))
 }
 
-// A count after one more. It stops at its last value, above each number that a plan can have.
+/// A count after one more. It stops at its last value, above each number that a plan can have.
 pub(crate) fn one_more(count: u64) -> u64
     ensures { result ≡ added count 1 }
 {

@@ -43,7 +43,7 @@ impl QuietHost {
         bytes_under(&self.files, name)
     }
 
-    // Takes a sink back, and puts what it holds in the place of the bytes of a file that is there.
+    /// Takes a sink back, and puts what it holds in the place of the bytes of a file that is there.
     pub(crate) fn put(&mut self, name: &str, snk: QuietSink)
         requires { IsSome (quiet_files self.old name.now) }
         ensures files { PutsFile (Some (quiet_files self.old)) (Some (quiet_files self.new)) name.now (Some snk.holds) }

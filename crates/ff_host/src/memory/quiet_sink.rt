@@ -23,6 +23,7 @@ impl Model for QuietSink {
 }
 
 impl QuietSink {
+    /// A sink under this name that holds nothing.
     pub(crate) fn new(alloc: Global, name: String) -> QuietSink
         ensures { result ≡ record { name = string_bytes name; holds = [] } }
     {
@@ -39,6 +40,7 @@ impl QuietSink {
         &self.bytes
     }
 
+    /// The bytes that it holds.
     pub(crate) fn into_bytes(self) -> Vec<u8>
         ensures { result.items ≡ self.holds }
     {

@@ -25,6 +25,7 @@ impl Model for QuietSource {
 }
 
 impl QuietSource {
+    /// A source of these bytes under this name.
     pub(crate) fn new(name: String, bytes: Vec<u8>) -> QuietSource
         ensures { result ≡ record { name = string_bytes name; left = bytes.items } }
     {

@@ -20,10 +20,15 @@ pub struct Room<M> {
 /// The lists of a room.
 #[derive(Drop)]
 pub(crate) struct Lists<M> {
+    /// The senders by link, none of which is there yet.
     pub(crate) table: Vec<Option<Sender>>,
+    /// What went over each link, by its number.
     pub(crate) settled: Vec<Settled>,
+    /// The machines.
     pub(crate) machines: Vec<M>,
+    /// The passes.
     pub(crate) passes: Vec<Pass>,
+    /// The faults.
     pub(crate) faults: Vec<Option<Fault>>,
 }
 

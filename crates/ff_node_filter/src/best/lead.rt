@@ -21,6 +21,7 @@ use std::collections::VecDeque;
 pub(crate) struct Lead {
     graph: u32,
     best: u32,
+    /// What is known of each input.
     pub(crate) inputs: Vec<Input>,
     /// What is to be told, the oldest first.
     waiting: VecDeque<Event>,
