@@ -60,8 +60,8 @@ pub struct Report {
     pub status: Status,
     /// What the scheduler granted and was told; nothing for any other status than `Fine`.
     pub history: History,
-    /// For each input the places in `history`, from 0 on, of the grants under which its source tried a packet or
-    /// found the end, in order. There is no list for any other status than `Fine`.
+    /// For each input the places in `history`, from 0 on, of some grants, in order. Under these its source tried a
+    /// packet or found the end. There is no list for any other status than `Fine`.
     pub reads: Vec<Vec<u64>>,
     /// What became of the line of the fault, or of the string that was asked for; with status `Fine` never `NoMemory`.
     pub line: Line,

@@ -6,8 +6,8 @@ ghost use Rattle.ff_stream.specs.declared.item.Lane.TheVariants.{Frames};
 ghost use Rattle.ff_filter.specs.Shifts.{shifted};
 ghost use Rattle.ff_filter.specs.Sound.{IsSound};
 
-/// A valid stream as it is, and one of frames with times from the start of its first item on, are in shape for the
-/// same lane. An unbroken one doesn't break off.
+/// A valid stream as it is is in shape for its own lane. So is one of frames with times from the start of its first
+/// item on. An unbroken one doesn't break off.
 pub fn shared_functions_are_sound()
     ensures same { (lane : Lane) → IsSound lane lane (λ s. s) }
     ensures shifted { (head : StreamHead) → IsSound (Frames head) (Frames head) (λ s. shifted None s) }

@@ -1,8 +1,8 @@
 //! The machine's files as a host, and standard output as a log.
 //!
 //! This is the edge that the proofs trust: what a file or standard output holds is told by nobody. Three things are
-//! proved: how failures are counted, that what has failed fails from then on, and that each is given back under its
-//! own name. Where it is asked for, a line on standard error says how far the reading is; no clause speaks of it.
+//! proved: how failures are counted, that what has failed stays so, and that each is given back under its own name.
+//! Where it is asked for, a line on standard error says how far the reading is; no clause speaks of it.
 #![tactic(auto)]
 
 mod file_host;

@@ -27,8 +27,8 @@ ghost use Rattle.ff_stream.specs.Stream.{LiesBelow};
 ghost use Rattle.ff_filter.specs.Joins.{Ports};
 
 /// Segments one after another keep the broken rule. A broken input counts as open without a further item. The output
-/// is broken exactly where an input is, it isn't whole, and no continuation of the inputs gives it an item or makes
-/// it whole.
+/// is broken exactly where an input is, it isn't whole, and no continuation of the inputs adds an item or makes it
+/// whole.
 pub fn segments_keep_the_broken_rule()
     ensures { (n : ℕ) → Item → KeepsBrokenRule (AreSo n) (segments_of n) }
 {}

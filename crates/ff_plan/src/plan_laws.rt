@@ -24,7 +24,7 @@ pub fn outputs_fit()
     orders_go_upward();
 }
 
-/// The plan of a job within the limits is sound: what it asks of its outputs, its routes, its streams, texts, nodes and edges.
+/// The plan of a job within the limits is sound: what it asks of its outputs, its routes, its streams, strings, nodes and edges.
 pub fn plans_are_sound()
     ensures { (rules : Rules) (job : Job) (heads : List (List StreamHead)) (p : Plan) → AreRules rules → HasFewIns rules → KeepsTaken rules
         → IsWithinLimits job heads → 1 ≤ length job.outputs → planned rules job heads ≡ Ok p → IsSoundPlan rules job heads p }

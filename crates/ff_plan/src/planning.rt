@@ -12,8 +12,8 @@ use ff_plan_layout::{Filtering, PlanError, lay_out};
 use ff_words::Job;
 use std::alloc::Global;
 
-/// The plan of a job, by the rules of graphs that `filtering` has, with these heads of each of its inputs, or the
-/// refusal that comes first. Refusals come in this order: of names and labels of complex graphs, of loops, and of
+/// The plan of a job with these heads of each of its inputs, or the refusal that comes first. The rules of graphs are
+/// those that `filtering` has. Refusals come in this order: of names and labels of complex graphs, of loops, and of
 /// what their filters can't do. Then come those of each output in turn: its maps, its lack of streams, what its
 /// format takes, and its simple graphs. Last come those of a label that nothing uses, and of too many streams or
 /// graphs. `NoMemory` may come in place of any answer.

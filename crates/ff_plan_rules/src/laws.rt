@@ -28,8 +28,8 @@ pub fn heads_are_kept()
     ensures { KeepHeads graph_rules }
 {}
 
-/// A graph of as many filters as an argument of a command can write has no more open pads than the code can give,
-/// where its heads are fit. A filter that is refused has a number of few bits.
+/// Take a graph of as many filters as an argument of a command can write. Where its heads are fit, it has no more
+/// open pads than the code can give. A filter that is refused has a number of few bits.
 pub fn words_have_few_pads()
     ensures inputs { (g : Text) → length (filters_of g) ≤ 65536 → length (open_ins g) ≤ 2 ^ 20 }
     ensures outputs { (g : Text) (heads : List StreamHead) (outs : List OpenOut) → length (filters_of g) ≤ 65536 → AreFitHeads heads

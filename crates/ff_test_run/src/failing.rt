@@ -149,8 +149,8 @@ fn run_failing<R: Threads + Wait + Sync>(
     Ok((is_met, is_right & left.keeps_the_rest(job)))
 }
 
-// In how many of these runs the call came that was planned to fail, where that is this one of so many calls of a
-// kind. None where what one of the runs came to isn't right.
+// In how many of these runs the planned failure came, where that is this one of so many calls of a kind. None where
+// what one of the runs came to isn't right.
 fn failures<R: Threads + Wait + Sync>(
     rt: &R,
     alloc: Global,

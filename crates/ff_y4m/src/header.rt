@@ -45,7 +45,7 @@ fn add_ratio(
 }
 
 /// The first line of a file with this stream, which is video (yuv4mpeg(5), "Stream Header"). It has columns and rows,
-/// frames a second, the letter of frames without fields, the aspect of a sample as it is held, and the format.
+/// frames a second, the letter of frames without fields, the aspect of a sample as held, and the format.
 pub fn y4m_header(alloc: Global, head: &StreamHead) -> Result<Vec<u8>, AllocError>
     requires { IsVideoHead head.now }
     ensures { IfOk result (λ bytes. bytes.items ≡ header head.now) }

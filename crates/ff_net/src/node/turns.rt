@@ -147,10 +147,10 @@ impl<M: Machine> Node<M> {
         self.fault().is_some()
     }
 
-    /// One turn. It is at most one grant, one item taken from each input and one put on each output, and the events
-    /// that are due are told. Nothing is granted or taken where an item is due, or where the node may not take: an
-    /// item waits beyond its wires. A node with a fault sends Broken down each output that goes on, finishes its
-    /// inputs, and is done.
+    /// One turn. It is at most one grant, one item taken from each input and one put on each output. The events that
+    /// are due are told. Nothing is granted or taken where an item is due, or where the node may not take: an item
+    /// waits beyond its wires. A node with a fault sends Broken down each output that goes on, finishes its inputs,
+    /// and is done.
     pub fn turn<R: Wait>(
         &mut self,
         rt: &R,

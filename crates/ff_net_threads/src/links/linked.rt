@@ -404,11 +404,11 @@ impl<M: Machine> Linked<M> {
         self.node.stop_finished(&mut self.wires)
     }
 
-    /// One turn. At most one item is taken from each link and one put on each, and a source takes at most one grant
-    /// from the scheduler's cell. Nothing is taken from a link where an item is due, and where one lies between the
-    /// node and a link no grant either. The node tells the cell the events that are due. At the turn's end each
-    /// output that was told that its receiver has finished is stopped. The link of each input that the node has
-    /// finished is finished too. That is where its closing item was taken, it is spent, or the node has a fault.
+    /// One turn. At most one item is taken from each link and one put on each. A source takes at most one grant from
+    /// the scheduler's cell. Nothing is taken from a link where an item is due, and where one lies between the node
+    /// and a link no grant either. The node tells the cell the events that are due. At the turn's end each output
+    /// that was told that its receiver has finished is stopped. The link of each input that the node has finished is
+    /// finished too. That is where its closing item was taken, it is spent, or the node has a fault.
     pub fn turn<R: Wait>(&mut self, rt: &R, cell: &SchedCell) -> Turn
         requires lawful { IsLawful M.view self.old }
         requires cell { IsOf M.view cell.now (node_of self.old) }

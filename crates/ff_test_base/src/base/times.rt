@@ -1,4 +1,4 @@
-//! Tests of times.
+//! Tests of cuts in time, as values.
 use ff_time::TimeCut;
 
 #[test]
