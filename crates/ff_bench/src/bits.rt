@@ -1,4 +1,4 @@
-//! Reading and writing bits, and the two sums.
+//! Bits read and written, and the two checksums, measured.
 
 ghost use Rattle.std.specs.Prelude.{◌≤◌, ◌<◌, ◌^◌, ◌*◌, length, vec_len, IfOk};
 

@@ -1,4 +1,4 @@
-//! Filters of video frames of 1920x1080 in 4:2:0, from memory to memory.
+//! Filters of video frames of 1920x1080 in 4:2:0, from memory to memory, measured.
 
 use ff_filter::Filter;
 use ff_frame::{Bytes, ConfigError, Format, StreamHead, VFrame};

@@ -1,4 +1,4 @@
-//! Blocks of audio as FLAC frames.
+//! Blocks of audio as FLAC frames, measured.
 
 ghost use Rattle.std.specs.Prelude.{◌≡◌, ◌*◌, ◌≤◌, IfOk, All, length};
 ghost use Rattle.ff_frame.specs.Audio.{FitsBits};

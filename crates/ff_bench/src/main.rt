@@ -1,6 +1,6 @@
-//! Measures how fast what no command shows by itself runs: bits, filters of video, FLAC's encoder, PCM, the scheduler's
-//! cell. What a command takes is measured on the built program (`checks/measure-framehash`). With no argument it prints
-//! its usage.
+//! The program that measures what no command shows by itself: bits, video filters, FLAC's encoder, PCM, the
+//! scheduler's cell. What a command takes is measured on the built program (`checks/measure-framehash`). With no
+//! argument it prints its usage.
 #![tactic(auto)]
 
 mod bits;

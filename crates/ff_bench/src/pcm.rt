@@ -1,4 +1,4 @@
-//! Samples of the bytes of packets, and bytes of the samples of frames.
+//! Samples of the bytes of packets, and bytes of the samples of frames, measured.
 
 ghost use Rattle.std.specs.Prelude.{◌≡◌, ◌≤◌, ◌*◌, IfOk, length};
 ghost use Rattle.ff_frame.specs.Audio.{IsAudio};

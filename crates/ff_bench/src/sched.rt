@@ -1,4 +1,4 @@
-//! Calls on the scheduler's cell: two streams on two sources.
+//! Calls on the scheduler's cell, measured: two streams on two sources.
 
 ghost use Rattle.std.specs.Prelude.{◌≡◌, ◌<◌, ◌≤◌, ◌^◌, [], length, IfOk};
 

@@ -1,4 +1,4 @@
-//! Reading bits, the most significant of each byte first.
+//! The reader of bits, the most significant of each byte first.
 
 ghost use Rattle.std.specs.Prelude.{◌≡◌, ℕ, ◌≤◌, ◌<◌, ◌+◌, ◌*◌, ◌/◌, ◌%◌, ◌^◌, ◌↔◌, IsTrue, length, take, drop, replicate, false, true, List, Bool, ◌∷◌, ◌++◌, IfOk, IfErr, OnErr, IfSome, IfNone};
 ghost use Rattle.ff_bits.specs.Bits.{value_of, bits};

@@ -1,4 +1,4 @@
-//! Bits that wait until they fill a word.
+//! Bits that wait until they fill a machine word.
 
 ghost use Rattle.std.specs.Prelude.{◌≡◌, ◌+◌, ◌*◌, ◌-◌, ◌^◌, ◌<◌, ◌≤◌, ◌/◌, ◌%◌, ◌++◌, vec_len, vec_capacity};
 ghost use Rattle.ff_bits.specs.Bits.{bits_of, bits};

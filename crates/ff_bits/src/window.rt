@@ -1,4 +1,4 @@
-//! Reading codes, several of them from one word.
+//! The reader of codes, several of them from one machine word.
 
 ghost use Rattle.std.specs.Prelude.{◌≡◌, ℕ, ◌≤◌, ◌<◌, ◌+◌, ◌-◌, ◌*◌, ◌^◌, List, Bool, length, drop, IfSome, IfNone};
 ghost use lib.Count.{count_leading_zeros};

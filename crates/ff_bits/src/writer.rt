@@ -1,4 +1,4 @@
-//! Writing bits, the most significant of each byte first.
+//! The writer of bits, the most significant of each byte first.
 
 ghost use Rattle.std.specs.Prelude.{◌≡◌, ◌+◌, ◌*◌, ◌-◌, ◌^◌, ◌<◌, ◌≤◌, ◌%◌, ◌/◌, ◌++◌, [], length, replicate, vec_len, vec_capacity, OnOk, OnErr, ℕ, false};
 ghost use Rattle.ff_bits.specs.Bits.{bits_of, bits, padding};

@@ -1,4 +1,4 @@
-//! What the definitions mean. Each function does nothing, and its contract is the law.
+//! Laws of the definitions of this crate. Each function does nothing, and its contract is the law.
 
 ghost use Rattle.std.specs.Prelude.{◌≤◌, ℕ, List, length};
 ghost use Rattle.ff_flac_frame.specs.declared.stream.FlacStream.{FlacStream};

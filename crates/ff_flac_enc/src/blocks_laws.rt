@@ -1,4 +1,4 @@
-//! What the definitions of blocks keep. Each function does nothing, and its contract is the law.
+//! Laws of the definitions of blocks. Each function does nothing, and its contract is the law.
 
 ghost use Rattle.std.specs.Prelude.{◌≡◌, ◌≤◌, ℕ, List, [], ◌∷◌, ◌++◌, true, false, Bool, map, ℤ};
 ghost use mathlib.Core.List.{IsPrefix};

@@ -1,4 +1,4 @@
-//! What the definitions of this crate keep. Each function does nothing, and its contract is the law.
+//! Laws of the definitions of this crate. Each function does nothing, and its contract is the law.
 
 ghost use Rattle.std.specs.Prelude.{◌≡◌, ◌^◌, ◌<◌, ℕ, List, length, Some};
 ghost use Rattle.ff_frame.specs.declared.audio.AFrame.{AFrame};

@@ -1,4 +1,4 @@
-//! What the grammar keeps. Each function does nothing, and its contract is the law.
+//! Laws of the grammar. Each function does nothing, and its contract is the law.
 
 ghost use Rattle.std.specs.Prelude.{◌≡◌, ◌<◌, ℕ, List, ◌++◌, take};
 ghost use Rattle.ff_flac_frame.specs.declared.stream.FlacStream.{FlacStream};

@@ -1,4 +1,4 @@
-//! Reading on past a subframe, of which no sample and no residual is kept.
+//! The reader that passes over a subframe, of which it keeps no sample and no residual.
 
 ghost use Rattle.std.specs.Prelude.{◌≡◌, ◌<◌, ◌≤◌, nat_lt, if◌then◌else◌, []};
 ghost use Rattle.ff_bits.specs.Reading.{times, give};

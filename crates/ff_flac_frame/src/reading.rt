@@ -1,4 +1,4 @@
-//! Reading a subframe.
+//! The reader of a subframe.
 
 ghost use Rattle.std.specs.Prelude.{◌≡◌, ◌<◌, ◌≤◌, ◌^◌, IfOk, nat_lt, if◌then◌else◌, [], ◌∷◌};
 ghost use Rattle.ff_bits.specs.Reading.{times, give};

@@ -1,4 +1,4 @@
-//! How long a frame is, without what it says of its samples.
+//! The size of a frame, without what it says of its samples.
 
 ghost use Rattle.std.specs.Prelude.{◌≡◌, ◌≤◌, IfOk, IsErrOf, EachIndex, slice_index};
 ghost use Rattle.ff_bits.specs.Bits.{bits};

@@ -1,4 +1,4 @@
-//! What the definitions of this crate keep. Each function does nothing, and its contract is the law.
+//! Laws of the definitions of this crate. Each function does nothing, and its contract is the law.
 
 ghost use Rattle.std.specs.Prelude.{◌≡◌, ℕ, ℤ, ◌<◌, ◌≤◌, List, length, Some};
 ghost use Rattle.std.specs.List.{AllByRecursion};

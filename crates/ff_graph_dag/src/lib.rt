@@ -15,9 +15,9 @@
 //! What a graph still gives is said on all edges at once (`specs/Graphs`). At the start it is the solution of a
 //! network with a part for each filter (`specs/Parts`).
 //!
-//! `ties`: What is read off a plan of filters, edge by edge and port by port, that makes it sound; the edges on the way to each output.
+//! `ties`: The edges on the way to each output of a plan, and what is read off a plan that makes it sound.
 //!
-//! `wiring`: From filters that feed one another to the plan of their edges: which edge stands at which port.
+//! `wiring`: The plan of the edges of filters that feed one another: which edge stands at which port.
 #![tactic(auto)]
 
 mod dag;

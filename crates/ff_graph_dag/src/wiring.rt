@@ -1,4 +1,4 @@
-//! From filters that feed one another to the plan of their edges: which edge stands at which port.
+//! The plan of the edges of filters that feed one another: which edge stands at which port.
 //!
 //! ```text
 //!   inputs of the graph ──0──► filter 0 ──2──► filter 1 ──4──► output of the graph

@@ -1,4 +1,4 @@
-//! Where a run reads and writes.
+//! The sources and sinks of a run, and the hosts that open and create them.
 //!
 //! A [`Host`] opens a [`Source`] on a name and creates a [`Sink`] on one, and takes both back. Their contracts speak
 //! of what they tell, which is optional. That is the bytes that a source has left, those that a sink holds, and the

@@ -1,4 +1,4 @@
-//! What is written to files that hold packets or tell of them: the lines and headers, as pure functions.
+//! The lines and headers of files that hold packets or tell of them, as pure functions.
 //!
 //! [`HashPut`] gives the lines of a framehash file, in the pieces in which they are written. These are those before
 //! the packets, and a line for each packet. `specs/HashTexts` has them, for any number of streams and either digest.

@@ -1,4 +1,4 @@
-//! What each output format writes, as pure state: the writers of FLAC and framehash, and the sum over all formats.
+//! The writers of FLAC and framehash, and the sum over all formats, as pure state.
 //!
 //! A format's writer stands in a crate of its own, with a record of what the format is to whoever writes files (`OutputFormat` of ff_format).
 //! `specs/writers/AnyWriters` has a line for each format: its record, and its writer as a variant of `AnyWriter`. Whoever writes files takes

@@ -1,4 +1,4 @@
-//! What decodes the packets of a stream and encodes its frames, one for one, as pure state.
+//! The decoders of the packets of a stream and the encoders of its frames, one for one, as pure state.
 //!
 //! ```text
 //! packet ──► Decoder ──► frame, with the packet's times        frame ──► Encoder ──► packet, with the frame's times

@@ -14,7 +14,7 @@
 //! the two mean. `Spreads` says what a machine of one input and some outputs keeps. From that every law of a machine
 //! follows once for both.
 //!
-//! `codecs`: What decodes the packets of a stream and encodes its frames, one for one, as pure state.
+//! `codecs`: The decoders of the packets of a stream and the encoders of its frames, one for one, as pure state.
 #![tactic(auto)]
 
 mod codecs;

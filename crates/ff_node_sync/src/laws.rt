@@ -1,4 +1,5 @@
-//! What the functions of the streams of one output are, as those of a node: functions that do nothing, whose clauses hold of all values.
+//! Laws of the streams of one output, as those of a node: functions that do nothing, whose clauses hold of all
+//! values.
 ghost use Rattle.std.specs.Prelude.{List, None};
 ghost use Rattle.ff_frame.specs.declared.head.StreamHead.{StreamHead};
 ghost use Rattle.ff_filter.specs.Views.{View};

@@ -1,4 +1,5 @@
-//! What the reading of every format shares: what the first bytes of an input answer, and how its packets are cut.
+//! The parts that the readers of all formats share: what the first bytes of an input answer, and how its packets are
+//! cut.
 //!
 //! ```text
 //! input ──► head ──► HeadWalk (or the format's own reader) ──► a head, or its fault and place

@@ -1,4 +1,5 @@
-//! Runs tables of rows, tests as plain lines: of the whole command over a host in memory, and of calls of the libraries.
+//! The runner of tables of rows, tests as plain lines: of the whole command over a host in memory, and of library
+//! calls.
 //!
 //! Its arguments name the tables, in the order in which they are run; without arguments one table is read from standard input. It
 //! prints each line that doesn't hold with what came in its place, and at last how many rows passed and how many failed.

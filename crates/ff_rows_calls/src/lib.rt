@@ -1,4 +1,4 @@
-//! What the library calls answer that the rows of the tables name, and the strings of tables: words, escapes, bytes in hex.
+//! The library calls that the rows of tables name, and the strings of tables: words, escapes, bytes in hex.
 //!
 //! A call takes the arguments of its row and answers in one line, in which an independent reader can write what is wanted.
 #![tactic(auto)]

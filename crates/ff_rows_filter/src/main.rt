@@ -1,5 +1,5 @@
-//! Runs tables of rows on filters. Each row configures one by its string and the heads of its inputs, feeds it,
-//! pulls, and says what must come.
+//! The runner of tables of rows on filters. Each row configures one by its string and the heads of its inputs, feeds
+//! it, pulls, and says what must come.
 //!
 //! Its arguments name the tables, in the order in which they are run; without arguments one table is read from standard input. It
 //! prints each line that doesn't hold with what came in its place, and at last how many rows passed and how many failed.

@@ -1,4 +1,4 @@
-//! How few bits a residual may have, by the sums of its smallest partitions alone.
+//! A lower bound of the bits of a residual, by the sums of its smallest partitions alone.
 
 ghost use Rattle.std.specs.Prelude.{◌≡◌, ◌+◌, ◌*◌, ◌^◌, ◌<◌, ◌≤◌, ℕ, All, length, map};
 ghost use Rattle.std.specs.List.{AllByRecursion, sum_by};

@@ -1,4 +1,4 @@
-//! Writing a residual.
+//! The writer of a residual.
 
 ghost use Rattle.std.specs.Prelude.{◌≡◌, ◌+◌, ◌-◌, ◌*◌, ◌/◌, ◌%◌, ◌^◌, ◌<◌, ◌≤◌, ◌++◌, length, OnOk, true, false, replicate};
 ghost use Rattle.std.specs.List.{flat_map};

@@ -1,4 +1,4 @@
-//! What follows of the definitions alone, and worked examples.
+//! Laws of the best input, and worked examples.
 ghost use Rattle.std.specs.Prelude.{◌≡◌, ◌≤◌, ℕ, List, [], ◌∷◌, All, length};
 ghost use mathlib.Core.List.{IsPrefix};
 ghost use Rattle.ff_time.specs.Fraction.{Fraction, IsBase};
