@@ -132,9 +132,9 @@ filters list = map (λ (l : Bor (List ℕ) × FilterName × Bor (List ℕ) × Bo
 unfoldable pub filters_text : List ℕ
 filters_text =
     line (codes "Video filters, each with its arguments:")
-    ++ filter_lines false (filters FILTERS)
+    ++ filter_lines false (map (λ l. (l.0.now, l.1, l.2.now, l.3.now)) FILTERS)
     ++ line (codes "Audio filters:")
-    ++ filter_lines true (filters FILTERS)
+    ++ filter_lines true (map (λ l. (l.0.now, l.1, l.2.now, l.3.now)) FILTERS)
 
 -- ---- the texts
 

@@ -266,7 +266,8 @@ fn push_all_filters(alloc: Global, out: &mut Vec<u8>) -> Result<(), AllocError>
     push_line(out, "Video filters, each with its arguments:")?;
     push_filters(alloc, out, false, &FILTERS)?;
     push_line(out, "Audio filters:")?;
-    push_filters(alloc, out, true, &FILTERS)
+    push_filters(alloc, out, true, &FILTERS)?;
+    Ok(())
 }
 
 /// What `-h` asks for.
