@@ -7,7 +7,7 @@ use Rattle.std.proofs.lemmas.Bool.{and_parts, and_from}
 use Rattle.ff_time.specs.Fraction.{Fraction}
 use Rattle.ff_frame.specs.Codecs.{codec_name}
 use Rattle.ff_frame.specs.declared.head.Codec.{Codec}
-use Rattle.ff_frame.specs.declared.head.Codec.TheVariants.{PcmU8, PcmS16le, PcmS24le, PcmS32le, Flac, RawVideo}
+use Rattle.ff_frame.specs.declared.head.Codec.TheVariants.{PcmU8, PcmS16le, PcmS24le, PcmS32le, PcmS8, PcmS16be, PcmS24be, PcmS32be, Flac, RawVideo}
 use Rattle.ff_frame.specs.declared.head.StreamHead.{StreamHead}
 use Rattle.ff_frame.specs.declared.head.StreamHead.TheVariants.{Audio, Video}
 use Rattle.ff_frame.specs.declared.video.Format.{Format}
@@ -17,7 +17,7 @@ use Rattle.ff_filters.specs.Heads.{format_number, numbers_of, each_is}
 
 -- each codec, and of these the one of a name
 all_codecs : List Codec
-all_codecs = PcmU8 ∷ PcmS16le ∷ PcmS24le ∷ PcmS32le ∷ Flac ∷ RawVideo ∷ []
+all_codecs = PcmU8 ∷ PcmS16le ∷ PcmS24le ∷ PcmS32le ∷ PcmS8 ∷ PcmS16be ∷ PcmS24be ∷ PcmS32be ∷ Flac ∷ RawVideo ∷ []
 
 codec_in : List Codec → List ℕ → Codec
 codec_in [] name = RawVideo

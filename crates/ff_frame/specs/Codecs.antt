@@ -4,7 +4,7 @@ use Rattle.ff_frame.specs.declared.packet.Pkt.{Pkt}
 use Rattle.ff_frame.specs.declared.head.Codec.{Codec}
 use Rattle.ff_frame.specs.declared.head.Codec.TheVariants as codec
 use Rattle.ff_frame.specs.declared.coding.ByteOrder.{ByteOrder}
-use Rattle.ff_frame.specs.declared.coding.ByteOrder.TheVariants.{LittleEndian}
+use Rattle.ff_frame.specs.declared.coding.ByteOrder.TheVariants.{LittleEndian, BigEndian}
 use Rattle.ff_frame.specs.declared.coding.PcmDepth.{PcmDepth}
 use Rattle.ff_frame.specs.declared.coding.PcmDepth.TheVariants.{Bits8, Bits16, Bits24, Bits32}
 use Rattle.ff_frame.specs.declared.coding.Coding.{Coding}
@@ -20,6 +20,10 @@ codec_row codec.PcmU8 = (codes "pcm_u8", pcm_coding Bits8 false LittleEndian)
 codec_row codec.PcmS16le = (codes "pcm_s16le", pcm_coding Bits16 true LittleEndian)
 codec_row codec.PcmS24le = (codes "pcm_s24le", pcm_coding Bits24 true LittleEndian)
 codec_row codec.PcmS32le = (codes "pcm_s32le", pcm_coding Bits32 true LittleEndian)
+codec_row codec.PcmS8 = (codes "pcm_s8", pcm_coding Bits8 true BigEndian)
+codec_row codec.PcmS16be = (codes "pcm_s16be", pcm_coding Bits16 true BigEndian)
+codec_row codec.PcmS24be = (codes "pcm_s24be", pcm_coding Bits24 true BigEndian)
+codec_row codec.PcmS32be = (codes "pcm_s32be", pcm_coding Bits32 true BigEndian)
 codec_row codec.Flac = (codes "flac", Flac)
 codec_row codec.RawVideo = (codes "rawvideo", RawVideo)
 

@@ -17,6 +17,14 @@ pub enum Codec {
     PcmS24le,
     /// Linear PCM of 32 bits: signed, the lowest byte first (RIFF WAVE).
     PcmS32le,
+    /// Linear PCM of 8 bits: signed bytes (AU's encoding 2).
+    PcmS8,
+    /// Linear PCM of 16 bits: signed, the highest byte first (AU's encoding 3).
+    PcmS16be,
+    /// Linear PCM of 24 bits: signed, the highest byte first (AU's encoding 4).
+    PcmS24be,
+    /// Linear PCM of 32 bits: signed, the highest byte first (AU's encoding 5).
+    PcmS32be,
     /// The Free Lossless Audio Codec (RFC 9639).
     Flac,
     /// Video frames as their planes, one after the other.
@@ -42,13 +50,17 @@ impl Codec {
         ensures name { result.0.now ≡ codec_name self }
         ensures coding { result.1 ≡ coding_of self }
     {
-        use ByteOrder::LittleEndian;
+        use ByteOrder::{BigEndian, LittleEndian};
         use PcmDepth::{Bits8, Bits16, Bits24, Bits32};
         match self {
             Codec::PcmU8 => ("pcm_u8", pcm(Bits8, false, LittleEndian)),
             Codec::PcmS16le => ("pcm_s16le", pcm(Bits16, true, LittleEndian)),
             Codec::PcmS24le => ("pcm_s24le", pcm(Bits24, true, LittleEndian)),
             Codec::PcmS32le => ("pcm_s32le", pcm(Bits32, true, LittleEndian)),
+            Codec::PcmS8 => ("pcm_s8", pcm(Bits8, true, BigEndian)),
+            Codec::PcmS16be => ("pcm_s16be", pcm(Bits16, true, BigEndian)),
+            Codec::PcmS24be => ("pcm_s24be", pcm(Bits24, true, BigEndian)),
+            Codec::PcmS32be => ("pcm_s32be", pcm(Bits32, true, BigEndian)),
             Codec::Flac => ("flac", Coding::Flac),
             Codec::RawVideo => ("rawvideo", Coding::RawVideo),
         }
