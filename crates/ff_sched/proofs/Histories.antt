@@ -14,10 +14,10 @@ use Rattle.ff_sched.specs.declared.routes.Routes.{Routes}
 use Rattle.ff_sched.specs.declared.rule.View.{View}
 use Rattle.ff_sched.specs.State.{State}
 use Rattle.ff_sched.specs.Routes.{no_routes}
-use Rattle.ff_sched.specs.Events.{step_of, fold, IsTold}
+use Rattle.ff_sched.specs.Events.{step_of, fold, IsTold, IsInRange}
 use Rattle.ff_sched.specs.Words.{state_of}
 use Rattle.ff_sched.specs.Unchoked.{Unchokes}
-use Rattle.ff_sched.specs.Histories.{IsLegal, MayCome, StandsIn, logged, numbered, weigh, StartsWith}
+use Rattle.ff_sched.specs.Histories.{IsLegal, IsFree, MayCome, StandsIn, logged, numbered, weigh, StartsWith}
 use Rattle.ff_sched.specs.Plain.{Plain, IsPlain, Heard}
 use Rattle.ff_sched.specs.Rule.{total, Fits, Kept, Looks, Adds, Exchanges, Opens, HasAll, Refuses, first, less, fresh, spent, nobody, joined}
 use Rattle.ff_sched.proofs.Unchoking.{some_is, none_some}
@@ -34,13 +34,16 @@ get_snoc (z ∷ zs) x y zero e = inl (e, refl)
 get_snoc (z ∷ zs) x y (suc p) e = ⊎_elim (λ a. inl (a.0, ap (λ l. z ∷ l) a.1)) (λ a. inr (a.0, ap (λ l. z ∷ l) a.1)) (get_snoc zs x y p e)
 
 pub legal_none : (r : Routes) (o : State) → IsLegal r o []
-legal_none r o p k e = absurd (none_some (Grant k) e)
+legal_none r o = record { in_range = All-nil (IsInRange r); granted = λ p k e. absurd (none_some (Grant k) e) }
 
 pub legal_snoc : (r : Routes) (o : State) (es : List Event) (e : Event) → IsLegal r o es → MayCome r (fold o es) e → IsLegal r o (es ++ e ∷ [])
-legal_snoc r o es e l m p k at = ⊎_elim
-    (λ (a : (slice_get es p ≡ Some (Grant k)) × (take p (es ++ e ∷ []) ≡ take p es)). subst (λ (t : List Event). Unchokes r (fold o t) k) (sym a.1) (l p k a.0))
-    (λ (a : (e ≡ Grant k) × (take p (es ++ e ∷ []) ≡ es)). subst (λ (t : List Event). Unchokes r (fold o t) k) (sym a.1) (subst (MayCome r (fold o es)) a.0 m))
-    (get_snoc es e (Grant k) p at)
+legal_snoc r o es e l m = record {
+  in_range = All-push (IsInRange r) es e l.in_range m.0;
+  granted = λ p k at. ⊎_elim
+      (λ (a : (slice_get es p ≡ Some (Grant k)) × (take p (es ++ e ∷ []) ≡ take p es)). subst (λ (t : List Event). Unchokes r (fold o t) k) (sym a.1) (l.granted p k a.0))
+      (λ (a : (e ≡ Grant k) × (take p (es ++ e ∷ []) ≡ es)). subst (λ (t : List Event). Unchokes r (fold o t) k) (sym a.1) (subst (IsFree r (fold o es)) a.0 m.1))
+      (get_snoc es e (Grant k) p at);
+}
 
 get_append : (xs ys : List Event) (p : ℕ) (y : Event) → slice_get xs p ≡ Some y → slice_get (xs ++ ys) p ≡ Some y
 get_append [] ys p y e = absurd (none_some y e)
@@ -62,12 +65,15 @@ starts_on log more seen s = (s.0 ++ more, ap (λ l. l ++ more) s.1 ∙ append_as
 sights_on : (log more : List Event) (sights : List (List Event)) → All (StartsWith log) sights → All (StartsWith (log ++ more)) sights
 sights_on log more sights a = All-weaker (StartsWith log) (StartsWith (log ++ more)) (λ seen s. starts_on log more seen s) sights a
 
-pub told_may : (r : Routes) (s : State) (e : Event) → IsTold e → MayCome r s e
-told_may r s (Grant k) t = absurd t
-told_may r s (Sent j u) t = tt
-told_may r s (Finished j) t = tt
-told_may r s (Best g i) t = tt
-told_may r s (Exited k) t = tt
+told_free : (r : Routes) (s : State) (e : Event) → IsTold e → IsFree r s e
+told_free r s (Grant k) t = absurd t
+told_free r s (Sent j u) t = tt
+told_free r s (Finished j) t = tt
+told_free r s (Best g i) t = tt
+told_free r s (Exited k) t = tt
+
+pub told_may : (r : Routes) (s : State) (e : Event) → IsInRange r e → IsTold e → MayCome r s e
+told_may r s e i t = (i, told_free r s e t)
 
 numbered-snoc : (n : ℕ) (es : List Event) (e : Event) → numbered n (es ++ e ∷ []) ≡ numbered n es ++ logged (n + length es) e ∷ []
 numbered-snoc n [] e = let z : n ≡ n + 0 = omega arith in λ i. logged (z i) e ∷ []

@@ -5,21 +5,26 @@ use Rattle.ff_frame.specs.declared.event.Event.TheVariants.{Grant, Sent, Finishe
 use Rattle.ff_sched.specs.declared.logged.Logged.{Logged}
 use Rattle.ff_sched.specs.declared.routes.Routes.{Routes}
 use Rattle.ff_sched.specs.State.{State}
-use Rattle.ff_sched.specs.Events.{fold}
+use Rattle.ff_sched.specs.Events.{fold, IsInRange}
 use Rattle.ff_sched.specs.Unchoked.{Unchokes}
 
--- each grant stands where the state that the events before it leave unchokes its source
-abbrev pub IsLegal : Routes → State → List Event → Type 0
-IsLegal r opening events =
-    (p k : ℕ) → slice_get events p ≡ Some (Grant k) → Unchokes r (fold opening (take p events)) k
+-- Each event names a source, a stream, or a graph and one of its inputs, that the routes have. Each grant stands where the state that the
+-- events before it leave unchokes its source.
+pub record IsLegal (r : Routes) (opening : State) (events : List Event) : Type 0 where
+  pub in_range : All (IsInRange r) events
+  pub granted : (p k : ℕ) → slice_get events p ≡ Some (Grant k) → Unchokes r (fold opening (take p events)) k
+
+-- where the event is a grant, the state unchokes its source
+abbrev pub IsFree : Routes → State → Event → Type 0
+IsFree r s (Grant k) = Unchokes r s k
+IsFree r s (Sent j t) = Unit {0}
+IsFree r s (Finished j) = Unit {0}
+IsFree r s (Best g i) = Unit {0}
+IsFree r s (Exited k) = Unit {0}
 
 -- the event may come at this state
 abbrev pub MayCome : Routes → State → Event → Type 0
-MayCome r s (Grant k) = Unchokes r s k
-MayCome r s (Sent j t) = Unit {0}
-MayCome r s (Finished j) = Unit {0}
-MayCome r s (Best g i) = Unit {0}
-MayCome r s (Exited k) = Unit {0}
+MayCome r s e = IsInRange r e × IsFree r s e
 
 abbrev pub logged : ℕ → Event → Logged
 logged place event = record { place = place; event = event }

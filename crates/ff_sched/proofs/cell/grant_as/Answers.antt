@@ -1,4 +1,4 @@
-use Rattle.std.proofs.Common.{List, ℕ, subst, sym, ◌∙◌}
+use Rattle.std.proofs.Common.{◌<◌, List, ℕ, subst, sym, ◌∙◌}
 use Rattle.crossbeam_utils.specs.Seq.{cell_view}
 use Rattle.ff_sched.specs.Words.{state_of}
 use Rattle.ff_sched.specs.Unchoked.{Unchokes}
@@ -25,7 +25,8 @@ pub add-requires-clause-may : goal.add-requires-clause-may
 add-requires-clause-may g c =
     let v = cell_view c.args.seat.now in let u = cell_view c.look-words.new.seat in let words : List ℕ = c.look-words.result in
     let l : Later v u = later_looks v (cell_view c.loop.seat) u words c.loop.invariant.1 c.look-words.ensures.seen in
-    subst (λ (r : Routes). Unchokes r (state_of words) c.args.source) (c.requires.routes.0 ∙ sym (later_routes v u l)) (c.unchokes.ensures.yes c.if-not-unchokes.false)
+    subst (λ (r : Routes). (c.args.source < r.sources) × Unchokes r (state_of words) c.args.source) (c.requires.routes.0 ∙ sym (later_routes v u l))
+    (c.requires.source, c.unchokes.ensures.yes c.if-not-unchokes.false)
 
 pub returns-then-add-clause-answer : goal.returns-then-add-clause-answer
 returns-then-add-clause-answer g c =

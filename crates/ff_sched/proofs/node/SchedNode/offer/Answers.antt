@@ -1,4 +1,4 @@
-use Rattle.std.proofs.Common.{◌≡◌, ◌++◌, ◌∷◌, [], List, refl, sym, ap, ◌∙◌, subst}
+use Rattle.std.proofs.Common.{◌≡◌, ◌++◌, ◌∷◌, ◌<◌, [], List, refl, sym, ap, ◌∙◌, subst}
 use Rattle.ff_frame.specs.declared.event.Event.{Event}
 use Rattle.ff_frame.specs.declared.event.Event.TheVariants.{Grant}
 use Rattle.ff_sched.specs.State.{State}
@@ -20,8 +20,9 @@ invariant_of-self-2 c =
     let items : c.push_reserved.new.self.items ≡ n.events.items ++ e ∷ [] = c.push_reserved.ensures.items ∙ ap (λ l. l ++ e ∷ []) c.reserve.ensures.items in
     let may : Unchokes n.routes n.state c.args.source = subst (λ (s : State). Unchokes n.routes s c.args.source) (sym c.self.invariant.folded)
     (subst (λ (p : Plain). Unchokes p.routes (held_by p) c.args.source) (sym c.self.view_is) (c.unchokes.ensures.yes c.if-not-unchokes.false)) in
+    let range : c.args.source < n.routes.sources = subst (λ (p : Plain). c.args.source < p.routes.sources) (sym c.self.view_is) c.requires.range in
     subst (λ (es : List Event). IsPlain n.routes n.opening.value c.step.new.state es) (sym items)
-    (subst (λ (s : State). IsPlain n.routes n.opening.value s (n.events.items ++ e ∷ [])) (sym c.step.ensures) (plain_more n.routes n.opening.value n.state n.events.items e c.self.invariant may))
+    (subst (λ (s : State). IsPlain n.routes n.opening.value s (n.events.items ++ e ∷ [])) (sym c.step.ensures) (plain_more n.routes n.opening.value n.state n.events.items e c.self.invariant (range, may)))
 
 pub returns-clause-ok : goal.returns-clause-ok
 returns-clause-ok c =
