@@ -58,3 +58,6 @@ IsLowestOf-small num den f g r s p q big =
     let num_is : f.num ≡ g.num = IsReduced-num r.n r.d f g r.num_positive r.reduced other in
     let den_is : f.den ≡ g.den = IsReduced-den r.n r.d f g r.num_positive r.reduced other in
     elim big [ inl a ↦ absurd (omega (arith, a, p, num_is)) | inr b ↦ absurd (omega (arith, b, q, den_is)) ]
+
+pub quotient_positive : (n g : ℕ) → 0 < n → g ∣ n → 0 < n / g
+quotient_positive n g some there = left_positive (n / g) g n some (sym (div-mul_cancel g there))

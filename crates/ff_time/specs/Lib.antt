@@ -1,3 +1,4 @@
+pub mod Common
 pub mod Duration
 pub mod Fraction
 pub mod Laws

@@ -1,8 +1,10 @@
 //! Laws of the calls' definitions. Each is a function that does nothing: its clauses hold of all
 //! values.
-ghost use Rattle.std.specs.Prelude.{◌≡◌, ℕ, ℤ, ◌≤ℤ◌, ◌↔◌, List};
+ghost use Rattle.std.specs.Prelude.{◌≡◌, ℕ, ℤ, ◌<◌, ◌≤ℤ◌, ◌↔◌, List, length, Option, Some};
 ghost use Rattle.std.specs.Cmp.{IsTotalOrder};
 ghost use Rattle.ff_time.specs.Fraction.{Fraction, IsBase};
+ghost use Rattle.std.specs.List.{All};
+ghost use Rattle.ff_time.specs.Common.{IsCommonBase, IsCommonOf, units_of, IsUnits};
 ghost use Rattle.ff_time.specs.Rescale.{IsRescaled};
 ghost use Rattle.ff_time.specs.Duration.{IsDuration};
 ghost use Rattle.ff_time.specs.Laws.{Moment, moment_cmp, IsSameMoment, IsNearAgain, IsShortest};
@@ -44,4 +46,18 @@ pub fn durations_have_shortest_spellings()
         → (short : List ℕ) × IsShortest short value }
     ensures again { (value other : ℕ) (short : List ℕ) → IsShortest short value
         → IsDuration short other → other ≡ value }
+{}
+
+/// Several bases have one answer. A time in one of them is a whole number of units of their common base.
+pub fn common_bases_tell_each_time()
+    ensures one { (bases : List Fraction) (r s : Option Fraction) → IsCommonOf bases r → IsCommonOf bases s → r ≡ s }
+    ensures whole { (bases : List Fraction) (f : Fraction) → All IsBase bases → IsBase f → IsCommonBase bases f
+        → All (λ b. IsUnits (units_of b f) b f) bases }
+{}
+
+/// Bases that are equal are their own common base, in whose units their times stay as they are.
+pub fn equal_bases_are_common()
+    ensures same { (b : Fraction) (bases : List Fraction) → 0 < length bases → All (λ x. x ≡ b) bases
+        → IsCommonOf bases (Some b) }
+    ensures unit { (b : Fraction) → IsBase b → units_of b b ≡ 1 }
 {}

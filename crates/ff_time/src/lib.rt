@@ -1,7 +1,7 @@
 //! Time bases and times.
 //!
 //! A `Rational` is a time base: a positive fraction in lowest terms, so many seconds a unit. A count of units is told
-//! in another base by `rescale`, and two counts are ordered by `compare`. Microseconds become units by `ceil_units`,
+//! in another base by `rescale`, and two counts are ordered by `compare`. Several bases have a `common_base`. Microseconds become units by `ceil_units`,
 //! and a string becomes microseconds by `read_duration`. All is whole numbers of at most 128 bits, and nothing takes
 //! memory.
 //!
@@ -9,6 +9,7 @@
 //! these definitions.
 #![tactic(auto)]
 
+mod bases;
 mod cut;
 mod duration;
 mod error;
@@ -21,6 +22,7 @@ mod reading;
 mod rescaling;
 mod units;
 
+pub use bases::{common_base, units_in};
 pub use cut::TimeCut;
 pub use duration::read_duration;
 pub use error::TimeError;

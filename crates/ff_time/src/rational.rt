@@ -1,6 +1,7 @@
 //! Time bases: positive fractions in lowest terms.
-ghost use Rattle.std.specs.Prelude.{◌≡◌, ◌<◌, ◌⊎◌, ◌↔◌, IfOk, IfErr, IsErrOf, pos};
+ghost use Rattle.std.specs.Prelude.{◌≡◌, ◌<◌, ◌≤◌, ◌^◌, ◌⊎◌, ◌↔◌, IfOk, IfErr, IfSome, None, IsErrOf, pos, [], ◌∷◌};
 ghost use Rattle.std.specs.Int.{IsGcd};
+ghost use Rattle.ff_time.specs.Common.{IsLcmOf, MultiplesExceed, IsCommonBase};
 ghost use Rattle.ff_time.specs.Fraction.{Fraction, IsBase, IsReduced, IsLowestOf, IsBelowOne, IsTooBig};
 
 use super::TimeError;
@@ -37,6 +38,16 @@ fn common(n: u64, d: u64) -> u64
         y = rest;
     }
     x
+}
+
+// The least common multiple.
+fn multiple(n: u64, d: u64) -> u64
+    requires n { (0 < n) × (n < 2 ^ 31) }
+    requires d { (0 < d) × (d < 2 ^ 31) }
+    ensures least { IsLcmOf (n ∷ d ∷ []) result }
+    ensures positive { 0 < result }
+{
+    n / common(n, d) * d
 }
 
 // The fraction n / d in lowest terms.
@@ -90,6 +101,25 @@ impl Rational {
         ensures base { IsBase self.now }
     {
         i64::from(self.den)
+    }
+
+    /// The common base of two, unless its denominator exceeds 1,000,000.
+    pub(super) fn joined(self, other: Rational) -> Option<Rational>
+        ensures some { IfSome result (IsCommonBase (self ∷ other ∷ [])) }
+        ensures small { IfSome result (λ f. (0 < f.den) × (f.den ≤ 1000000)) }
+        ensures none { (result ≡ None) ↔ MultiplesExceed (self.den ∷ other.den ∷ []) }
+    {
+        let (num, den) = self.parts();
+        let (other_num, other_den) = other.parts();
+        let num = common(num as u64, other_num as u64);
+        let den = multiple(den as u64, other_den as u64);
+        if den > 1_000_000 {
+            return None;
+        }
+        Some(Rational {
+            num: num as u32,
+            den: den as u32,
+        })
     }
 
     /// Both numbers, with room for products.
