@@ -14,7 +14,7 @@ below_by : (n : ℕ) (b : Bool) → nat_lt n (2 ^ 36) ≡ b → (if b then n els
 below_by n true e = grind (arith, nat_tests)
 below_by n false e = omega arith
 
-told_below : (n : ℕ) → told 36 n < 2 ^ 36
+pub told_below : (n : ℕ) → told 36 n < 2 ^ 36
 told_below n = below_by n (nat_lt n (2 ^ 36)) refl
 
 block_bits : bits (bytes_high_first 2 4096) ≡ bits_of 16 4096
@@ -37,7 +37,7 @@ four : (p q r s : List Bool) → p ++ (q ++ (r ++ s)) ≡ p ++ q ++ r ++ s
 four p q r s = sym (append_assoc p q (r ++ s)) ∙ sym (append_assoc (p ++ q) r s)
 
 -- rate, channels, bits and the number of sample frames
-sound_bits : (rate depth channels samples : ℕ) → HasRoom rate depth channels
+pub sound_bits : (rate depth channels samples : ℕ) → HasRoom rate depth channels
     → bits (bytes_high_first 8 (sound_of rate depth channels samples))
     ≡ bits_of 20 rate ++ bits_of 3 (channels - 1) ++ bits_of 5 (depth - 1) ++ bits_of 36 (told 36 samples)
 sound_bits rate depth channels samples room =

@@ -1,4 +1,5 @@
 pub mod FlacFile
+pub mod FlacWritten
 pub mod HashFile
 pub mod Writers
 pub mod AnyWriters

@@ -18,5 +18,5 @@ pub use laws::stream_info_is_its_fields;
 pub use put::HashPut;
 pub use writers::{
     AnyWriter, FlacWriter, HashWriter, finished_flacs_are_streams, finished_hashes_are_texts,
-    writer_of,
+    writer_of, written_flacs_are_read_again,
 };

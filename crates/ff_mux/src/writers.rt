@@ -12,4 +12,6 @@ mod laws;
 pub use any::{AnyWriter, writer_of};
 pub use flac::FlacWriter;
 pub use frame_hash::HashWriter;
-pub use laws::{finished_flacs_are_streams, finished_hashes_are_texts};
+pub use laws::{
+    finished_flacs_are_streams, finished_hashes_are_texts, written_flacs_are_read_again,
+};

@@ -74,11 +74,11 @@ FlacsAreStreams = (head : StreamHead) (totals : Option Totals) (packets : List (
 eighteen : (n : ℕ) → suc (suc (suc (suc (suc (suc (suc (suc (suc (suc (suc (suc (suc (suc (suc (suc (suc (suc n))))))))))))))))) ≡ 18 + n
 eighteen n = omega arith
 
-info_length : (rate bits channels : ℕ) (totals : Totals) → length (stream_info rate bits channels totals) ≡ 18 + length (take 16 totals.md5)
+pub info_length : (rate bits channels : ℕ) (totals : Totals) → length (stream_info rate bits channels totals) ≡ 18 + length (take 16 totals.md5)
 unfolding stream_info
 info_length rate bits channels totals = eighteen (length (take 16 totals.md5))
 
-before_length : length before_info ≡ 8
+pub before_length : length before_info ≡ 8
 unfolding before_info
 before_length = refl
 

@@ -1,10 +1,19 @@
 //! Laws of finished files. Each is a function that does nothing: its clauses hold of all values.
 ghost use Rattle.ff_mux.specs.writers.FlacFile.{FlacsAreStreams};
+ghost use Rattle.ff_mux.specs.writers.FlacWritten.{FieldsAreRead, FilesAreRead, HeadersAreRead};
 ghost use Rattle.ff_mux.specs.writers.HashFile.{HashesAreTexts};
 
 /// The finished file of a FLAC stream is the mark, STREAMINFO with the totals, where they were told, and the packets' bytes.
 pub fn finished_flacs_are_streams()
     ensures { FlacsAreStreams }
+{}
+
+/// What is written as FLAC is read again. A header is read as its stream, and its fields as what was written. A
+/// finished file is read as that head, and its frames stand for the samples that were coded.
+pub fn written_flacs_are_read_again()
+    ensures headers { HeadersAreRead }
+    ensures fields { FieldsAreRead }
+    ensures files { FilesAreRead }
 {}
 
 /// The finished framehash file of packets is the lines on their streams and a line of each packet, with either digest.
