@@ -2,3 +2,4 @@ pub mod Codes
 pub mod Gathers
 pub mod EncoderSteps
 pub mod Coded
+mod FilesRead

@@ -1,5 +1,6 @@
 pub mod Packets
 pub mod Coding
+pub mod FilesRead
 pub mod Kept
 pub mod Gathering
 pub mod Queues

@@ -8,11 +8,13 @@
 mod coder;
 mod enc;
 mod in_order;
+mod laws;
 mod queue;
 mod shut;
 
 pub use coder::Coder;
 pub use enc::FlacEnc;
 pub use in_order::InOrder;
+pub use laws::coded_streams_are_read_again;
 pub use queue::{Given, Queue};
 pub use shut::Shut;
