@@ -1,5 +1,5 @@
 -- A frame that was written is read back.
-use Rattle.std.proofs.Common.{◌≡◌, ℕ, ◌^◌, ◌<◌, ◌≤◌, Bool, true, cond, eqb, ℤ, List, [], ◌∷◌, ◌++◌, length, map, refl, sym, ap, subst, ◌∙◌, arith, append_assoc}
+use Rattle.std.proofs.Common.{◌≡◌, ℕ, zero, suc, ◌-◌, ◌^◌, ◌<◌, ◌≤◌, Bool, true, cond, eqb, ℤ, List, [], ◌∷◌, ◌++◌, length, map, refl, sym, ap, subst, ◌∙◌, arith, append_assoc}
 use Rattle.std.specs.List.{AllByRecursion}
 use Rattle.std.proofs.lemmas.Bool.{eq-eqb}
 use Rattle.std.proofs.lemmas.List.{append-nil}
@@ -18,8 +18,11 @@ use Rattle.ff_flac_frame.specs.Frame.{Header, Part, Frame, block_of, rate_of, he
 use Rattle.ff_flac_subframe.specs.rice.Spells.{Reads}
 use Rattle.ff_flac_subframe.proofs.RiceLemmas.ReadsBack.{reads-give, reads-then, reads-map, reads-bits, reads-field}
 use Rattle.ff_flac_subframe.proofs.RiceLemmas.ReadsRice.{all-map, all-flat_map, all-weaker}
-use Rattle.ff_flac_dec.specs.Values.{channel_samples}
+use Rattle.ff_flac_frame.specs.Prediction.{AllInDepth}
+use Rattle.ff_flac_dec.specs.Channels.{AllCoded, IsCoded}
+use Rattle.ff_flac_dec.specs.Values.{channel_samples, coded_samples}
 use Rattle.ff_flac_subframe.specs.Subframe.{Spelling, subframe_bits, candidates}
+use Rattle.ff_flac_subframe.specs.Subframe.Spelling.{constant, fixed, verbatim}
 use Rattle.ff_flac_subframe.specs.Part.{part_for}
 use Rattle.ff_frame.specs.Audio.{FitsBits}
 use Rattle.ff_flac_subframe.proofs.ReadsSub.{IsReadBack, candidates_read}
@@ -130,10 +133,11 @@ parts_for [] ss = []
 parts_for (x ∷ xs) [] = []
 parts_for (x ∷ xs) (s ∷ ss) = part_for x.samples s ∷ parts_for xs ss
 
--- the grammar reads the parts back, and they stand for the samples
+-- the grammar reads the parts back, and they stand for the samples, each of which is within its depth
 pub record AreReadBack (block : ℕ) (xs : List Signal) (ss : List Spelling) : Type 0 where
   pub read : Reads (subframes block (map (λ (x : Signal). x.depth) xs)) (bodies xs ss) (parts_for xs ss)
   pub stand : map (channel_samples block) (parts_for xs ss) ≡ map (λ (x : Signal). x.samples) xs
+  pub coded : AllCoded block (map (λ (x : Signal). x.depth) xs) (parts_for xs ss)
 
 both_all : {A : Type 0} (P Q : A → Type 0) (xs : List A) → AllByRecursion P xs → AllByRecursion Q xs → AllByRecursion (λ a. P a × Q a) xs
 both_all P Q [] h g = tt
@@ -141,12 +145,31 @@ both_all P Q (x ∷ xs) h g = ((h.0, g.0), both_all P Q xs h.1 g.1)
 
 none_read : (block : ℕ) → AreReadBack block [] []
 unfolding subframes bodies parts_for
-none_read block = record { read = reads-give []; stand = refl }
+none_read block = record { read = reads-give []; stand = refl; coded = tt }
 
-one_more : (block : ℕ) (x : Signal) (xs : List Signal) (s : Spelling) (ss : List Spelling) → length x.samples ≡ block → IsReadBack x.depth x.samples s → StandsFor x.samples s
-    → AreReadBack block xs ss → AreReadBack block (x ∷ xs) (s ∷ ss)
+no_waste : (xs : List ℤ) (s : Spelling) → (part_for xs s).wasted ≡ 0
+no_waste xs constant = refl
+no_waste xs (fixed order coding) = refl
+no_waste xs verbatim = refl
+
+each_in_depth : (depth : ℕ) (xs : List ℤ) → AllByRecursion (FitsBits depth) xs → AllInDepth depth xs
+each_in_depth depth [] h k lt = absurd (omega arith)
+each_in_depth depth (x ∷ xs) h zero lt = h.0
+each_in_depth depth (x ∷ xs) h (suc k) lt = each_in_depth depth xs h.1 k (omega (arith, lt))
+
+coded_here : (block depth : ℕ) (xs : List ℤ) (s : Spelling) → length xs ≡ block → coded_samples (length xs) (part_for xs s) ≡ xs → AllByRecursion (FitsBits depth) xs
+    → IsCoded block depth (part_for xs s)
+coded_here block depth xs s n e fits =
+    let same : depth - 0 ≡ depth = omega arith in
+    let whole : depth - (part_for xs s).wasted ≡ depth = ap (λ (m : ℕ). depth - m) (no_waste xs s) ∙ same in
+    let samples : coded_samples block (part_for xs s) ≡ xs = subst (λ (m : ℕ). coded_samples m (part_for xs s) ≡ xs) n e in
+    subst (λ (m : ℕ). AllInDepth m (coded_samples block (part_for xs s))) (sym whole)
+    (subst (λ (ys : List ℤ). AllInDepth depth ys) (sym samples) (each_in_depth depth xs fits))
+
+one_more : (block : ℕ) (x : Signal) (xs : List Signal) (s : Spelling) (ss : List Spelling) → length x.samples ≡ block → AllByRecursion (FitsBits x.depth) x.samples → IsReadBack x.depth x.samples s
+    → StandsFor x.samples s → AreReadBack block xs ss → AreReadBack block (x ∷ xs) (s ∷ ss)
 unfolding subframes bodies parts_for
-one_more block x xs s ss n r f h =
+one_more block x xs s ss n fits r f h =
     let D : List Signal → List ℕ = map (λ (x : Signal). x.depth) in
     let here : Reads (subframe block x.depth) (subframe_bits x.depth x.samples s) (part_for x.samples s) =
     subst (λ (m : ℕ). Reads (subframe m x.depth) (subframe_bits x.depth x.samples s) (part_for x.samples s)) n r in
@@ -157,6 +180,7 @@ one_more block x xs s ss n r f h =
           (part_for x.samples s) (part_for x.samples s ∷ parts_for xs ss) here
           (reads-map (subframes block (D xs)) (λ others. part_for x.samples s ∷ others) (bodies xs ss) (parts_for xs ss) h.read);
       stand = ap (λ (l : List ℤ). l ∷ map (channel_samples block) (parts_for xs ss)) stands ∙ ap (λ (ls : List (List ℤ)). x.samples ∷ ls) h.stand;
+      coded = (coded_here block x.depth x.samples s n f.0 fits, h.coded);
     }
 
 pub products_read : (block : ℕ) (xs : List Signal) → AllByRecursion (IsSignal block) xs → AllByRecursion (AreReadBack block xs) (products xs)
@@ -172,7 +196,7 @@ products_read block (x ∷ xs) h =
     all-flat_map (AreReadBack block (x ∷ xs)) (λ s. map (λ rest. s ∷ rest) (products xs)) (candidates x.samples)
     (all-weaker P (λ s. AllByRecursion (AreReadBack block (x ∷ xs)) (map (λ rest. s ∷ rest) (products xs)))
     (λ s p. all-map (AreReadBack block (x ∷ xs)) (λ rest. s ∷ rest) (products xs)
-    (all-weaker (AreReadBack block xs) (λ rest. AreReadBack block (x ∷ xs) (s ∷ rest)) (λ rest r. one_more block x xs s rest i.count p.0 p.1 r) (products xs) others))
+    (all-weaker (AreReadBack block xs) (λ rest. AreReadBack block (x ∷ xs) (s ∷ rest)) (λ rest r. one_more block x xs s rest i.count i.fits p.0 p.1 r) (products xs) others))
     (candidates x.samples) each)
 
 -- ---- the whole frame

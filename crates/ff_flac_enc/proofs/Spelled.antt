@@ -16,8 +16,8 @@ use Rattle.ff_frame.specs.declared.audio.AFrame.{AFrame}
 use Rattle.ff_frame.specs.Frame.{audio_frame}
 use Rattle.ff_frame.specs.Audio.{FitsBits}
 use Rattle.ff_flac_frame.specs.Codes.{form_fits, depths}
-use Rattle.ff_flac_frame.specs.Frame.{Frame, frame}
-use Rattle.ff_flac_dec.specs.Channels.{both, mid_right, separated, pair, channels_of, sample_frame, interleaved, interleaved_from, decoded}
+use Rattle.ff_flac_frame.specs.Frame.{Frame, Begins, frame}
+use Rattle.ff_flac_dec.specs.Channels.{AllChannels, AllCoded, IsWithinDepths, both, mid_right, separated, pair, channels_of, sample_frame, interleaved, interleaved_from, decoded}
 use Rattle.ff_flac_subframe.specs.rice.Least.{least}
 use Rattle.ff_flac_subframe.specs.rice.Spells.{Reads}
 use Rattle.ff_flac_subframe.proofs.RiceLemmas.LeastLemmas.{least_holds}
@@ -30,7 +30,7 @@ use Rattle.ff_flac_enc.specs.Frame.{IsBlock, IsLeast, stream_of, head_of, candid
 use Rattle.ff_flac_enc.proofs.Choice.{signals_1, signals_2, signals_3, signals_4, mid_small, side_small, length_mid, length_side}
 use Rattle.ff_flac_enc.proofs.Apart.{sample_at, length-channel_of, length-channels_in, channel_all, all_range, signals_apart}
 use Rattle.ff_flac_enc.proofs.Stereo.{left_side_back, side_right_back, mid_left_back, mid_right_back}
-use Rattle.ff_flac_enc.proofs.ReadsFrame.{IsSignal, AreReadBack, products_read, frame_for, reads-frame}
+use Rattle.ff_flac_enc.proofs.ReadsFrame.{IsSignal, AreReadBack, parts_for, products_read, frame_for, reads-frame}
 
 -- ---- the channels as they are interleaved
 
@@ -211,6 +211,12 @@ layouts_good bits block channels s n few h =
     (all-weaker (IsForm bits block channels) (λ form. AllByRecursion (IsGood bits block channels) (layouts_with bits channels form)) (λ form f. good_with bits block channels form f)
     (forms (length channels)) (forms_are bits block channels s n few h))
 
+-- the bytes spell the audio by a frame of as many sample frames, with each sample within its depth
+abbrev pub SpellsWithin : List ℕ → AFrame → ℕ → Type 0
+SpellsWithin bytes a number =
+    (f : Frame) × (f.header.number ≡ number) × ((more : List ℕ) → Begins (stream_of a) (bytes ++ more) f (length bytes)) × (decoded (stream_of a) a.pts f ≡ a)
+    × (f.header.block ≡ length a.samples / a.channels) × IsWithinDepths (stream_of a) f
+
 module _ (a : AFrame) (number : ℕ) (is : IsBlock a) where
   n : ℕ
   n = a.channels
@@ -265,9 +271,23 @@ module _ (a : AFrame) (number : ℕ) (is : IsBlock a) where
       ap (λ cs. interleaved block (separated y.form cs)) g.back.stand ∙ ap (interleaved block) g.form.back
       ∙ interleaved_is a.channels a.samples block whole (omega (arith, is.sound.some_channels))
 
-  spells_good : number < 2 ^ 31 → (y : Layout) → IsGood a.bits block chs y → (bytes : List ℕ) → bits_in bytes ≡ spelled a number y → Spells bytes a number
+  all_channels : (channels : List (List ℤ)) → AllByRecursion (IsChannel a.bits block) channels → AllChannels a.bits channels
+  all_channels [] h = tt
+  all_channels (xs ∷ channels) h = (λ k lt. h.0.fits k (pos 0) lt, all_channels channels h.1)
+
+  within_good : (y : Layout) → IsGood a.bits block chs y → IsWithinDepths (stream_of a) (frame_for (head_of a number) (signals a.bits chs y.form) y)
+  unfolding channels_of block chs
+  within_good y g =
+      let xs : List Signal = signals a.bits chs y.form in
+      let ds : map (λ (x : Signal). x.depth) xs ≡ depths y.form a.channels a.bits = g.form.depths_are ∙ ap (λ (m : ℕ). depths y.form m a.bits) count_chs in
+      record {
+        coded = subst (λ (l : List ℕ). AllCoded block l (parts_for xs y.spellings)) ds g.back.coded;
+        stream = subst (λ (cs : List (List ℤ)). AllChannels a.bits cs) (sym (ap (λ cs. separated y.form cs) g.back.stand ∙ g.form.back)) (all_channels chs channels_are);
+      }
+
+  within_bytes : number < 2 ^ 31 → (y : Layout) → IsGood a.bits block chs y → (bytes : List ℕ) → bits_in bytes ≡ spelled a number y → SpellsWithin bytes a number
   unfolding spelled body block chs decoded
-  spells_good small y g bytes e =
+  within_bytes small y g bytes e =
       let h : Head = head_of a number in
       let xs : List Signal = signals a.bits chs y.form in
       let f : Frame = frame_for h xs y in
@@ -282,13 +302,18 @@ module _ (a : AFrame) (number : ℕ) (is : IsBlock a) where
           ap (frame (stream_of a)) (bits-append bytes more ∙ ap (λ l. l ++ bits_in more) e) ∙ read (bits_in more) ∙ ap (λ l. Done f (bits_in l)) (sym (drop_at bytes more (length bytes) refl)),
         ),
         ap (λ (xs : List ℤ). audio_frame a.pts a.rate a.bits a.channels xs) (stands_for y g),
+        refl,
+        within_good y g,
       )
 
-  pub spells_least : number < 2 ^ 31 → (bytes : List ℕ) → IsLeast a number bytes → Spells bytes a number
-  spells_least small bytes h =
+  pub spells_within : number < 2 ^ 31 → (bytes : List ℕ) → IsLeast a number bytes → SpellsWithin bytes a number
+  spells_within small bytes h =
       let held = least_holds (IsGood a.bits block chs) (subframe_bits_of a) (candidates a) candidates_good in
       let good : IsGood a.bits block chs h.0 = subst (λ o. IfSome o (IsGood a.bits block chs)) h.1 held in
-      spells_good small h.0 good bytes h.2
+      within_bytes small h.0 good bytes h.2
+
+  pub spells_least : number < 2 ^ 31 → (bytes : List ℕ) → IsLeast a number bytes → Spells bytes a number
+  spells_least small bytes h = let w = spells_within small bytes h in (w.0, w.1, w.2, w.3)
 
 abbrev pub WroteLeast : AFrame → ℕ → List Bool → List ℤ → Type 0
 WroteLeast a number out samples =

@@ -14,16 +14,16 @@ use Rattle.ff_frame.specs.declared.packet.Pkt.{Pkt}
 use Rattle.ff_flac_frame.specs.declared.stream.FlacStream.{FlacStream}
 use Rattle.ff_flac_frame.specs.Frame.{Frame, Begins, IsStream}
 use Rattle.ff_flac_dec.specs.declared.front.Front.TheVariants.{Whole}
-use Rattle.ff_flac_dec.specs.Channels.{decoded}
+use Rattle.ff_flac_dec.specs.Channels.{IsWithinDepths, decoded}
 use Rattle.ff_flac_dec.specs.Packets.{unit, packets_from, broken_from}
 use Rattle.ff_flac_dec.proofs.UnitLaws.{unit_begins, packets_whole, broken_whole}
-use Rattle.ff_flac_enc.specs.Frame.{IsBlock, Spells, stream_of}
+use Rattle.ff_flac_enc.specs.Frame.{IsBlock, stream_of}
 use Rattle.ff_flac_enc.specs.Gathered.{all_samples, block_at, blocks_due, count_due, full_size}
 use Rattle.ff_flac_enc.proofs.GatherLaws.{all_there}
-use Rattle.ff_flac_enc.proofs.Spelled.{spells_least}
-use Rattle.ff_mux.specs.writers.FlacWritten.{HoldBlocks, StandsFor, StandFor}
+use Rattle.ff_flac_enc.proofs.Spelled.{SpellsWithin, spells_within}
+use Rattle.ff_mux.specs.writers.FlacWritten.{FollowFrom, HoldBlocks, StandsFor, StandFor}
 
--- ---- coded blocks one behind the other
+-- ---- coded blocks one after another
 
 -- a block of this stream
 abbrev pub IsBlockOf : FlacStream → AFrame → Type 0
@@ -33,6 +33,7 @@ IsBlockOf s a = IsBlock a × (stream_of a ≡ s)
 pub record AreReadFrom (s : FlacStream) (at n : ℕ) (samples : List ℤ) (bytes : List ℕ) : Type 0 where
   pub frames : List AFrame
   pub stand : StandFor s (packets_from s 0 at n bytes) frames
+  pub timed : FollowFrom n frames
   pub same : all_samples frames ≡ samples
   pub unbroken : broken_from s 0 at bytes ≡ None
 
@@ -41,8 +42,16 @@ samples_stay : (s : FlacStream) (p q : ℤ) (f : Frame) → (decoded s p f).samp
 unfolding decoded
 samples_stay s p q f = refl
 
--- the bytes of a block, and those of others behind them
-module _ (s : FlacStream) (i : IsStream s) (at n number : ℕ) (block : AFrame) (xs ys : List ℕ) (is : stream_of block ≡ s) (spells : Spells xs block number) where
+time_is : (s : FlacStream) (p : ℤ) (f : Frame) → (decoded s p f).pts ≡ p
+unfolding decoded
+time_is s p f = refl
+
+channels_are : (s : FlacStream) (p : ℤ) (f : Frame) → (decoded s p f).channels ≡ s.channels
+unfolding decoded
+channels_are s p f = refl
+
+-- the bytes of a block, and after them those of others
+module _ (s : FlacStream) (i : IsStream s) (at n number : ℕ) (block : AFrame) (xs ys : List ℕ) (is : stream_of block ≡ s) (spells : SpellsWithin xs block number) where
   abbrev f : Frame
   f = spells.0
 
@@ -66,29 +75,45 @@ module _ (s : FlacStream) (i : IsStream s) (at n number : ℕ) (block : AFrame) 
   broken_is = broken_whole s i at (length xs) f.header.block (xs ++ ys) unit_is
       ∙ ap (λ (zs : List ℕ). broken_from s 0 (at + length xs) zs) (drop_at xs ys (length xs) refl)
 
-  stands : StandsFor s packet (decoded s (pos n) f)
-  stands = (f, subst (λ (zs : List ℕ). Begins s zs f (length xs)) (append-nil xs) (begins []), refl)
-
   samples_are : (decoded s (pos n) f).samples ≡ block.samples
   samples_are =
       samples_stay s (pos n) block.pts f
       ∙ (ap (λ (t : FlacStream). (decoded t block.pts f).samples) (sym is) ∙ ap (λ (a : AFrame). a.samples) spells.3)
 
+  abbrev sound : AFrame
+  sound = decoded s (pos n) f
+
+  count_is : f.header.block ≡ length sound.samples / sound.channels
+  count_is =
+      spells.4
+      ∙ (ap (λ (m : ℕ). length block.samples / m) (ap (λ (t : FlacStream). t.channels) is ∙ sym (channels_are s (pos n) f))
+      ∙ ap (λ (zs : List ℤ). length zs / sound.channels) (sym samples_are))
+
+  stands : StandsFor s packet sound
+  stands = (
+    f,
+    subst (λ (zs : List ℕ). Begins s zs f (length xs)) (append-nil xs) (begins []),
+    refl,
+    ap (λ (m : ℕ). pos m) count_is,
+    subst (λ (t : FlacStream). IsWithinDepths t f) is spells.5,
+  )
+
   one_more : (samples : List ℤ) → AreReadFrom s (at + length xs) (n + f.header.block) samples ys → AreReadFrom s at n (block.samples ++ samples) (xs ++ ys)
   one_more samples r = record {
     frames = decoded s (pos n) f ∷ r.frames;
     stand = subst (λ (ps : List Pkt). StandFor s ps (decoded s (pos n) f ∷ r.frames)) (sym packets_are) (stands, r.stand);
+    timed = (time_is s (pos n) f, subst (λ (m : ℕ). FollowFrom (n + m) r.frames) count_is r.timed);
     same = ap (λ (zs : List ℤ). zs ++ all_samples r.frames) samples_are ∙ ap (λ (zs : List ℤ). block.samples ++ zs) r.same;
     unbroken = broken_is ∙ r.unbroken;
   }
 
 pub blocks_read : (s : FlacStream) → IsStream s → (at n number : ℕ) (blocks : List AFrame) (packets : List (ℕ × Pkt)) → AllByRecursion (IsBlockOf s) blocks
     → HoldBlocks number blocks packets → number + length packets ≤ 2 ^ 31 → AreReadFrom s at n (all_samples blocks) (bytes_in packets)
-blocks_read s i at n number [] [] each hold few = record { frames = []; stand = tt; same = refl; unbroken = refl }
+blocks_read s i at n number [] [] each hold few = record { frames = []; stand = tt; timed = tt; same = refl; unbroken = refl }
 blocks_read s i at n number [] (p ∷ packets) each hold few = absurd hold
 blocks_read s i at n number (b ∷ blocks) [] each hold few = absurd hold
 blocks_read s i at n number (b ∷ blocks) (p ∷ packets) each hold few =
-    let spells : Spells p.1.bytes b number = spells_least b number each.0.0 (omega (arith, few)) p.1.bytes hold.0 in
+    let spells : SpellsWithin p.1.bytes b number = spells_within b number each.0.0 (omega (arith, few)) p.1.bytes hold.0 in
     one_more s i at n number b p.1.bytes (bytes_in packets) each.0.1 spells (all_samples blocks)
     (blocks_read s i (at + length p.1.bytes) (n + spells.0.header.block) (number + 1) blocks packets each.1 hold.1 (omega (arith, few)))
 

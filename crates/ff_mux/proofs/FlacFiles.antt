@@ -1,5 +1,5 @@
 -- A FLAC file that was written, read again.
-use Rattle.std.proofs.Common.{◌≡◌, ℕ, ◌+◌, ◌^◌, ◌≤◌, true, List, ◌++◌, drop, length, Option, Some, None, refl, sym, ap, ◌∙◌, subst, arith, length-append, length-take}
+use Rattle.std.proofs.Common.{◌≡◌, ℕ, ◌^◌, ◌≤◌, true, List, ◌++◌, drop, length, Option, Some, None, refl, sym, ap, ◌∙◌, subst, arith, length-append, length-take}
 use Rattle.std.specs.Prelude.{unwrap_or}
 use Rattle.std.proofs.lemmas.List.{drop_at}
 use Rattle.ff_format.specs.Layouts.{bytes_in}
@@ -33,7 +33,7 @@ body_read : (head : StreamHead) (frames : List AFrame) (packets : List (ℕ × P
 body_read (Audio tb rate bits channels codec) frames packets can some each hold few =
     let room : HasRoom rate bits channels = can.1 in
     let r = frames_read rate bits channels room.few_bits room.small_rate some room.some_bits room.some_channels room.few_channels 42 frames packets each hold few in
-    record { frames = r.frames; stand = r.stand; same = r.same; unbroken = r.unbroken }
+    record { frames = r.frames; stand = r.stand; timed = r.timed; same = r.same; unbroken = r.unbroken }
 body_read (Video tb format width height sar_num sar_den) frames packets can some each hold few = absurd some
 
 pub files : FilesAreRead

@@ -140,7 +140,7 @@ headers (Video tb format width height sar_num sar_den) totals rest can some whol
 
 -- ---- the fields
 
--- values one behind the other, each in its width
+-- values one after another, each in its width
 spread : List ℕ → List ℕ → List Bool → List Bool
 spread [] values more = more
 spread (w ∷ ws) [] more = more

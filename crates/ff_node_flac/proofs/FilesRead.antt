@@ -1,4 +1,4 @@
--- The FLAC file of a stream of sound, read again.
+-- The FLAC file of an audio stream, read again.
 use Rattle.std.proofs.Common.{◌≡◌, ℕ, zero, suc, ◌+◌, ◌-◌, ◌*◌, ◌/◌, ◌%◌, ◌^◌, ◌≤◌, Bool, true, false, cond, List, [], ◌∷◌, ◌++◌, take, drop, length, map, Some, refl, sym, ap, ◌∙◌, subst, arith, length-append}
 use Rattle.std.specs.Prelude.{ℤ, ◌==◌, ◌&&◌, ◌||◌, nat_le, nat_lt, replicate}
 use Rattle.std.specs.List.{All, flat_map}
@@ -156,7 +156,7 @@ few_packets number (b ∷ bs) tail none le = pick (passes_in_flac number (Packet
     pick true e none more = cc
     pick false e none more = let l = more none (few_test number (length (block_bytes b number)) e) in omega (arith, l)
 
--- packets with totals behind them are these packets and these totals
+-- packets and then totals are these packets and these totals
 same_items : (ps qs : List Pkt) (t u : Totals) → map Packet ps ++ Trailer t ∷ [] ≡ map Packet qs ++ Trailer u ∷ [] → (ps ≡ qs) × (t ≡ u)
 same_items [] [] t u e = (refl, cc)
 same_items [] (q ∷ qs) t u e = absurd cc

@@ -1,4 +1,4 @@
--- What is read of the FLAC file of a stream of sound (RFC 9639).
+-- What is read of the FLAC file of an audio stream (RFC 9639).
 use Rattle.std.specs.Prelude.{◌≡◌, ℕ, false, List, [], ◌∷◌, ◌++◌, map, drop, Some, Ok}
 use Rattle.ff_format.specs.Layouts.{finished}
 use Rattle.ff_frame.specs.Heads.{IsHead}
@@ -20,7 +20,7 @@ use Rattle.ff_node_flac.specs.Coding.{CanCode, coded_head, flac_coded, is_long, 
 abbrev pub numbered : List Pkt → List (ℕ × Pkt)
 numbered packets = map (λ p. (0, p)) packets
 
--- A whole stream of sound that passes no limit is coded in packets and totals. Their finished file is read again: as the stream's head,
+-- A whole audio stream that passes no limit is coded in packets and totals. Their finished file is read again: as the stream's head,
 -- and as its samples, both at the depth that is coded.
 abbrev pub StreamsAreRead : Type 0
 StreamsAreRead = (head : StreamHead) (s : Flow) (packets : List Pkt) (totals : Totals) (file : List ℕ)

@@ -1,5 +1,5 @@
 -- What is read of a FLAC file that was written (RFC 9639).
-use Rattle.std.specs.Prelude.{◌≡◌, ℕ, ◌+◌, ◌-◌, ◌^◌, ◌<◌, ◌≤◌, ℤ, List, []}
+use Rattle.std.specs.Prelude.{◌≡◌, ℕ, ◌+◌, ◌-◌, ◌^◌, ◌<◌, ◌≤◌, ◌/◌, ℤ, pos, List, []}
 use Rattle.std.specs.Prelude.{◌∷◌, ◌++◌, length, drop, slice_index, Option, Some, None, Ok, true}
 use Rattle.std.specs.List.{All}
 use Rattle.ff_bits.specs.Bits.{bits, value_of}
@@ -13,7 +13,7 @@ use Rattle.ff_frame.specs.declared.packet.Pkt.{Pkt}
 use Rattle.ff_frame.specs.declared.totals.Totals.{Totals}
 use Rattle.ff_flac_frame.specs.declared.stream.FlacStream.{FlacStream}
 use Rattle.ff_flac_frame.specs.Frame.{Frame, Begins}
-use Rattle.ff_flac_dec.specs.Channels.{decoded}
+use Rattle.ff_flac_dec.specs.Channels.{IsWithinDepths, decoded}
 use Rattle.ff_flac_dec.specs.Heads.{head as head_read}
 use Rattle.ff_flac_dec.specs.Info.{info_field}
 use Rattle.ff_flac_dec.specs.Packets.{demuxed, broken_at}
@@ -26,7 +26,7 @@ use Rattle.ff_mux.specs.writers.FlacFile.{HasDigest, flac_layout}
 
 -- ---- the head
 
--- sound of a rate that isn't 0, which would say that it isn't known
+-- audio of a rate that isn't 0, which would say that it isn't known
 abbrev pub HasRate : StreamHead → Type 0
 HasRate (Audio tb rate bits channels codec) = 1 ≤ rate
 HasRate (Video tb format width height sar_num sar_den) = ⊥
@@ -36,7 +36,7 @@ abbrev pub head_again : StreamHead → StreamHead
 head_again (Audio tb rate bits channels codec) = Audio (record { num = 1; den = rate }) rate bits channels Flac
 head_again (Video tb format width height sar_num sar_den) = Video tb format width height sar_num sar_den
 
--- what a file says that begins with the header of this stream: its frames begin behind 42 bytes
+-- what a file says that begins with the header of this stream: its frames begin after 42 bytes
 abbrev pub says : StreamHead → FlacHead
 says head = record { head = head_again head; start = 42 }
 
@@ -71,25 +71,33 @@ HoldBlocks number [] (p ∷ packets) = ⊥
 HoldBlocks number (block ∷ blocks) [] = ⊥
 HoldBlocks number (block ∷ blocks) (p ∷ packets) = IsLeast block number p.1.bytes × HoldBlocks (number + 1) blocks packets
 
--- the packet is one frame of the grammar, which stands for this sound from the packet's time on
+-- the packet is one frame of the grammar, which stands for this audio from the packet's time on: the audio lasts as long as the packet,
+-- and each sample is within its depth
 abbrev pub StandsFor : FlacStream → Pkt → AFrame → Type 0
-StandsFor s packet sound = (f : Frame) × Begins s packet.bytes f (length packet.bytes) × (decoded s packet.pts f ≡ sound)
+StandsFor s packet audio = (f : Frame) × Begins s packet.bytes f (length packet.bytes) × (decoded s packet.pts f ≡ audio)
+    × (packet.duration ≡ pos (length audio.samples / audio.channels)) × IsWithinDepths s f
 
--- the packets stand for these frames of sound, one each
+-- the packets stand for these audio frames, one each
 abbrev pub StandFor : FlacStream → List Pkt → List AFrame → Type 0
 StandFor s [] [] = Unit {0}
 StandFor s [] (f ∷ frames) = ⊥
 StandFor s (p ∷ packets) [] = ⊥
 StandFor s (p ∷ packets) (f ∷ frames) = StandsFor s p f × StandFor s packets frames
 
--- the bytes behind the head are packets without a break, and stand for these samples
+-- audio frames one after another without a gap, the first from this sample frame on
+abbrev pub FollowFrom : ℕ → List AFrame → Type 0
+FollowFrom n [] = Unit {0}
+FollowFrom n (f ∷ frames) = (f.pts ≡ pos n) × FollowFrom (n + length f.samples / f.channels) frames
+
+-- the bytes after the head are packets without a break, and stand for these samples, from time 0 on
 pub record AreRead (head : FlacHead) (samples : List ℤ) (rest : List ℕ) : Type 0 where
   pub frames : List AFrame
   pub stand : StandFor (stream_of head.head) (demuxed head rest) frames
+  pub timed : FollowFrom 0 frames
   pub same : all_samples frames ≡ samples
   pub unbroken : broken_at head rest ≡ None
 
--- The finished file of a stream of sound, each block of whose samples was coded in a packet, is read again: as its stream, and as
+-- The finished file of an audio stream, each block of whose samples was coded in a packet, is read again: as its stream, and as
 -- the same samples.
 abbrev pub FilesAreRead : Type 0
 FilesAreRead = (head : StreamHead) (totals : Option Totals) (frames : List AFrame) (packets : List (ℕ × Pkt)) (file : List ℕ)
