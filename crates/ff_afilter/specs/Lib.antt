@@ -1,4 +1,5 @@
 pub mod ChannelLaws
 pub mod Channels
+pub mod Ends
 pub mod TrimLaws
 pub mod Trims

@@ -22,4 +22,7 @@ pub use aset_pts::ASetPts;
 pub use asplit::ASplit;
 pub use atrim::ATrim;
 pub use channel_split::{ChannelSplit, Channels};
-pub use laws::{channels_are_valid, sound_keeps_the_broken_rule, sound_kept_is_sound};
+pub use laws::{
+    channels_are_valid, sound_keeps_the_broken_rule, sound_kept_is_sound,
+    trimmed_audio_ends_at_the_stop,
+};
