@@ -1,3 +1,4 @@
+pub mod Breaking
 pub mod Lawful
 pub mod Moving
 pub mod Straightening

@@ -2,6 +2,7 @@ pub mod Joints
 pub mod JointTask
 pub mod Lines
 pub mod Moves
+pub mod Outlasting
 pub mod ShortLaws
 pub mod Shortened
 pub mod ShortTask

@@ -25,13 +25,13 @@ use Rattle.ff_node_sync.specs.Lines.{mark_now, is_closed, is_done, done_to, shor
 abbrev pub Refines : Fate → Fate → Type 0
 Refines f g = (f ≡ Held still_open) ⊎ (f ≡ g)
 
-whole_left : (f : Fate) → both f (Held whole) ≡ Held whole
+pub whole_left : (f : Fate) → both f (Held whole) ≡ Held whole
 whole_left Kept = refl
 whole_left (Held still_open) = refl
 whole_left (Held whole) = refl
 whole_left (Held broken) = refl
 
-whole_right : (g : Fate) → both (Held whole) g ≡ Held whole
+pub whole_right : (g : Fate) → both (Held whole) g ≡ Held whole
 whole_right Kept = refl
 whole_right (Held n) = refl
 

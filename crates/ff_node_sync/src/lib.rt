@@ -19,7 +19,10 @@ mod side;
 mod straight;
 
 pub use joint::{Joint, joint_machine};
-pub use laws::{shortened_streams_are_lawful, straight_streams_are_lawful};
+pub use laws::{
+    shortened_streams_are_lawful, shortened_streams_end_with_the_shortest,
+    shortened_streams_keep_the_broken_rule, straight_streams_are_lawful,
+};
 pub use shortest::Shortest;
 pub use side::Side;
 pub use straight::Straight;
