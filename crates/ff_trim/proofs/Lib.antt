@@ -1,5 +1,6 @@
 pub mod ByFrames
 pub mod EarlierShape
+pub mod Ending
 pub mod Limiting
 pub mod Moving
 pub mod Ruled

@@ -1,18 +1,25 @@
 //! Laws of cuts: functions that do nothing, whose clauses hold of all values.
-ghost use Rattle.std.specs.Prelude.{◌≡◌, Bool, false, List, length, map};
-ghost use Rattle.ff_time.specs.Fraction.{IsBase};
+ghost use Rattle.std.specs.Prelude.{◌≡◌, ◌≤◌, ◌+◌, ◌++◌, ◌∷◌, [], ℕ, Bool, false, List, Some, length, map};
+ghost use Rattle.std.specs.List.{AllByRecursion};
+ghost use Rattle.ff_time.specs.Fraction.{Fraction, IsBase};
 ghost use Rattle.ff_frame.specs.Heads.{base_of_head};
 ghost use Rattle.ff_stream.specs.Lanes.{IsValid};
 ghost use Rattle.ff_time.specs.declared.cut.TimeCut.{TimeCut};
+ghost use Rattle.ff_frame.specs.declared.head.Codec.{Codec};
 ghost use Rattle.ff_frame.specs.declared.head.StreamHead.{StreamHead};
+ghost use Rattle.ff_frame.specs.declared.head.StreamHead.TheVariants.{Audio as AudioHead};
+ghost use Rattle.ff_stream.specs.declared.item.Item.{Item};
+ghost use Rattle.ff_stream.specs.Breaks.{KeepsBrokenRule};
 ghost use Rattle.ff_stream.specs.declared.item.Lane.{Lane};
 ghost use Rattle.ff_stream.specs.declared.item.Lane.TheVariants.{Frames};
-ghost use Rattle.ff_stream.specs.Stream.{broken, LiesBelow, opened};
-ghost use Rattle.ff_stream.specs.Ports.{IsClosed};
+ghost use Rattle.ff_stream.specs.Stream.{Mark, broken, LiesBelow, opened, whole_stream};
+ghost use Rattle.ff_stream.specs.Ports.{IsClosed, stream_at};
 ghost use Rattle.ff_filter.specs.Joins.{Flow, Ports};
 ghost use Rattle.ff_node_filter.specs.Limiting.{IsLimited};
 ghost use Rattle.ff_filter.specs.spread.Valid.{GivesValid};
-ghost use Rattle.ff_trim.specs.Cuts.{cut, cut_each, from_range, is_empty};
+ghost use Rattle.ff_afilter.specs.Ends.{EndsBefore, EndsFrom, kept_of_each};
+ghost use Rattle.ff_filter.specs.Shifts.{earlier};
+ghost use Rattle.ff_trim.specs.Cuts.{cut, cut_each, from_range, is_empty, range_in, start_in, ticks_at};
 ghost use Rattle.ff_trim.specs.Frames.{cut_step};
 ghost use Rattle.ff_trim.specs.Taps.{IsCutting};
 ghost use Rattle.ff_filter.specs.Runs.{run, no_more};
@@ -61,4 +68,25 @@ pub fn filters_with_cuts_are_limited()
 /// stream is whole with the first that ends it.
 pub fn cuts_go_frame_by_frame()
     ensures { (head : StreamHead) (range : Range) (s : Flow) → from_range head range s ≡ run (cut_step head) no_more range s }
+{}
+
+/// A cut of audio with a length closes whole with the first frame that ends at the cut's end or later, and nothing
+/// after that frame counts. Where no frame does, it stands as its stream stands. A frame ends as many ticks after its
+/// start as it has sample frames.
+pub fn cut_audio_ends_at_its_length()
+    ensures closes { (tb : Fraction) (rate bits channels : ℕ) (codec : Codec) (c : TimeCut) (us : ℕ) (before after : List Item) (frame : Item) (m : Mark)
+        → c.length ≡ Some us → 1 ≤ us → AllByRecursion (EndsBefore (start_in tb c + ticks_at tb us)) before → EndsFrom (start_in tb c + ticks_at tb us) frame
+        → cut (AudioHead tb rate bits channels codec) c (record { items = before ++ frame ∷ after; mark = m })
+        ≡ whole_stream (map (earlier (start_in tb c)) (kept_of_each (range_in tb c) (before ++ frame ∷ []))) }
+    ensures goes_on { (tb : Fraction) (rate bits channels : ℕ) (codec : Codec) (c : TimeCut) (us : ℕ) (s : Flow)
+        → c.length ≡ Some us → 1 ≤ us → AllByRecursion (EndsBefore (start_in tb c + ticks_at tb us)) s.items
+        → cut (AudioHead tb rate bits channels codec) c s
+        ≡ record { items = map (earlier (start_in tb c)) (kept_of_each (range_in tb c) s.items); mark = s.mark } }
+{}
+
+/// A cut keeps the broken rule. A broken input counts as open without a further item. The output is broken exactly
+/// where it is broken off: it isn't whole, and however the input goes on, it gets no further item and isn't made whole.
+pub fn cuts_keep_the_broken_rule()
+    ensures { (head : StreamHead) (c : TimeCut)
+        → KeepsBrokenRule (λ (ss : List Flow). Unit {0}) (λ (ss : List Flow). cut head c (stream_at ss 0)) }
 {}

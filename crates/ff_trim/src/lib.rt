@@ -20,8 +20,8 @@ pub use cut::Cut;
 pub use cutting::Cutting;
 pub use examples::cuts_of_some_streams;
 pub use laws::{
-    cuts_are_as_their_rule_says, cuts_go_frame_by_frame, cuts_keep_limits,
-    filters_with_cuts_are_limited, streams_further_on_are_cut_further_on,
-    valid_streams_are_cut_to_valid_ones,
+    cut_audio_ends_at_its_length, cuts_are_as_their_rule_says, cuts_go_frame_by_frame,
+    cuts_keep_limits, cuts_keep_the_broken_rule, filters_with_cuts_are_limited,
+    streams_further_on_are_cut_further_on, valid_streams_are_cut_to_valid_ones,
 };
 pub use tap::{Tap, Turn};
