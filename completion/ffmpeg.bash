@@ -17,14 +17,21 @@ _ffmpeg_words() {
       offered='sha256 md5'
       [[ $word != [A-Z]* ]] || offered='SHA256 MD5'
       ;;
-    -loglevel | -v) offered='quiet panic fatal error warning info verbose debug' ;;
+    -loglevel | -v) offered='quiet panic fatal error warning info verbose debug trace' ;;
+    -fps_mode) offered='passthrough' ;;
+    -vsync) offered='passthrough 0' ;;
     -vf | -filter:v) offered=$video ;;
     -af | -filter:a) offered=$audio ;;
     -lavfi | -filter_complex) offered="$video ${audio/concat /}" ;;
     -i | -sched_trace | -map | -ss | -t | -thread_queue_size | -selfrun) ;;
+    -fflags | -flags | -flags:[av] | -map_metadata | -map_chapters | -metadata | -strict) ;;
+    -threads | -filter_threads | -filter_complex_threads | -max_muxing_queue_size) ;;
     *)
       if [[ $word == -* ]]; then
-        offered='-y -hide_banner -nostdin -nostats -loglevel -v -filter_complex -lavfi -thread_queue_size -sched_trace -h -version -selfrun'
+        offered='-y -hide_banner -nostdin -bitexact -stats -sn -dn -xerror -nostats -loglevel -v'
+        offered+=' -fflags -flags -flags:a -flags:v -map_metadata -map_chapters -metadata -strict'
+        offered+=' -threads -filter_threads -filter_complex_threads -max_muxing_queue_size -fps_mode -vsync'
+        offered+=' -filter_complex -lavfi -thread_queue_size -sched_trace -h -version -selfrun'
         offered+=' -f -ss -t -i -map -c:a -codec:a -acodec -c:v -codec:v -vcodec -vf -filter:v -af -filter:a -vn -an -shortest -hash'
       fi
       ;;

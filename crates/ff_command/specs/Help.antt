@@ -38,6 +38,10 @@ concerned concern.Itself = codes "input"
 -- what stands behind an option of this kind
 abbrev pub taken : Kind → List ℕ
 taken kind.Level = codes " LEVEL"
+taken kind.Word = codes " WORD"
+taken kind.Number = codes " N"
+taken kind.FrameMode = codes " MODE"
+taken kind.SyncMode = codes " MODE"
 taken kind.Complex = codes " GRAPH"
 taken kind.Queue = codes " SIZE"
 taken kind.Trace = codes " NAME"
@@ -58,7 +62,11 @@ taken _ = []
 abbrev pub effect : Kind → List ℕ
 effect kind.Nothing = codes "no effect"
 effect kind.NoStats = codes "no line on standard error says how far the run has come"
-effect kind.Level = codes "no effect: quiet, panic, fatal, error, warning, info, verbose or debug"
+effect kind.Level = codes "no effect: quiet, panic, fatal, error, warning, info, verbose, debug, trace or a number"
+effect kind.Word = codes "no effect"
+effect kind.Number = codes "no effect: a whole number of 1 to 9 digits"
+effect kind.FrameMode = codes "no effect: passthrough"
+effect kind.SyncMode = codes "no effect: passthrough or 0"
 effect kind.Complex = codes "a filtergraph over several streams"
 effect kind.Queue = codes "the size of every queue, 1 to 1024 items; 8 without it"
 effect kind.Trace = codes "the file that gets the scheduler's history"
@@ -81,7 +89,7 @@ effect kind.Hash = codes "the digest of a framehash, SHA256 or MD5; SHA256 witho
 
 -- the line of an option
 abbrev pub option_line : List ℕ → Concern → Kind → List ℕ
-option_line name c k = line (left 26 (codes "  " ++ name ++ taken k) ++ left 8 (concerned c) ++ effect k)
+option_line name c k = line (left 28 (codes "  " ++ name ++ taken k) ++ left 8 (concerned c) ++ effect k)
 
 abbrev pub option_lines : List (List ℕ × Concern × Kind) → List ℕ
 option_lines [] = []

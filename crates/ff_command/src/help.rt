@@ -58,6 +58,9 @@ fn value_text(kind: Kind) -> &'static str
 {
     match kind {
         Kind::Level => " LEVEL",
+        Kind::Word => " WORD",
+        Kind::Number => " N",
+        Kind::FrameMode | Kind::SyncMode => " MODE",
         Kind::Complex | Kind::VideoGraph | Kind::AudioGraph => " GRAPH",
         Kind::Queue => " SIZE",
         Kind::Trace | Kind::Input => " NAME",
@@ -77,7 +80,11 @@ fn effect(kind: Kind) -> &'static str
     match kind {
         Kind::Nothing => "no effect",
         Kind::NoStats => "no line on standard error says how far the run has come",
-        Kind::Level => "no effect: quiet, panic, fatal, error, warning, info, verbose or debug",
+        Kind::Level => "no effect: quiet, panic, fatal, error, warning, info, verbose, debug, trace or a number",
+        Kind::Word => "no effect",
+        Kind::Number => "no effect: a whole number of 1 to 9 digits",
+        Kind::FrameMode => "no effect: passthrough",
+        Kind::SyncMode => "no effect: passthrough or 0",
         Kind::Complex => "a filtergraph over several streams",
         Kind::Queue => "the size of every queue, 1 to 1024 items; 8 without it",
         Kind::Trace => "the file that gets the scheduler's history",
@@ -159,7 +166,7 @@ fn push_option(
     ensures { OnOk result (out.new.items ≡ out.old.items ++ option_line name.now concern kind) }
 {
     let head = head_of(alloc, name, value_text(kind))?;
-    push_left(alloc, out, 26, &head)?;
+    push_left(alloc, out, 28, &head)?;
     push_left(alloc, out, 8, concern_text(concern).as_bytes())?;
     push_line(out, effect(kind))
 }

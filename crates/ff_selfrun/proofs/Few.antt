@@ -14,8 +14,8 @@ use Rattle.ff_words.specs.declared.table.Named.{Named}
 use Rattle.ff_words.specs.declared.table.Rule.{Rule}
 use Rattle.ff_words.specs.declared.value.Value.{Value}
 use Rattle.ff_words.specs.declared.value.Value.TheVariants as value
-use Rattle.ff_words.specs.Table.{option_named, format_named, format_ending, audio_codec, video_codec, is_level}
-use Rattle.ff_words.specs.Values.{Reads, ReadsWhole, ReadsTime, ReadsGraph, ReadsMap, Makes, made, switched, or_bad, format_value, codec_value, level_value, hash_value, is_spelled}
+use Rattle.ff_words.specs.Table.{option_named, format_named, format_ending, audio_codec, video_codec, is_level, is_frame_mode, is_sync_mode}
+use Rattle.ff_words.specs.Values.{Reads, ReadsWhole, ReadsTime, ReadsGraph, ReadsMap, Makes, made, switched, or_bad, format_value, codec_value, mode_value, ReadsLevel, hash_value, is_spelled}
 use Rattle.ff_words.specs.Words.{Token, Entry, is_dashed, placed, IsOption, IsNamed, IsToken, AreRead, tokens, command_by, last, as_solo, or_else}
 use Rattle.ff_selfrun.specs.SelfRun.{SecondsAreFew}
 
@@ -54,6 +54,13 @@ codec-few : (make : Codec → Value) → ((c : Codec) → Few (make c)) → (o :
 codec-few make each (Some c) w e = (let same : make c ≡ w = cc in subst Few same (each c))
 codec-few make each None w e = absurd cc
 
+mode-few : (v : Value) (b : Bool) → Ok v ≡ or_bad (mode_value b) → Few v
+mode-few v b h = named-few v (mode_value b) (test-few value.Nothing tt b None none-few) h
+
+level-few : (v : Value) (b : Bool) (text : List ℕ) → ReadsLevel b text (Ok v) → Few v
+level-few v true text h = (let same : value.Nothing ≡ v = cc in subst Few same tt)
+level-few v false text h = makes-few (λ n. value.Nothing) (ReadsWhole 0 999999999 text) v (λ x is. tt) h
+
 reads-few : (k : Kind) (text : List ℕ) (v : Value) → Reads k text (Ok v) → Few v
 reads-few kind.Nothing text v h = absurd h
 reads-few kind.NoStats text v h = absurd h
@@ -62,7 +69,11 @@ reads-few kind.NoAudio text v h = absurd h
 reads-few kind.Shortest text v h = absurd h
 reads-few kind.Help text v h = absurd h
 reads-few kind.Version text v h = absurd h
-reads-few kind.Level text v h = named-few v (level_value text) (test-few value.Nothing tt (is_level text) None none-few) h
+reads-few kind.Level text v h = level-few v (is_level text) text h
+reads-few kind.Word text v h = (let same : value.Nothing ≡ v = cc in subst Few same tt)
+reads-few kind.Number text v h = makes-few (λ n. value.Nothing) (ReadsWhole 0 999999999 text) v (λ x is. tt) h
+reads-few kind.FrameMode text v h = mode-few v (is_frame_mode text) h
+reads-few kind.SyncMode text v h = mode-few v (is_sync_mode text) h
 reads-few kind.Complex text v h = makes-few value.Complex (ReadsGraph text) v (λ x is. tt) h
 reads-few kind.Queue text v h = makes-few value.Queue (ReadsWhole 1 1024 text) v (λ x is. tt) h
 reads-few kind.Trace text v h = (let same : value.Trace text ≡ v = cc in subst Few same tt)
@@ -91,6 +102,10 @@ switched-few kind.Shortest w e = (let same : value.Shortest ≡ w = cc in subst 
 switched-few kind.Help w e = (let same : value.Solo Help ≡ w = cc in subst Few same tt)
 switched-few kind.Version w e = (let same : value.Solo Version ≡ w = cc in subst Few same tt)
 switched-few kind.Level w e = absurd cc
+switched-few kind.Word w e = absurd cc
+switched-few kind.Number w e = absurd cc
+switched-few kind.FrameMode w e = absurd cc
+switched-few kind.SyncMode w e = absurd cc
 switched-few kind.Complex w e = absurd cc
 switched-few kind.Queue w e = absurd cc
 switched-few kind.Trace w e = absurd cc

@@ -27,8 +27,8 @@ use Rattle.ff_words.specs.declared.reader.Reader.{Reader}
 use Rattle.ff_words.specs.declared.value.Value.{Value}
 use Rattle.ff_words.specs.declared.value.Value.TheVariants as value
 use Rattle.ff_words.specs.Bounds.{HasFewMaps, IsBounded}
-use Rattle.ff_words.specs.Table.{option_named, format_named, audio_codec, video_codec, is_level}
-use Rattle.ff_words.specs.Values.{Reads, ReadsWhole, ReadsTime, ReadsGraph, ReadsMap, Makes, made, switched, or_bad, format_value, codec_value, level_value, hash_value, is_spelled}
+use Rattle.ff_words.specs.Table.{option_named, format_named, audio_codec, video_codec, is_level, is_frame_mode, is_sync_mode}
+use Rattle.ff_words.specs.Values.{Reads, ReadsWhole, ReadsTime, ReadsGraph, ReadsMap, Makes, made, switched, or_bad, format_value, codec_value, mode_value, ReadsLevel, hash_value, is_spelled}
 use Rattle.ff_words.specs.Table.{format_ending}
 use Rattle.ff_words.specs.Words.{Token, Entry, fault, early, option_fault, given_fault, is_full, is_too_much, is_dashed, is_file, is_output, late, misplaced, bad_at, or_else, takes, placed, IsOption, IsNamed, IsToken, TokenReads, IsEntry, AreRead, IsAnswer, tokens, command, job, last, as_solo, end_fault, end_by, stands_alone, run_fault, groups, inputs, outputs, same_name, output_format, command_by, first_place, not_before_input, not_before_output, not_at_end, unreadable, unwritable}
 use Rattle.ff_words.specs.Reading.{reader, optioned, with_input, with_output}
@@ -71,6 +71,13 @@ of-test v k is false o other w e = other w e
 of-none : (k : Kind) (w : Value) → None ≡ Some w → OfKind w k
 of-none k w e = absurd cc
 
+of-mode : (v : Value) (k : Kind) → OfKind value.Nothing k → (b : Bool) → Ok v ≡ or_bad (mode_value b) → OfKind v k
+of-mode v k is b h = of-named v k (mode_value b) (of-test value.Nothing k is b None (of-none k)) h
+
+of-level : (v : Value) (b : Bool) (text : List ℕ) → ReadsLevel b text (Ok v) → OfKind v kind.Level
+of-level v true text h = (let same : value.Nothing ≡ v = cc in subst (λ x. OfKind x kind.Level) same tt)
+of-level v false text h = of-made (λ n. value.Nothing) (ReadsWhole 0 999999999 text) v kind.Level (λ x is. tt) h
+
 reads-kind : (k : Kind) (text : List ℕ) (v : Value) → Reads k text (Ok v) → OfKind v k
 reads-kind kind.Nothing text v h = absurd h
 reads-kind kind.NoStats text v h = absurd h
@@ -79,7 +86,11 @@ reads-kind kind.NoAudio text v h = absurd h
 reads-kind kind.Shortest text v h = absurd h
 reads-kind kind.Help text v h = absurd h
 reads-kind kind.Version text v h = absurd h
-reads-kind kind.Level text v h = of-named v kind.Level (level_value text) (of-test value.Nothing kind.Level tt (is_level text) None (of-none kind.Level)) h
+reads-kind kind.Level text v h = of-level v (is_level text) text h
+reads-kind kind.Word text v h = (let same : value.Nothing ≡ v = cc in subst (λ x. OfKind x kind.Word) same tt)
+reads-kind kind.Number text v h = of-made (λ n. value.Nothing) (ReadsWhole 0 999999999 text) v kind.Number (λ x is. tt) h
+reads-kind kind.FrameMode text v h = of-mode v kind.FrameMode tt (is_frame_mode text) h
+reads-kind kind.SyncMode text v h = of-mode v kind.SyncMode tt (is_sync_mode text) h
 reads-kind kind.Complex text v h = of-made value.Complex (ReadsGraph text) v kind.Complex (λ x is. refl) h
 reads-kind kind.Queue text v h = of-made value.Queue (ReadsWhole 1 1024 text) v kind.Queue (λ x is. (is.1, is.2)) h
 reads-kind kind.Trace text v h = (let same : value.Trace text ≡ v = cc in subst (λ x. OfKind x kind.Trace) same tt)
@@ -108,6 +119,10 @@ switched-kind kind.Shortest w e = (let same : value.Shortest ≡ w = cc in subst
 switched-kind kind.Help w e = (let same : value.Solo Help ≡ w = cc in subst (λ x. OfKind x kind.Help) same tt)
 switched-kind kind.Version w e = (let same : value.Solo Version ≡ w = cc in subst (λ x. OfKind x kind.Version) same tt)
 switched-kind kind.Level w e = absurd cc
+switched-kind kind.Word w e = absurd cc
+switched-kind kind.Number w e = absurd cc
+switched-kind kind.FrameMode w e = absurd cc
+switched-kind kind.SyncMode w e = absurd cc
 switched-kind kind.Complex w e = absurd cc
 switched-kind kind.Queue w e = absurd cc
 switched-kind kind.Trace w e = absurd cc

@@ -26,8 +26,8 @@ use Rattle.ff_words.specs.declared.table.Rule.{Rule}
 use Rattle.ff_words.specs.declared.value.Micros.{Micros}
 use Rattle.ff_words.specs.declared.value.Value.{Value}
 use Rattle.ff_words.specs.declared.value.Value.TheVariants as value
-use Rattle.ff_words.specs.Table.{option_named}
-use Rattle.ff_words.specs.Values.{Reads, ReadsWhole, ReadsTime, ReadsGraph, ReadsMap, Makes, made, switched}
+use Rattle.ff_words.specs.Table.{option_named, is_level}
+use Rattle.ff_words.specs.Values.{Reads, ReadsWhole, ReadsNumber, ReadsLevel, ReadsTime, ReadsGraph, ReadsMap, Makes, made, switched}
 use Rattle.ff_words.specs.Words.{Token, Entry, late, placed, is_dashed, IsOption, IsNamed, IsToken, TokenReads, IsEntry, IsFaultAt, AreRead, Stops, IsAnswer, tokens, command, end_fault, EndsBetween, FaultOfFront}
 use Rattle.ff_words.specs.Reading.{Answers, as_error}
 
@@ -80,6 +80,13 @@ map-one text (Err d) (Err e) x y = ap Err (x.2 ∙ (ap BadMap (map_text.IsBadAt-
 makes-one : {X : Type 0} (make : X → Value) (Is : Result X WordKind → Type 0) (r s : Result Value WordKind) → ((p q : Result X WordKind) → Is p → Is q → p ≡ q) → Makes make Is r → Makes make Is s → r ≡ s
 makes-one make Is r s one h k = h.2 ∙ (ap (made make) (one h.0 k.0 h.1 k.1) ∙ sym k.2)
 
+number-one : (text : List ℕ) (r s : Result Value WordKind) → ReadsNumber text r → ReadsNumber text s → r ≡ s
+number-one text r s h j = makes-one (λ n. value.Nothing) (ReadsWhole 0 999999999 text) r s (whole-one 0 999999999 text) h j
+
+level-one : (b : Bool) (text : List ℕ) (r s : Result Value WordKind) → ReadsLevel b text r → ReadsLevel b text s → r ≡ s
+level-one true text r s h j = h ∙ sym j
+level-one false text r s h j = number-one text r s h j
+
 reads-one : (k : Kind) (text : List ℕ) (r s : Result Value WordKind) → Reads k text r → Reads k text s → r ≡ s
 reads-one kind.Nothing text r s h j = absurd h
 reads-one kind.NoStats text r s h j = absurd h
@@ -88,7 +95,11 @@ reads-one kind.NoAudio text r s h j = absurd h
 reads-one kind.Shortest text r s h j = absurd h
 reads-one kind.Help text r s h j = absurd h
 reads-one kind.Version text r s h j = absurd h
-reads-one kind.Level text r s h j = h ∙ sym j
+reads-one kind.Level text r s h j = level-one (is_level text) text r s h j
+reads-one kind.Word text r s h j = h ∙ sym j
+reads-one kind.Number text r s h j = number-one text r s h j
+reads-one kind.FrameMode text r s h j = h ∙ sym j
+reads-one kind.SyncMode text r s h j = h ∙ sym j
 reads-one kind.Complex text r s h j = makes-one value.Complex (ReadsGraph text) r s (graph-one text) h j
 reads-one kind.Queue text r s h j = makes-one value.Queue (ReadsWhole 1 1024 text) r s (whole-one 1 1024 text) h j
 reads-one kind.Trace text r s h j = h ∙ sym j

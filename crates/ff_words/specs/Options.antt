@@ -15,9 +15,28 @@ options =
     (codes "-y", All, kind.Nothing) ∷
     (codes "-hide_banner", All, kind.Nothing) ∷
     (codes "-nostdin", All, kind.Nothing) ∷
+    (codes "-bitexact", All, kind.Nothing) ∷
+    (codes "-stats", All, kind.Nothing) ∷
+    (codes "-sn", All, kind.Nothing) ∷
+    (codes "-dn", All, kind.Nothing) ∷
+    (codes "-xerror", All, kind.Nothing) ∷
     (codes "-nostats", All, kind.NoStats) ∷
     (codes "-loglevel", All, kind.Level) ∷
     (codes "-v", All, kind.Level) ∷
+    (codes "-fflags", All, kind.Word) ∷
+    (codes "-flags", All, kind.Word) ∷
+    (codes "-flags:a", All, kind.Word) ∷
+    (codes "-flags:v", All, kind.Word) ∷
+    (codes "-map_metadata", All, kind.Word) ∷
+    (codes "-map_chapters", All, kind.Word) ∷
+    (codes "-metadata", All, kind.Word) ∷
+    (codes "-strict", All, kind.Word) ∷
+    (codes "-threads", All, kind.Number) ∷
+    (codes "-filter_threads", All, kind.Number) ∷
+    (codes "-filter_complex_threads", All, kind.Number) ∷
+    (codes "-max_muxing_queue_size", All, kind.Number) ∷
+    (codes "-fps_mode", All, kind.FrameMode) ∷
+    (codes "-vsync", All, kind.SyncMode) ∷
     (codes "-filter_complex", All, kind.Complex) ∷
     (codes "-lavfi", All, kind.Complex) ∷
     (codes "-thread_queue_size", All, kind.Queue) ∷
@@ -68,4 +87,12 @@ log_levels =
     codes "info" ∷
     codes "verbose" ∷
     codes "debug" ∷
+    codes "trace" ∷
     []
+
+-- each frame keeps its time
+abbrev pub frame_modes : List (List ℕ)
+frame_modes = codes "passthrough" ∷ []
+
+abbrev pub sync_modes : List (List ℕ)
+sync_modes = codes "passthrough" ∷ codes "0" ∷ []

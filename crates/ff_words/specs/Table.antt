@@ -11,7 +11,7 @@ use Rattle.ff_words.specs.declared.table.Kind.{Kind}
 use Rattle.ff_words.specs.declared.table.Rule.{Rule}
 use Rattle.ff_words.specs.declared.table.Named.{Named}
 use Rattle.ff_format.specs.Formats.{file_formats}
-use Rattle.ff_words.specs.Options.{options, audio_codecs, video_codecs, log_levels}
+use Rattle.ff_words.specs.Options.{options, audio_codecs, video_codecs, log_levels, frame_modes, sync_modes}
 
 -- the option of this name
 abbrev pub rule_in : List (List ℕ × Concern × Kind) → List ℕ → Option Rule
@@ -52,12 +52,19 @@ audio_codec word = codec_in audio_codecs word
 unfoldable pub video_codec : List ℕ → Option Codec
 video_codec word = codec_in video_codecs word
 
-abbrev pub level_in : List (List ℕ) → List ℕ → Bool
-level_in [] word = false
-level_in (name ∷ list) word = if bytes_eq name word then true else level_in list word
+-- the word is in the list
+abbrev pub is_in : List (List ℕ) → List ℕ → Bool
+is_in [] word = false
+is_in (name ∷ list) word = if bytes_eq name word then true else is_in list word
 
 unfoldable pub is_level : List ℕ → Bool
-is_level word = level_in log_levels word
+is_level word = is_in log_levels word
+
+unfoldable pub is_frame_mode : List ℕ → Bool
+is_frame_mode word = is_in frame_modes word
+
+unfoldable pub is_sync_mode : List ℕ → Bool
+is_sync_mode word = is_in sync_modes word
 
 -- the lines of a list of the code
 abbrev pub lines : List (Bor (List ℕ) × Concern × Kind) → List (List ℕ × Concern × Kind)

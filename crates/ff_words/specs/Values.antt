@@ -1,5 +1,5 @@
 -- What a value reads as, or what is wrong with it.
-use Rattle.std.specs.Prelude.{◌≡◌, ℕ, ◌≤◌, ◌<◌, ◌^◌, ◌⊎◌, Bool, if◌then◌else◌, Option, Some, None, Result, Ok, Err, List, length, map}
+use Rattle.std.specs.Prelude.{◌≡◌, ℕ, ◌≤◌, ◌<◌, ◌^◌, ◌⊎◌, Bool, true, false, if◌then◌else◌, Option, Some, None, Result, Ok, Err, List, length, map}
 use Rattle.std.specs.Str.{bytes_eq}
 use Rattle.std.specs.Char.{to_ascii_lowercase}
 use Rattle.ff_frame.specs.declared.head.Codec.{Codec}
@@ -22,7 +22,7 @@ use Rattle.ff_words.specs.declared.value.Micros.{Micros}
 use Rattle.ff_words.specs.declared.value.Value.{Value}
 use Rattle.ff_words.specs.declared.value.Value.TheVariants as value
 use Rattle.ff_words.specs.Options.{hash_name}
-use Rattle.ff_words.specs.Table.{format_named, audio_codec, video_codec, is_level}
+use Rattle.ff_words.specs.Table.{format_named, audio_codec, video_codec, is_level, is_frame_mode, is_sync_mode}
 
 -- a value, or that it is outside its set
 abbrev pub or_bad : Option Value → Result Value WordKind
@@ -37,8 +37,9 @@ abbrev pub codec_value : (Codec → Value) → Option Codec → Option Value
 codec_value make None = None
 codec_value make (Some c) = Some (make c)
 
-abbrev pub level_value : List ℕ → Option Value
-level_value text = if is_level text then Some value.Nothing else None
+-- a value that has no effect, where it is in its set
+abbrev pub mode_value : Bool → Option Value
+mode_value fine = if fine then Some value.Nothing else None
 
 -- the same text, in either case of letters
 abbrev pub is_spelled : List ℕ → List ℕ → Bool
@@ -77,6 +78,15 @@ made make (Err k) = Err k
 abbrev pub Makes : {X : Type 0} → (X → Value) → (Result X WordKind → Type 0) → Result Value WordKind → Type 0
 Makes {X} make Is r = (q : Result X WordKind) × Is q × (r ≡ made make q)
 
+-- a whole number that has no effect
+abbrev pub ReadsNumber : List ℕ → Result Value WordKind → Type 0
+ReadsNumber text r = Makes (λ n. value.Nothing) (ReadsWhole 0 999999999 text) r
+
+-- a level of the list, or a whole number
+abbrev pub ReadsLevel : Bool → List ℕ → Result Value WordKind → Type 0
+ReadsLevel true text r = r ≡ Ok value.Nothing
+ReadsLevel false text r = ReadsNumber text r
+
 -- what an option reads as that has no value
 abbrev pub switched : Kind → Option Value
 switched kind.Nothing = Some value.Nothing
@@ -90,7 +100,8 @@ switched _ = None
 
 -- the value of a list that the text names
 abbrev pub value_named : Kind → List ℕ → Option Value
-value_named kind.Level text = level_value text
+value_named kind.FrameMode text = mode_value (is_frame_mode text)
+value_named kind.SyncMode text = mode_value (is_sync_mode text)
 value_named kind.Format text = format_value (format_named text)
 value_named kind.AudioCodec text = codec_value value.AudioCodec (audio_codec text)
 value_named kind.VideoCodec text = codec_value value.VideoCodec (video_codec text)
@@ -100,6 +111,10 @@ value_named _ text = None
 -- kinds whose values are numbers, times or names of a list
 abbrev pub IsSmall : Kind → Type 0
 IsSmall kind.Level = Unit {0}
+IsSmall kind.Word = Unit {0}
+IsSmall kind.Number = Unit {0}
+IsSmall kind.FrameMode = Unit {0}
+IsSmall kind.SyncMode = Unit {0}
 IsSmall kind.Queue = Unit {0}
 IsSmall kind.SelfRun = Unit {0}
 IsSmall kind.Format = Unit {0}
@@ -119,7 +134,11 @@ Reads kind.NoAudio text r = ⊥
 Reads kind.Shortest text r = ⊥
 Reads kind.Help text r = ⊥
 Reads kind.Version text r = ⊥
-Reads kind.Level text r = r ≡ or_bad (value_named kind.Level text)
+Reads kind.Level text r = ReadsLevel (is_level text) text r
+Reads kind.Word text r = r ≡ Ok value.Nothing
+Reads kind.Number text r = ReadsNumber text r
+Reads kind.FrameMode text r = r ≡ or_bad (value_named kind.FrameMode text)
+Reads kind.SyncMode text r = r ≡ or_bad (value_named kind.SyncMode text)
 Reads kind.Complex text r = Makes value.Complex (ReadsGraph text) r
 Reads kind.Queue text r = Makes value.Queue (ReadsWhole 1 1024 text) r
 Reads kind.Trace text r = r ≡ Ok (value.Trace text)

@@ -3,10 +3,14 @@ ghost use Rattle.std.specs.Prelude.{◌≡◌, ◌-◌, ◌^◌, ◌<◌, ◌≤
 ghost use Rattle.ff_time.specs.Duration.{IsDigit};
 ghost use Rattle.ff_map.specs.Grammar.{IsNumber};
 ghost use Rattle.ff_words.specs.Values.{Reads, ReadsGraph, ReadsTime, ReadsMap, ReadsWhole, hash_value, is_spelled, switched, value_named, IsSmall};
+ghost use Rattle.ff_words.specs.Values.{ReadsNumber, ReadsLevel, mode_value};
+ghost use Rattle.ff_words.specs.Table.{is_level as level_named};
 
 use crate::error::WordKind;
 use crate::job::Solo;
-use crate::table::{Kind, audio_codec, format_of, is_level, video_codec};
+use crate::table::{
+    Kind, audio_codec, format_of, is_frame_mode, is_level, is_sync_mode, video_codec,
+};
 use crate::value::{Micros, Value};
 use ff_frame::HashKind;
 use ff_lang::{Graph, LangError, Text, read_graph};
@@ -109,6 +113,34 @@ fn whole_of(text: &str, low: u32, high: u32) -> Result<u32, WordKind>
     }
 }
 
+// A whole number that has no effect.
+fn passed_number(text: &str) -> Result<Value, WordKind>
+    ensures { ReadsNumber text.now result }
+{
+    match whole_of(text, 0, 999999999) {
+        Ok(_number) => Ok(Value::Nothing),
+        Err(kind) => Err(kind),
+    }
+}
+
+// A level of the list, or a whole number; it has no effect.
+fn level_of(text: &str) -> Result<Value, WordKind>
+    ensures { ReadsLevel (level_named text.now) text.now result }
+{
+    if is_level(text) {
+        Ok(Value::Nothing)
+    } else {
+        passed_number(text)
+    }
+}
+
+// A value that has no effect, where it is in its set.
+fn mode(fine: bool) -> Option<Value>
+    ensures { result ≡ mode_value fine }
+{
+    if fine { Some(Value::Nothing) } else { None }
+}
+
 fn is_name(text: &str, name: &str) -> bool
     ensures { result ≡ is_spelled text.now name.now }
 {
@@ -172,6 +204,9 @@ fn read_small(kind: Kind, text: &str) -> Result<Value, WordKind>
     ensures { Reads kind text.now result }
 {
     match kind {
+        Kind::Level => level_of(text),
+        Kind::Word => Ok(Value::Nothing),
+        Kind::Number => passed_number(text),
         Kind::Start => match time_of(text) {
             Ok(micros) => Ok(Value::Start(micros)),
             Err(kind) => Err(kind),
@@ -213,13 +248,8 @@ fn named_value(kind: Kind, text: &str) -> Option<Value>
             Some(codec) => Some(Value::VideoCodec(codec)),
             None => None,
         },
-        Kind::Level => {
-            if is_level(text) {
-                Some(Value::Nothing)
-            } else {
-                None
-            }
-        }
+        Kind::FrameMode => mode(is_frame_mode(text)),
+        Kind::SyncMode => mode(is_sync_mode(text)),
         Kind::Hash => hash_of(text),
         _ => None,
     }

@@ -3,7 +3,8 @@
 ghost use Rattle.std.specs.Prelude.{◌≡◌};
 ghost use Rattle.ff_words.specs.Table.{lines, formats, names, rule_in, option_named, format_in};
 ghost use Rattle.ff_words.specs.Table.{format_named, ending_in, format_ending as named_by_ending, codec_in, audio_codec as audio_codec_named};
-ghost use Rattle.ff_words.specs.Table.{video_codec as video_codec_named, level_in, is_level as level_named};
+ghost use Rattle.ff_words.specs.Table.{video_codec as video_codec_named, is_in, is_level as level_named};
+ghost use Rattle.ff_words.specs.Table.{is_frame_mode as frame_mode_named, is_sync_mode as sync_mode_named};
 
 use ff_format::{FORMATS, FileFormat};
 use ff_frame::Codec;
@@ -42,6 +43,14 @@ pub enum Kind {
     Version,
     /// How much is logged, which has no effect.
     Level,
+    /// Any word, which has no effect.
+    Word,
+    /// A whole number, which has no effect.
+    Number,
+    /// How frames get their times, which has no effect.
+    FrameMode,
+    /// The same by its older name.
+    SyncMode,
     /// A filtergraph over several streams.
     Complex,
     /// The size of every queue.
@@ -93,13 +102,32 @@ pub struct Named {
 }
 
 /// Each option, whom it concerns, and its kind of value.
-pub static OPTIONS: [(&'static str, Concern, Kind); 32] = [
+pub static OPTIONS: [(&'static str, Concern, Kind); 51] = [
     ("-y", Concern::All, Kind::Nothing),
     ("-hide_banner", Concern::All, Kind::Nothing),
     ("-nostdin", Concern::All, Kind::Nothing),
+    ("-bitexact", Concern::All, Kind::Nothing),
+    ("-stats", Concern::All, Kind::Nothing),
+    ("-sn", Concern::All, Kind::Nothing),
+    ("-dn", Concern::All, Kind::Nothing),
+    ("-xerror", Concern::All, Kind::Nothing),
     ("-nostats", Concern::All, Kind::NoStats),
     ("-loglevel", Concern::All, Kind::Level),
     ("-v", Concern::All, Kind::Level),
+    ("-fflags", Concern::All, Kind::Word),
+    ("-flags", Concern::All, Kind::Word),
+    ("-flags:a", Concern::All, Kind::Word),
+    ("-flags:v", Concern::All, Kind::Word),
+    ("-map_metadata", Concern::All, Kind::Word),
+    ("-map_chapters", Concern::All, Kind::Word),
+    ("-metadata", Concern::All, Kind::Word),
+    ("-strict", Concern::All, Kind::Word),
+    ("-threads", Concern::All, Kind::Number),
+    ("-filter_threads", Concern::All, Kind::Number),
+    ("-filter_complex_threads", Concern::All, Kind::Number),
+    ("-max_muxing_queue_size", Concern::All, Kind::Number),
+    ("-fps_mode", Concern::All, Kind::FrameMode),
+    ("-vsync", Concern::All, Kind::SyncMode),
     ("-filter_complex", Concern::All, Kind::Complex),
     ("-lavfi", Concern::All, Kind::Complex),
     ("-thread_queue_size", Concern::All, Kind::Queue),
@@ -140,10 +168,16 @@ pub static AUDIO_CODECS: [Codec; 5] = [
 /// The video codecs.
 pub static VIDEO_CODECS: [Codec; 1] = [Codec::RawVideo];
 
-/// The values of `-loglevel`.
-pub static LEVELS: [&'static str; 8] = [
-    "quiet", "panic", "fatal", "error", "warning", "info", "verbose", "debug",
+/// The levels that `-loglevel` takes by name.
+pub static LEVELS: [&'static str; 9] = [
+    "quiet", "panic", "fatal", "error", "warning", "info", "verbose", "debug", "trace",
 ];
+
+/// The values of `-fps_mode`: each frame keeps its time.
+pub static FRAME_MODES: [&'static str; 1] = ["passthrough"];
+
+/// The values of `-vsync`.
+pub static SYNC_MODES: [&'static str; 2] = ["passthrough", "0"];
 
 fn find_rule(list: &[(&'static str, Concern, Kind)], word: &str) -> Option<Rule>
     ensures { result ≡ rule_in (lines list.now) word.now }
@@ -243,8 +277,8 @@ pub fn video_codec(word: &str) -> Option<Codec>
     find_codec(&VIDEO_CODECS, word)
 }
 
-fn find_level(list: &[&'static str], word: &str) -> bool
-    ensures { result ≡ level_in (names list.now) word.now }
+fn is_listed(list: &[&'static str], word: &str) -> bool
+    ensures { result ≡ is_in (names list.now) word.now }
 {
     for name in list.iter() {
         if *name == word {
@@ -259,5 +293,21 @@ fn find_level(list: &[&'static str], word: &str) -> bool
 pub fn is_level(word: &str) -> bool
     ensures { result ≡ level_named word.now }
 {
-    find_level(&LEVELS, word)
+    is_listed(&LEVELS, word)
+}
+
+/// Whether an argument is a value of `-fps_mode`.
+#[tactic(auto, unfolding(crate::specs::Table::is_frame_mode))]
+pub fn is_frame_mode(word: &str) -> bool
+    ensures { result ≡ frame_mode_named word.now }
+{
+    is_listed(&FRAME_MODES, word)
+}
+
+/// Whether an argument is a value of `-vsync`.
+#[tactic(auto, unfolding(crate::specs::Table::is_sync_mode))]
+pub fn is_sync_mode(word: &str) -> bool
+    ensures { result ≡ sync_mode_named word.now }
+{
+    is_listed(&SYNC_MODES, word)
 }
