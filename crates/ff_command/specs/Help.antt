@@ -85,7 +85,7 @@ effect kind.AudioGraph = codes "a filtergraph for each audio stream by itself"
 effect kind.NoVideo = codes "no video from the inputs"
 effect kind.NoAudio = codes "no audio from the inputs"
 effect kind.Shortest = codes "all streams end where the shortest does"
-effect kind.Hash = codes "the digest of a framehash, SHA256 or MD5; SHA256 without it"
+effect kind.Hash = codes "the digest of packets, SHA256 or MD5; without it that of the format"
 
 -- the line of an option
 abbrev pub option_line : List ℕ → Concern → Kind → List ℕ

@@ -80,7 +80,8 @@ fn effect(kind: Kind) -> &'static str
     match kind {
         Kind::Nothing => "no effect",
         Kind::NoStats => "no line on standard error says how far the run has come",
-        Kind::Level => "no effect: quiet, panic, fatal, error, warning, info, verbose, debug, trace or a number",
+        Kind::Level =>
+            "no effect: quiet, panic, fatal, error, warning, info, verbose, debug, trace or a number",
         Kind::Word => "no effect",
         Kind::Number => "no effect: a whole number of 1 to 9 digits",
         Kind::FrameMode => "no effect: passthrough",
@@ -103,7 +104,7 @@ fn effect(kind: Kind) -> &'static str
         Kind::NoVideo => "no video from the inputs",
         Kind::NoAudio => "no audio from the inputs",
         Kind::Shortest => "all streams end where the shortest does",
-        Kind::Hash => "the digest of a framehash, SHA256 or MD5; SHA256 without it",
+        Kind::Hash => "the digest of packets, SHA256 or MD5; without it that of the format",
     }
 }
 

@@ -11,6 +11,8 @@ use Rattle.ff_frame.specs.declared.coding.PcmDepth.{PcmDepth}
 use Rattle.ff_frame.specs.declared.coding.PcmDepth.TheVariants.{Bits8, Bits16, Bits24, Bits32}
 use Rattle.ff_frame.specs.declared.head.Codec.{Codec}
 use Rattle.ff_frame.specs.declared.head.Codec.TheVariants as codec
+use Rattle.ff_frame.specs.declared.hash.HashKind.{HashKind}
+use Rattle.ff_frame.specs.declared.hash.HashKind.TheVariants.{Sha256, Md5}
 use Rattle.ff_format.specs.declared.format.FileFormat.{FileFormat}
 use Rattle.ff_format.specs.declared.format.FileFormat.TheVariants as format
 use Rattle.ff_format.specs.declared.format.SoundTaken.{SoundTaken}
@@ -22,6 +24,8 @@ format_name format.Wav = codes "wav"
 format_name format.Flac = codes "flac"
 format_name format.Y4m = codes "yuv4mpegpipe"
 format_name format.FrameHash = codes "framehash"
+format_name format.FrameMd5 = codes "framemd5"
+format_name format.FrameCrc = codes "framecrc"
 
 -- whether an input may have it
 abbrev pub is_read : FileFormat → Bool
@@ -29,6 +33,8 @@ is_read format.Wav = true
 is_read format.Flac = true
 is_read format.Y4m = true
 is_read format.FrameHash = false
+is_read format.FrameMd5 = false
+is_read format.FrameCrc = false
 
 -- each format with its name, how the names of its files end (empty where no ending tells it), and whether an input and an
 -- output may have it
@@ -38,6 +44,8 @@ file_formats =
     (format_name format.Flac, codes ".flac", format.Flac, is_read format.Flac, true) ∷
     (format_name format.Y4m, codes ".y4m", format.Y4m, is_read format.Y4m, true) ∷
     (format_name format.FrameHash, [], format.FrameHash, is_read format.FrameHash, true) ∷
+    (format_name format.FrameMd5, [], format.FrameMd5, is_read format.FrameMd5, true) ∷
+    (format_name format.FrameCrc, [], format.FrameCrc, is_read format.FrameCrc, true) ∷
     []
 
 -- the first line of this name
@@ -51,21 +59,32 @@ found format.Wav = (codes ".wav", refl)
 found format.Flac = (codes ".flac", refl)
 found format.Y4m = (codes ".y4m", refl)
 found format.FrameHash = ([], refl)
+found format.FrameMd5 = ([], refl)
+found format.FrameCrc = ([], refl)
 
 pub short_name : (f : FileFormat) → length (format_name f) ≤ 32
 short_name format.Wav = omega arith
 short_name format.Flac = omega arith
 short_name format.Y4m = omega arith
 short_name format.FrameHash = omega arith
+short_name format.FrameMd5 = omega arith
+short_name format.FrameCrc = omega arith
 
 -- ---- what an output takes: WAV linear PCM with the lowest byte first, unsigned where a sample has one byte and signed else, FLAC what
--- is coded so, YUV4MPEG2 pictures, each of one stream; framehash any linear PCM and pictures, of up to 16 streams
+-- is coded so, YUV4MPEG2 pictures, each of one stream; digests any linear PCM and pictures, of up to 16 streams
 
 abbrev pub taken_by : FileFormat → Taken
 taken_by format.Wav = record { sound = PcmIn LittleEndian false; pictures = false; codec = codec.PcmS16le; streams = 1 }
 taken_by format.Flac = record { sound = Flac; pictures = false; codec = codec.Flac; streams = 1 }
 taken_by format.Y4m = record { sound = Nothing; pictures = true; codec = codec.PcmS16le; streams = 1 }
 taken_by format.FrameHash = record { sound = Pcm; pictures = true; codec = codec.PcmS16le; streams = 16 }
+taken_by format.FrameMd5 = record { sound = Pcm; pictures = true; codec = codec.PcmS16le; streams = 16 }
+taken_by format.FrameCrc = record { sound = Pcm; pictures = true; codec = codec.PcmS16le; streams = 16 }
+
+-- the digest where none is asked for, of a format that has one
+abbrev pub default_hash : FileFormat → HashKind
+default_hash format.FrameMd5 = Md5
+default_hash _ = Sha256
 
 abbrev pub is_some_sound : SoundTaken → Bool
 is_some_sound Nothing = false

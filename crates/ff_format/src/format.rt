@@ -15,15 +15,21 @@ pub enum FileFormat {
     Y4m,
     /// Digests of packets, for outputs alone.
     FrameHash,
+    /// The same, by MD5 where no digest is asked for.
+    FrameMd5,
+    /// Adler-32 sums of packets, for outputs alone.
+    FrameCrc,
 }
 
 /// The values of `-f`, each with how the names of such files end (empty where no ending tells). Beside them stands
 /// whether an input and an output may have it.
-pub static FORMATS: [(&'static str, &'static str, FileFormat, bool, bool); 4] = [
+pub static FORMATS: [(&'static str, &'static str, FileFormat, bool, bool); 6] = [
     ("wav", ".wav", FileFormat::Wav, true, true),
     ("flac", ".flac", FileFormat::Flac, true, true),
     ("yuv4mpegpipe", ".y4m", FileFormat::Y4m, true, true),
     ("framehash", "", FileFormat::FrameHash, false, true),
+    ("framemd5", "", FileFormat::FrameMd5, false, true),
+    ("framecrc", "", FileFormat::FrameCrc, false, true),
 ];
 
 /// Which audio an output takes, by how it is coded.
@@ -114,10 +120,10 @@ pub struct Taken {
 }
 
 impl FileFormat {
-    ghost use Rattle.ff_format.specs.Formats.{taken_by};
+    ghost use Rattle.ff_format.specs.Formats.{taken_by, default_hash};
 
     /// What an output of it takes: WAV takes linear PCM with the lowest byte first, unsigned where a sample has one
-    /// byte and signed else. FLAC takes what is coded so, YUV4MPEG2 video, each of one stream. Framehash takes any
+    /// byte and signed else. FLAC takes what is coded so, YUV4MPEG2 video, each of one stream. Digests take any
     /// linear PCM and video, of up to 16 streams.
     pub fn taken(self) -> Taken
         ensures row { result ≡ taken_by self }
@@ -145,12 +151,22 @@ impl FileFormat {
                 codec: Codec::PcmS16le,
                 streams: 1,
             },
-            FileFormat::FrameHash => Taken {
+            FileFormat::FrameHash | FileFormat::FrameMd5 | FileFormat::FrameCrc => Taken {
                 sound: SoundTaken::Pcm,
                 pictures: true,
                 codec: Codec::PcmS16le,
                 streams: 16,
             },
+        }
+    }
+
+    /// The digest where none is asked for, of a format that has one.
+    pub fn default_hash(self) -> HashKind
+        ensures { result ≡ default_hash self }
+    {
+        match self {
+            FileFormat::FrameMd5 => HashKind::Md5,
+            _ => HashKind::Sha256,
         }
     }
 }

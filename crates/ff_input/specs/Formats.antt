@@ -56,6 +56,8 @@ head_in format.Wav bs = as_found First (wav.head bs)
 head_in format.Y4m bs = as_found Other (as_found First (y4m.head bs))
 head_in format.Flac bs = as_found Other (as_found Other (flac.head bs))
 head_in format.FrameHash bs = Err (Unsupported 0)
+head_in format.FrameMd5 bs = Err (Unsupported 0)
+head_in format.FrameCrc bs = Err (Unsupported 0)
 
 -- what its inputs begin with: `RIFF`, any four bytes and `WAVE`; `YUV4MPEG2` and a space or a line feed; `fLaC`
 abbrev pub first_words : List Word

@@ -72,7 +72,7 @@ pub(crate) fn start_of(format: FileFormat) -> InputWalk
         FileFormat::Wav => InputWalk::In(OneOf::First(WavWalk::new())),
         FileFormat::Y4m => InputWalk::In(OneOf::Other(OneOf::First(Y4mWalk))),
         FileFormat::Flac => InputWalk::In(OneOf::Other(OneOf::Other(FlacWalk::new()))),
-        FileFormat::FrameHash => InputWalk::Other,
+        FileFormat::FrameHash | FileFormat::FrameMd5 | FileFormat::FrameCrc => InputWalk::Other,
     }
 }
 

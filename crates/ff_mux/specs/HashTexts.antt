@@ -35,10 +35,14 @@ streams_from i (head ∷ heads) = stream_lines i head ++ streams_from (i + 1) he
 unfoldable pub text_before : HashKind → List StreamHead → List ℕ
 text_before kind heads = first_by kind ++ streams_from 0 heads ++ columns
 
--- the line of a packet of stream i: dts, pts, duration and size in their columns, and the digest of its bytes
+-- of a packet of stream i: the stream, dts, pts, duration and size in their columns
+abbrev pub fields : ℕ → Pkt → List ℕ
+fields i p = decimal i ++ column 10 (signed_decimal p.dts) ++ column 10 (signed_decimal p.pts)
+    ++ column 8 (signed_decimal p.duration) ++ column 8 (decimal (length p.bytes))
+
+-- the line of a packet of stream i: its fields, and the digest of its bytes
 unfoldable pub line_by : HashKind → ℕ → Pkt → List ℕ
-line_by kind i p = line (decimal i ++ column 10 (signed_decimal p.dts) ++ column 10 (signed_decimal p.pts)
-    ++ column 8 (signed_decimal p.duration) ++ column 8 (decimal (length p.bytes)) ++ codes ", " ++ digest_by kind p.bytes)
+line_by kind i p = line (fields i p ++ codes ", " ++ digest_by kind p.bytes)
 
 -- the text of packets, each with the number of its stream, in the order in which they are written
 abbrev pub hash_text : HashKind → List StreamHead → List (ℕ × Pkt) → List ℕ

@@ -1,5 +1,6 @@
 pub mod FlacFile
 pub mod FlacWritten
 pub mod HashFile
+pub mod CrcFile
 pub mod Writers
 pub mod AnyWriters

@@ -2,7 +2,7 @@
 ghost use Rattle.std.specs.Prelude.{◌≡◌, ℕ, ◌<◌, ◌^◌, ◌++◌, IfOk, OnOk, decimal, length, string_bytes};
 ghost use Rattle.std.specs.Fmt.{signed_decimal};
 ghost use Rattle.ff_mux.specs.FrameHash.{base_name, layout_name, size_name, aspect_name, about, stream_lines, column};
-ghost use Rattle.ff_mux.specs.HashTexts.{digest_by, first_by, streams_from, text_before, line_by};
+ghost use Rattle.ff_mux.specs.HashTexts.{digest_by, first_by, streams_from, text_before, fields, line_by};
 
 use crate::digest::digest_text;
 use ff_frame::{Codec, Format, HashKind, Pkt, StreamHead};
@@ -156,7 +156,11 @@ fn push_stream(
 }
 
 // Adds the lines on these streams.
-fn push_streams(alloc: Global, out: &mut Vec<u8>, heads: &[StreamHead]) -> Result<(), AllocError>
+pub(crate) fn push_streams(
+    alloc: Global,
+    out: &mut Vec<u8>,
+    heads: &[StreamHead],
+) -> Result<(), AllocError>
     requires { length heads.now < 2 ^ 32 }
     ensures { OnOk result (out.new.items ≡ out.old.items ++ streams_from 0 heads.now) }
 {
@@ -236,8 +240,27 @@ fn push_digest(
     line.extend_from_slice(digest.as_bytes())
 }
 
+/// Adds what stands before the digest in the line of a packet of a stream: its times, duration and size, each of them
+/// right in its column.
+pub(crate) fn push_fields(
+    alloc: Global,
+    line: &mut Vec<u8>,
+    stream: u32,
+    pkt: &Pkt,
+) -> Result<(), AllocError>
+    ensures { OnOk result (line.new.items ≡ line.old.items ++ fields stream pkt.now) }
+{
+    push_number(alloc, line, stream)?;
+    push_ticks(alloc, line, 10, pkt.dts)?;
+    push_ticks(alloc, line, 10, pkt.pts)?;
+    push_ticks(alloc, line, 8, pkt.duration)?;
+    push_size(alloc, line, 8, pkt.bytes.as_slice().len())?;
+    Ok(())
+}
+
 /// The line of a packet of a stream. It has its times, duration and size, each of them right in its column, and the
 /// digest of its bytes.
+#[tactic(auto, unfolding(crate::specs::HashTexts::line_by))]
 pub(crate) fn hash_line(
     alloc: Global,
     kind: HashKind,
@@ -246,15 +269,10 @@ pub(crate) fn hash_line(
 ) -> Result<Vec<u8>, AllocError>
     ensures { IfOk result (λ line. line.items ≡ line_by kind stream pkt.now) }
 {
-    let bytes = pkt.bytes.as_slice();
     let mut line = Vec::with_capacity(alloc, LINE_LEN)?;
-    push_number(alloc, &mut line, stream)?;
-    push_ticks(alloc, &mut line, 10, pkt.dts)?;
-    push_ticks(alloc, &mut line, 10, pkt.pts)?;
-    push_ticks(alloc, &mut line, 8, pkt.duration)?;
-    push_size(alloc, &mut line, 8, bytes.len())?;
+    push_fields(alloc, &mut line, stream, pkt)?;
     line.extend_from_slice(b", ")?;
-    push_digest(alloc, &mut line, kind, bytes)?;
+    push_digest(alloc, &mut line, kind, pkt.bytes.as_slice())?;
     line.push(b'\n')?;
     Ok(line)
 }

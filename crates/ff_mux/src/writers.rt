@@ -1,4 +1,4 @@
-//! The writers of FLAC and framehash, and the sum over all formats, as pure state.
+//! The writers of FLAC, framehash and framecrc, and the sum over all formats, as pure state.
 //!
 //! A format's writer stands in a crate of its own, with a record of what the format is to whoever writes files (`OutputFormat` of ff_format).
 //! `specs/writers/AnyWriters` has a line for each format: its record, and its writer as a variant of `AnyWriter`. Whoever writes files takes
@@ -6,12 +6,15 @@
 
 mod any;
 mod flac;
+mod frame_crc;
 mod frame_hash;
 mod laws;
 
 pub use any::{AnyWriter, writer_of};
 pub use flac::FlacWriter;
+pub use frame_crc::CrcWriter;
 pub use frame_hash::HashWriter;
 pub use laws::{
-    finished_flacs_are_streams, finished_hashes_are_texts, written_flacs_are_read_again,
+    finished_crcs_are_texts, finished_flacs_are_streams, finished_hashes_are_texts,
+    written_flacs_are_read_again,
 };

@@ -16,7 +16,7 @@ use Rattle.ff_words.specs.declared.error.Fault.{Fault}
 use Rattle.ff_words.specs.declared.error.WordError.{WordError}
 use Rattle.ff_words.specs.declared.error.WordError.TheVariants.{At, NoMemory}
 use Rattle.ff_words.specs.declared.error.WordKind.TheVariants.{TooMany, BadValue}
-use Rattle.ff_frame.specs.declared.hash.HashKind.TheVariants.{Sha256}
+use Rattle.ff_format.specs.Formats.{default_hash}
 use Rattle.ff_words.specs.Table.{option_named}
 use Rattle.ff_words.specs.Values.{switched}
 use Rattle.ff_words.specs.declared.table.Rule.{Rule}
@@ -140,7 +140,7 @@ with_output name format r =
         no_video = r.pending.no_video;
         cut = cut_of r.pending.start r.pending.length;
         shortest = r.pending.shortest;
-        hash = unwrap_or r.pending.hash Sha256;
+        hash = unwrap_or r.pending.hash (default_hash format);
       }) ∷ [];
       pending = pending [];
     }

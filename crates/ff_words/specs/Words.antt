@@ -17,6 +17,7 @@ use Rattle.ff_frame.specs.declared.hash.HashKind.{HashKind}
 use Rattle.ff_frame.specs.declared.hash.HashKind.TheVariants.{Sha256}
 use Rattle.ff_format.specs.declared.format.FileFormat.{FileFormat}
 use Rattle.ff_format.specs.declared.format.FileFormat.TheVariants.{FrameHash}
+use Rattle.ff_format.specs.Formats.{default_hash}
 use Rattle.ff_words.specs.declared.job.InputJob.{InputJob}
 use Rattle.ff_words.specs.declared.job.OutputJob.{OutputJob}
 use Rattle.ff_words.specs.declared.job.Job.{Job}
@@ -239,7 +240,7 @@ output_job own name ending =
       no_video = unwrap_or (last as_no_video own) false;
       cut = cut_of (last as_start own) (last as_length own);
       shortest = unwrap_or (last as_shortest own) false;
-      hash = unwrap_or (last as_hash own) Sha256;
+      hash = unwrap_or (last as_hash own) (default_hash (unwrap_or (output_format own ending) FrameHash));
     }
 
 abbrev pub group_input : List Entry → Value → List InputJob

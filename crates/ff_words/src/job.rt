@@ -41,7 +41,7 @@ pub struct OutputJob {
     pub cut: TimeCut,
     /// Whether `-shortest` ends all of its streams with the shortest.
     pub shortest: bool,
-    /// The digest by `-hash`.
+    /// The digest by `-hash`; without it that of the format.
     pub hash: HashKind,
 }
 

@@ -305,7 +305,7 @@ impl Reader {
             no_video: own.no_video,
             cut: cut(own.start, own.length),
             shortest: own.shortest,
-            hash: own.hash.unwrap_or(HashKind::Sha256),
+            hash: own.hash.unwrap_or(format.default_hash()),
         })
     }
 

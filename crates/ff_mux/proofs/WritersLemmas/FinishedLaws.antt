@@ -4,7 +4,9 @@ use Rattle.ff_format.specs.Layouts.{bytes_in}
 use Rattle.ff_format.specs.Patched.{behind}
 use Rattle.ff_host.specs.Files.{patched}
 use Rattle.ff_mux.specs.FlacHead.{before_info, info_of, flac_start, unknown}
+use Rattle.ff_mux.specs.CrcTexts.{crc_text}
 use Rattle.ff_mux.specs.HashTexts.{hash_text}
+use Rattle.ff_mux.specs.writers.CrcFile.{CrcsAreTexts}
 use Rattle.ff_mux.specs.writers.FlacFile.{as_long, FlacsAreStreams}
 use Rattle.ff_mux.specs.writers.HashFile.{HashesAreTexts}
 
@@ -26,3 +28,6 @@ flacs_are_streams head (Some totals) packets digest =
 
 pub hashes_are_texts : HashesAreTexts
 hashes_are_texts kind heads totals packets = ap Some (append-nil (hash_text kind heads packets))
+
+pub crcs_are_texts : CrcsAreTexts
+crcs_are_texts heads totals packets = ap Some (append-nil (crc_text heads packets))

@@ -10,10 +10,11 @@ use Rattle.ff_format.specs.declared.format.OutputOptions.{OutputOptions}
 use Rattle.ff_frame.specs.declared.head.StreamHead.{StreamHead}
 use Rattle.ff_frame.specs.declared.totals.Totals.{Totals}
 use Rattle.ff_mux.specs.declared.writers.any.AnyWriter.{AnyWriter}
-use Rattle.ff_mux.specs.declared.writers.any.AnyWriter.TheVariants.{Wav, Flac, Y4m, Hash}
+use Rattle.ff_mux.specs.declared.writers.any.AnyWriter.TheVariants.{Wav, Flac, Y4m, Hash, Crc}
+use Rattle.ff_mux.specs.writers.CrcFile.{crc_format, crc_layout, crc_writes}
 use Rattle.ff_mux.specs.writers.FlacFile.{flac_format, flac_inside, flac_layout, flac_writes}
-use Rattle.ff_mux.specs.writers.HashFile.{hash_format, hash_layout, hash_writes}
-use Rattle.ff_mux.specs.writers.Writers.{flac_head, hash_kind, hash_heads}
+use Rattle.ff_mux.specs.writers.HashFile.{hash_format, hash_layout, hash_writes, md5_writes}
+use Rattle.ff_mux.specs.writers.Writers.{flac_head, hash_kind, hash_heads, crc_heads}
 use Rattle.ff_wav.specs.Header.{written_head, body_size}
 use Rattle.ff_wav.specs.Layout.{wav_format, wav_inside, wav_layout, wav_writes}
 use Rattle.ff_y4m.specs.Layout.{y4m_format, y4m_layout, y4m_writes}
@@ -24,6 +25,8 @@ format_of format.Wav = wav_format
 format_of format.Flac = flac_format
 format_of format.Y4m = y4m_format
 format_of format.FrameHash = hash_format
+format_of format.FrameMd5 = hash_format
+format_of format.FrameCrc = crc_format
 
 -- the format takes packets of streams of these heads
 abbrev pub CanWrite : FileFormat → List StreamHead → Type 0
@@ -39,6 +42,8 @@ writes_taken format.Wav = wav_writes
 writes_taken format.Flac = flac_writes
 writes_taken format.Y4m = y4m_writes
 writes_taken format.FrameHash = hash_writes
+writes_taken format.FrameMd5 = md5_writes
+writes_taken format.FrameCrc = crc_writes
 
 -- ---- a writer of any
 
@@ -47,15 +52,18 @@ any_layout (Wav put) = wav_layout (written_head put)
 any_layout (Flac w) = flac_layout (flac_head w)
 any_layout (Y4m w) = y4m_layout (y4m_head w)
 any_layout (Hash w) = hash_layout (hash_kind w) (hash_heads w)
+any_layout (Crc w) = crc_layout (crc_heads w)
 
 abbrev pub any_counts : AnyWriter → ℕ → Type 0
 any_counts (Wav put) n = body_size put ≡ n
 any_counts (Flac w) n = ⊤
 any_counts (Y4m w) n = ⊤
 any_counts (Hash w) n = ⊤
+any_counts (Crc w) n = ⊤
 
 pub any_inside : (w : AnyWriter) (n : ℕ) (totals : Option Totals) → IsInside (any_layout w) n totals
 any_inside (Wav put) n totals = wav_inside (written_head put) n
 any_inside (Flac w) n totals = flac_inside (flac_head w) totals
 any_inside (Y4m w) n totals = tt
 any_inside (Hash w) n totals = tt
+any_inside (Crc w) n totals = tt

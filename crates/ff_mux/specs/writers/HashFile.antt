@@ -36,6 +36,14 @@ hash_writes = record {
   several = λ heads some few. (omega (arith, some), few);
 }
 
+-- and so with MD5 where no digest is asked for
+pub md5_writes : WritesTaken (taken_by format.FrameMd5) hash_format
+md5_writes = record {
+  sound = λ tb rate bits channels codec some few depth e. (omega arith, omega arith);
+  pictures = λ tb f width height sar_num sar_den e. (omega arith, omega arith);
+  several = λ heads some few. (omega (arith, some), few);
+}
+
 -- The finished text is the one of the packets.
 abbrev pub HashesAreTexts : Type 0
 HashesAreTexts = (kind : HashKind) (heads : List StreamHead) (totals : Option Totals) (packets : List (ℕ × Pkt))

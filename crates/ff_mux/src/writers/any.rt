@@ -3,6 +3,7 @@ ghost use Rattle.std.specs.Prelude.{◌≡◌, IfOk};
 ghost use Rattle.ff_mux.specs.writers.AnyWriters.{CanWrite, layout_of, any_layout, any_counts, any_inside};
 
 use crate::writers::flac::FlacWriter;
+use crate::writers::frame_crc::CrcWriter;
 use crate::writers::frame_hash::HashWriter;
 use ff_format::{FileFormat, OutputOptions, Patch, TooLarge, Writer};
 use ff_frame::{Pkt, StreamHead, Totals};
@@ -21,6 +22,8 @@ pub enum AnyWriter {
     Y4m(Y4mWriter),
     /// Digests.
     Hash(HashWriter),
+    /// Adler-32 sums.
+    Crc(CrcWriter),
 }
 
 /// The writer of a format for the packets of streams of these heads, by what an output's options say. No byte of a packet was counted.
@@ -38,9 +41,13 @@ pub fn writer_of(
         FileFormat::Wav => Ok(AnyWriter::Wav(WavPut::new(alloc, &heads[0]))),
         FileFormat::Flac => Ok(AnyWriter::Flac(FlacWriter::new(alloc, heads[0]))),
         FileFormat::Y4m => Ok(AnyWriter::Y4m(Y4mWriter::new(alloc, heads[0]))),
-        FileFormat::FrameHash => {
+        FileFormat::FrameHash | FileFormat::FrameMd5 => {
             let heads = Vec::from_slice(alloc, heads)?;
             Ok(AnyWriter::Hash(HashWriter::new(alloc, options.hash, heads)))
+        }
+        FileFormat::FrameCrc => {
+            let heads = Vec::from_slice(alloc, heads)?;
+            Ok(AnyWriter::Crc(CrcWriter::new(alloc, heads)))
         }
     }
 }
@@ -56,6 +63,7 @@ impl Writer for AnyWriter {
             AnyWriter::Flac(writer) => writer.first(),
             AnyWriter::Y4m(writer) => writer.first(),
             AnyWriter::Hash(writer) => writer.first(),
+            AnyWriter::Crc(writer) => writer.first(),
         }
     }
 
@@ -65,6 +73,7 @@ impl Writer for AnyWriter {
             AnyWriter::Flac(writer) => writer.text(stream, packet),
             AnyWriter::Y4m(writer) => writer.text(stream, packet),
             AnyWriter::Hash(writer) => writer.text(stream, packet),
+            AnyWriter::Crc(writer) => writer.text(stream, packet),
         }
     }
 
@@ -74,6 +83,7 @@ impl Writer for AnyWriter {
             AnyWriter::Flac(writer) => writer.add(count),
             AnyWriter::Y4m(writer) => writer.add(count),
             AnyWriter::Hash(writer) => writer.add(count),
+            AnyWriter::Crc(writer) => writer.add(count),
         }
     }
 
@@ -83,6 +93,7 @@ impl Writer for AnyWriter {
             AnyWriter::Flac(writer) => writer.pad(),
             AnyWriter::Y4m(writer) => writer.pad(),
             AnyWriter::Hash(writer) => writer.pad(),
+            AnyWriter::Crc(writer) => writer.pad(),
         }
     }
 
@@ -92,6 +103,7 @@ impl Writer for AnyWriter {
             AnyWriter::Flac(writer) => writer.last(totals),
             AnyWriter::Y4m(writer) => writer.last(totals),
             AnyWriter::Hash(writer) => writer.last(totals),
+            AnyWriter::Crc(writer) => writer.last(totals),
         }
     }
 

@@ -1,4 +1,5 @@
 //! Laws of finished files. Each is a function that does nothing: its clauses hold of all values.
+ghost use Rattle.ff_mux.specs.writers.CrcFile.{CrcsAreTexts};
 ghost use Rattle.ff_mux.specs.writers.FlacFile.{FlacsAreStreams};
 ghost use Rattle.ff_mux.specs.writers.FlacWritten.{FieldsAreRead, FilesAreRead, HeadersAreRead};
 ghost use Rattle.ff_mux.specs.writers.HashFile.{HashesAreTexts};
@@ -19,4 +20,9 @@ pub fn written_flacs_are_read_again()
 /// The finished framehash file of packets is the lines on their streams and a line of each packet, with either digest.
 pub fn finished_hashes_are_texts()
     ensures { HashesAreTexts }
+{}
+
+/// The finished framecrc file of packets is the lines on their streams and a line of each packet.
+pub fn finished_crcs_are_texts()
+    ensures { CrcsAreTexts }
 {}

@@ -17,3 +17,11 @@ returns-in-Flac c = rw c.in-Flac.is (λ more. refl, ([], [], refl, (lit≤ tt, c
 pub returns-in-FrameHash : goal.returns-in-FrameHash
 unfolding input_head
 returns-in-FrameHash c = rw c.in-FrameHash.is (λ more. refl)
+
+pub returns-in-FrameMd5 : goal.returns-in-FrameMd5
+unfolding input_head
+returns-in-FrameMd5 c = rw c.in-FrameMd5.is (λ more. refl)
+
+pub returns-in-FrameCrc : goal.returns-in-FrameCrc
+unfolding input_head
+returns-in-FrameCrc c = rw c.in-FrameCrc.is (λ more. refl)

@@ -8,3 +8,6 @@ returns-in-Y4m-clause-too_large c = rw c.in-Y4m.is c.add-in-Y4m.ensures.too_larg
 
 pub returns-in-Hash-clause-too_large : goal.returns-in-Hash-clause-too_large
 returns-in-Hash-clause-too_large c = rw c.in-Hash.is c.add-in-Hash.ensures.too_large
+
+pub returns-in-Crc-clause-too_large : goal.returns-in-Crc-clause-too_large
+returns-in-Crc-clause-too_large c = rw c.in-Crc.is c.add-in-Crc.ensures.too_large
