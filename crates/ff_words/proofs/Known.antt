@@ -14,7 +14,6 @@ use Rattle.ff_frame.specs.declared.head.Codec.TheVariants as codec
 use Rattle.ff_frame.specs.declared.hash.HashKind.{HashKind}
 use Rattle.ff_frame.specs.declared.hash.HashKind.TheVariants.{Sha256, Md5}
 use Rattle.ff_format.specs.declared.format.FileFormat.{FileFormat}
-use Rattle.ff_format.specs.declared.format.FileFormat.TheVariants as format
 use Rattle.ff_words.specs.declared.table.Concern.{Concern}
 use Rattle.ff_words.specs.declared.table.Concern.TheVariants.{All, Alone, File, Output, Itself}
 use Rattle.ff_words.specs.declared.table.Kind.{Kind}

@@ -1,5 +1,5 @@
 -- The options of the command line and the values that their lists allow, as plain lists. `-h` tells them in this order.
-use Rattle.std.specs.Prelude.{ℕ, Bool, true, false, List, ◌∷◌, [], codes}
+use Rattle.std.specs.Prelude.{ℕ, List, ◌∷◌, [], codes}
 use Rattle.ff_frame.specs.declared.head.Codec.{Codec}
 use Rattle.ff_frame.specs.declared.head.Codec.TheVariants as codec
 use Rattle.ff_frame.specs.declared.hash.HashKind.{HashKind}

@@ -14,7 +14,6 @@ use Rattle.ff_words.specs.declared.error.Fault.{Fault}
 use Rattle.ff_words.specs.declared.error.WordKind.{WordKind}
 use Rattle.ff_words.specs.declared.error.WordKind.TheVariants.{UnknownOption, MissingValue, BadValue, Misplaced, TooMany, NoInput, NoOutput, SameName}
 use Rattle.ff_frame.specs.declared.hash.HashKind.{HashKind}
-use Rattle.ff_frame.specs.declared.hash.HashKind.TheVariants.{Sha256}
 use Rattle.ff_format.specs.declared.format.FileFormat.{FileFormat}
 use Rattle.ff_format.specs.declared.format.FileFormat.TheVariants.{FrameHash}
 use Rattle.ff_format.specs.Formats.{default_hash}
