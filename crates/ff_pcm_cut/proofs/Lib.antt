@@ -1,2 +1,4 @@
+pub mod BodyLaws
 pub mod CutLaws
 pub mod CutState
+pub mod SamplesBack

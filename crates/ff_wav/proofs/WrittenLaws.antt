@@ -1,5 +1,5 @@
 -- What is written is read again.
-use Rattle.std.proofs.Common.{◌≡◌, ℕ, zero, suc, suc, ◌+◌, ◌-◌, ◌*◌, ◌/◌, ◌%◌, ◌^◌, ◌<◌, ◌≤◌, Bool, true, false, cond, List, [], ◌∷◌, ◌++◌, take, drop, length, Some, None, Ok, refl, sym, ap, ◌∙◌, subst, arith, append_assoc, append-nil, length-append, inl, inr, ◌⊎◌, min, map}
+use Rattle.std.proofs.Common.{◌≡◌, ℕ, zero, suc, suc, ◌+◌, ◌-◌, ◌*◌, ◌/◌, ◌%◌, ◌^◌, ◌<◌, ◌≤◌, Bool, true, false, cond, List, [], ◌∷◌, ◌++◌, take, drop, length, Some, None, Ok, refl, sym, ap, ◌∙◌, subst, arith, append_assoc, append-nil, length-append}
 use Rattle.std.specs.Option.{option_map}
 use Rattle.std.specs.Prelude.{◌==◌, ◌&&◌, ◌||◌, not, nat_le, nat_lt, codes, if◌then◌else◌}
 use Rattle.std.specs.Str.{bytes_eq}
@@ -15,7 +15,6 @@ use Rattle.ff_frame.specs.declared.head.StreamHead.TheVariants.{Audio, Video}
 use Rattle.ff_reader.specs.declared.step.Step.TheVariants.{Decide}
 use Rattle.ff_reader.specs.Heads.{early}
 use Rattle.ff_reader.specs.Walks.{agrees, walk, within, head_limit, reading as read_within}
-use Rattle.ff_reader.proofs.AgreeLaws.{bool_cases}
 use Rattle.ff_reader.proofs.AnswerLaws.{head_some}
 use Rattle.ff_reader.proofs.WalkLaws.{walk-drop}
 use Rattle.ff_reader.proofs.ReadingLaws.{reading_at, reading_stays}
@@ -23,15 +22,16 @@ use Rattle.ff_reader.proofs.ReachLaws.{walk_skip, walk_decide}
 use Rattle.ff_wav.specs.Chunks.{passed, number_16, number_32, codec_of, stream_of, format_of, fields, tagged, format_chunk, body_len, data_chunk, chunk}
 use Rattle.ff_wav.specs.Header.{le_16, le_32, is_plain, fields_of, pcm_guid, extension, riff, wave_format, data_id, plain_format, long_format, header, header_len, header_of, longest}
 use Rattle.std.proofs.Math.Seq.{drop-append_seam}
-use Rattle.std.specs.List.{range_with_len}
-use Rattle.std.proofs.Math.Nat.{one-le-mul, div-mul-le_self, mul-div_cancel, mul-le-mul_right, zero-mul}
-use Rattle.std.proofs.lemmas.List.{length-take, take-append-le, take_all, take-take}
+use Rattle.std.proofs.Math.Nat.{div-mul-le_self}
+use Rattle.std.proofs.lemmas.List.{take-append-le, take_all}
 use Rattle.ff_pcm_cut.specs.declared.head.PcmHead.{PcmHead as WavHead}
 use Rattle.ff_wav.specs.Codecs.{IsWavCodec, IsWavCoded}
 use Rattle.ff_wav.specs.Heads.{magic, grammar, reading}
-use Rattle.ff_pcm_cut.specs.Packets.{IsPcmSound, IsStream, block_of, body, frames, packet_at, packet_count, packets_of, demuxed}
-use Rattle.ff_wav.specs.Written.{pad_of, says, HeadersAreRead, FilesAreRead, BodiesAreRead}
-use Rattle.ff_pcm_cut.proofs.CutLaws.{piece, made, packet_is}
+use Rattle.ff_pcm_cut.specs.Packets.{IsPcmSound, IsStream, block_of, body, packets_of, demuxed}
+use Rattle.ff_wav.specs.Written.{pad_of, says, HeadersAreRead, FilesAreRead, BodiesAreRead, wav_container}
+use Rattle.ff_pcm_cut.specs.Written.{BodiesComeBack, SamplesComeBack}
+use Rattle.ff_pcm_cut.proofs.SamplesBack.{samples_come_back}
+use Rattle.ff_pcm_cut.proofs.BodyLaws.{some_block, whole_packets}
 use Rattle.ff_wav.specs.HeadLaws.{is_lawful}
 use Rattle.ff_wav.proofs.FormatBytes.{word_32, plain_chunk, plain_length, plain_named, plain_other, plain_size, plain_tag, plain_channels, plain_rate, plain_block, plain_bits, long_chunk, long_length, long_named, long_other, long_size, long_tag, long_kind, long_channels, long_rate, long_block, long_bits}
 
@@ -307,13 +307,6 @@ header_length : (head : StreamHead) (size body_size : ℕ) → length (header he
 header_length (Audio base rate bits channels codec) size body_size = form_length (is_plain channels bits) channels rate (channels * sample_bytes codec) bits size body_size
 header_length (Video tb format width height sar_num sar_den) size body_size = refl
 
-some_bytes : (channels : ℕ) (codec : Codec) → 1 ≤ channels → 0 < channels * sample_bytes codec
-some_bytes channels codec some = one-le-mul some (few_sample_bytes codec).0
-
-some_block : (head : StreamHead) → IsStream head → 0 < block_of head
-some_block (Audio base rate bits channels codec) h = some_bytes channels codec h.some_channels
-some_block (Video tb format width height sar_num sar_den) h = absurd h
-
 -- the body that is read is the body that was written, to the end of its last whole sample frame
 body_back : (block : ℕ) (xs : List ℕ) → length xs ≤ longest → body (option_map (λ len. len / block * block) (body_len (length xs))) (xs ++ pad_of (length xs)) ≡ take (length xs / block * block) xs
 body_back block [] le = sym (take_all (0 / block * block) [] (omega arith))
@@ -322,40 +315,14 @@ body_back block (x ∷ xs) le =
     let l : body_len n ≡ Some n = grind (arith, nat_tests) in
     ap (λ o. body (option_map (λ len. len / block * block) o) ((x ∷ xs) ++ pad_of n)) l ∙ take-append-le (n / block * block) (x ∷ xs) (pad_of n) (div-mul-le_self n block)
 
--- ---- what follows the last whole sample frame is in no packet
-
-whole_frames : (block : ℕ) (xs : List ℕ) → 0 < block → frames block (take (length xs / block * block) xs) ≡ frames block xs
-whole_frames block xs lt =
-    let n : length (take (length xs / block * block) xs) ≡ length xs / block * block = omega (arith, length-take (length xs / block * block) xs, div-mul-le_self (length xs) block) in
-    ap (λ k. k / block) n ∙ mul-div_cancel (length xs / block) lt
-
-piece_of : (block first count total : ℕ) (xs : List ℕ) → (count ≡ 0) ⊎ (first + count ≤ total) → take (count * block) (drop (first * block) (take (total * block) xs)) ≡ take (count * block) (drop (first * block) xs)
-piece_of block first count total xs (inl none) =
-    let z : count * block ≡ 0 = ap (λ k. k * block) none ∙ zero-mul block in
-    ap (λ k. take k (drop (first * block) (take (total * block) xs))) z ∙ sym (ap (λ k. take k (drop (first * block) xs)) z)
-piece_of block first count total xs (inr le) =
-    let m : (first + count) * block ≤ total * block = mul-le-mul_right block le in
-    piece (count * block) (first * block) (take (total * block) xs) xs (take-take (first * block + count * block) (total * block) xs (omega (arith, m)))
-
-count_cases : (total first : ℕ) → (min 1024 (total - first) ≡ 0) ⊎ (first + min 1024 (total - first) ≤ total)
-count_cases total first = elim (bool_cases (nat_le first total)) [
-  | inl a ↦ inr (grind (arith, nat_tests))
-  | inr a ↦ inl (grind (arith, nat_tests))
-]
-
-whole_packet : (start block first : ℕ) (xs : List ℕ) → 0 < block → packet_at start block (take (length xs / block * block) xs) first ≡ packet_at start block xs first
-whole_packet start block first xs lt =
-    let count = min 1024 (frames block xs - first) in
-    packet_is start block (take (length xs / block * block) xs) first count (ap (λ n. min 1024 (n - first)) (whole_frames block xs lt))
-    ∙ (ap (λ ys. made start block first count ys) (piece_of block first count (length xs / block) xs (count_cases (frames block xs) first)) ∙ sym (packet_is start block xs first count refl))
-
-whole_packets : (start block : ℕ) (xs : List ℕ) → 0 < block → packets_of start block (take (length xs / block * block) xs) ≡ packets_of start block xs
-whole_packets start block xs lt =
-    ap (λ n. map (λ k. packet_at start block (take (length xs / block * block) xs) (1024 * k)) (range_with_len 0 ((n + 1023) / 1024))) (whole_frames block xs lt)
-    ∙ (λ i. map (λ k. whole_packet start block (1024 * k) xs lt i) (range_with_len 0 (packet_count block xs)))
-
 pub bodies : BodiesAreRead
 bodies head body h le =
     let size = length body in
     ap (λ xs. demuxed (says head size) xs) (past (header_of head size) (body ++ pad_of size) (header_len head) (header_length head (header_len head - 8 + size + size % 2) size))
     ∙ (ap (λ xs. packets_of (header_len head) (block_of head) xs) (body_back (block_of head) body le) ∙ whole_packets (header_len head) (block_of head) body (some_block head h))
+
+bodies_back : BodiesComeBack wav_container
+bodies_back head body h taken held = record { found = says head (length body); is_read = files head body h taken held; same_stream = refl; same_packets = bodies head body h held }
+
+pub samples : SamplesComeBack wav_container
+samples = samples_come_back wav_container bodies_back

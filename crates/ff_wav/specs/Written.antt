@@ -7,6 +7,7 @@ use Rattle.ff_wav.specs.Codecs.{IsWavCoded}
 use Rattle.ff_wav.specs.Heads.{head as head_read}
 use Rattle.ff_wav.specs.Header.{header, header_of, header_len, longest}
 use Rattle.ff_pcm_cut.specs.Packets.{IsStream, block_of, packets_of, demuxed}
+use Rattle.ff_pcm_cut.specs.Written.{Container}
 
 -- one byte 0 behind a body of an odd number of bytes
 abbrev pub pad_of : ℕ → List ℕ
@@ -34,3 +35,7 @@ FilesAreRead = (head : StreamHead) (body : List ℕ) → IsStream head → IsWav
 abbrev pub BodiesAreRead : Type 0
 BodiesAreRead = (head : StreamHead) (body : List ℕ) → IsStream head → length body ≤ longest
     → demuxed (says head (length body)) (drop (header_len head) (file_of head body)) ≡ packets_of (header_len head) (block_of head) body
+
+-- WAV as a container of linear PCM.
+abbrev pub wav_container : Container
+wav_container = record { Takes = IsWavCoded; Holds = λ n. n ≤ longest; file_of = file_of; read = head_read }

@@ -1,4 +1,4 @@
-use Rattle.ff_wav.proofs.WrittenLaws.{headers, files, bodies}
+use Rattle.ff_wav.proofs.WrittenLaws.{headers, files, bodies, samples}
 use Rattle.ff_wav.proofs.laws.what_is_written_is_read_again.Goals as goal
 
 pub returns-clause-headers : goal.returns-clause-headers
@@ -9,3 +9,6 @@ returns-clause-files c = files
 
 pub returns-clause-bodies : goal.returns-clause-bodies
 returns-clause-bodies c = bodies
+
+pub returns-clause-samples : goal.returns-clause-samples
+returns-clause-samples c = samples
