@@ -21,6 +21,7 @@ use Rattle.ff_format.specs.declared.format.Taken.{Taken}
 
 abbrev pub format_name : FileFormat → List ℕ
 format_name format.Wav = codes "wav"
+format_name format.Au = codes "au"
 format_name format.Flac = codes "flac"
 format_name format.Y4m = codes "yuv4mpegpipe"
 format_name format.FrameHash = codes "framehash"
@@ -30,6 +31,7 @@ format_name format.FrameCrc = codes "framecrc"
 -- whether an input may have it
 abbrev pub is_read : FileFormat → Bool
 is_read format.Wav = true
+is_read format.Au = true
 is_read format.Flac = true
 is_read format.Y4m = true
 is_read format.FrameHash = false
@@ -41,6 +43,7 @@ is_read format.FrameCrc = false
 abbrev pub file_formats : List (List ℕ × List ℕ × FileFormat × Bool × Bool)
 file_formats =
     (format_name format.Wav, codes ".wav", format.Wav, is_read format.Wav, true) ∷
+    (format_name format.Au, codes ".au", format.Au, is_read format.Au, true) ∷
     (format_name format.Flac, codes ".flac", format.Flac, is_read format.Flac, true) ∷
     (format_name format.Y4m, codes ".y4m", format.Y4m, is_read format.Y4m, true) ∷
     (format_name format.FrameHash, [], format.FrameHash, is_read format.FrameHash, true) ∷
@@ -56,6 +59,7 @@ line_named (line ∷ list) word = if bytes_eq line.0 word then Some line else li
 -- each format's line is found by its name, which is short
 pub found : (f : FileFormat) → (ending : List ℕ) × (line_named file_formats (format_name f) ≡ Some (format_name f, ending, f, is_read f, true))
 found format.Wav = (codes ".wav", refl)
+found format.Au = (codes ".au", refl)
 found format.Flac = (codes ".flac", refl)
 found format.Y4m = (codes ".y4m", refl)
 found format.FrameHash = ([], refl)
@@ -64,17 +68,20 @@ found format.FrameCrc = ([], refl)
 
 pub short_name : (f : FileFormat) → length (format_name f) ≤ 32
 short_name format.Wav = omega arith
+short_name format.Au = omega arith
 short_name format.Flac = omega arith
 short_name format.Y4m = omega arith
 short_name format.FrameHash = omega arith
 short_name format.FrameMd5 = omega arith
 short_name format.FrameCrc = omega arith
 
--- ---- what an output takes: WAV linear PCM with the lowest byte first, unsigned where a sample has one byte and signed else, FLAC what
--- is coded so, YUV4MPEG2 pictures, each of one stream; digests any linear PCM and pictures, of up to 16 streams
+-- ---- what an output takes: WAV linear PCM with the lowest byte first, unsigned where a sample has one byte and signed else, AU signed
+-- linear PCM with the highest byte first, FLAC what is coded so, YUV4MPEG2 pictures, each of one stream; digests any linear PCM and
+-- pictures, of up to 16 streams
 
 abbrev pub taken_by : FileFormat → Taken
 taken_by format.Wav = record { sound = PcmIn LittleEndian false; pictures = false; codec = codec.PcmS16le; streams = 1 }
+taken_by format.Au = record { sound = PcmIn BigEndian true; pictures = false; codec = codec.PcmS16be; streams = 1 }
 taken_by format.Flac = record { sound = Flac; pictures = false; codec = codec.Flac; streams = 1 }
 taken_by format.Y4m = record { sound = Nothing; pictures = true; codec = codec.PcmS16le; streams = 1 }
 taken_by format.FrameHash = record { sound = Pcm; pictures = true; codec = codec.PcmS16le; streams = 16 }

@@ -9,6 +9,8 @@ use ff_frame::{ByteOrder, Codec, Coding, HashKind, PcmDepth, PcmForm};
 pub enum FileFormat {
     /// WAV (RIFF WAVE).
     Wav,
+    /// AU (the audio file format of NeXT and Sun).
+    Au,
     /// FLAC (RFC 9639).
     Flac,
     /// YUV4MPEG2.
@@ -23,8 +25,9 @@ pub enum FileFormat {
 
 /// The values of `-f`, each with how the names of such files end (empty where no ending tells). Beside them stands
 /// whether an input and an output may have it.
-pub static FORMATS: [(&'static str, &'static str, FileFormat, bool, bool); 6] = [
+pub static FORMATS: [(&'static str, &'static str, FileFormat, bool, bool); 7] = [
     ("wav", ".wav", FileFormat::Wav, true, true),
+    ("au", ".au", FileFormat::Au, true, true),
     ("flac", ".flac", FileFormat::Flac, true, true),
     ("yuv4mpegpipe", ".y4m", FileFormat::Y4m, true, true),
     ("framehash", "", FileFormat::FrameHash, false, true),
@@ -123,8 +126,8 @@ impl FileFormat {
     ghost use Rattle.ff_format.specs.Formats.{taken_by, default_hash};
 
     /// What an output of it takes: WAV takes linear PCM with the lowest byte first, unsigned where a sample has one
-    /// byte and signed else. FLAC takes what is coded so, YUV4MPEG2 video, each of one stream. Digests take any
-    /// linear PCM and video, of up to 16 streams.
+    /// byte and signed else. AU takes signed linear PCM with the highest byte first. FLAC takes what is coded so,
+    /// YUV4MPEG2 video, each of one stream. Digests take any linear PCM and video, of up to 16 streams.
     pub fn taken(self) -> Taken
         ensures row { result ≡ taken_by self }
         ensures few { result.streams ≤ 16 }
@@ -137,6 +140,15 @@ impl FileFormat {
                 },
                 pictures: false,
                 codec: Codec::PcmS16le,
+                streams: 1,
+            },
+            FileFormat::Au => Taken {
+                sound: SoundTaken::PcmIn {
+                    order: ByteOrder::BigEndian,
+                    signed_bytes: true,
+                },
+                pictures: false,
+                codec: Codec::PcmS16be,
                 streams: 1,
             },
             FileFormat::Flac => Taken {

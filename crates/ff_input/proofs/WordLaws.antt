@@ -13,6 +13,9 @@ use Rattle.ff_reader.proofs.ReadingLaws.{reading_at, within_short}
 use Rattle.ff_format.specs.declared.format.FileFormat.TheVariants as format
 use Rattle.ff_y4m.specs.declared.head.Y4mHead.{Y4mHead}
 use Rattle.ff_flac_dec.specs.declared.head.FlacHead.{FlacHead}
+use Rattle.ff_au.specs.HeadLaws as au_laws
+use Rattle.ff_au.specs.Heads as au
+use Rattle.ff_pcm_cut.specs.declared.head.PcmHead.{PcmHead}
 use Rattle.ff_wav.specs.HeadLaws as wav_laws
 use Rattle.ff_y4m.specs.Heads as y4m
 use Rattle.ff_y4m.specs.Lines.{line_feed, space}
@@ -104,19 +107,28 @@ flac_word : IsFirstWord head_in (record { word = flac.magic; format = format.Fla
 flac_word = record {
   bytes = flac_laws.is_lawful.bytes;
   few = flac_laws.is_lawful.few;
-  own = λ bs l a. not_other (head_in format.Flac bs) (length bs) (ap (λ (found : Found FlacHead). as_found Other (as_found Other found)) (damaged_behind flac.grammar flac_laws.is_lawful bs l a));
+  own = λ bs l a. not_other (head_in format.Flac bs) (length bs) (ap (λ (found : Found FlacHead). as_found Other (as_found Other (as_found First found))) (damaged_behind flac.grammar flac_laws.is_lawful bs l a));
+}
+
+au_word : IsFirstWord head_in (record { word = au.magic; format = format.Au })
+au_word = record {
+  bytes = au_laws.is_lawful.bytes;
+  few = au_laws.is_lawful.few;
+  own = λ bs l a. not_other (head_in format.Au bs) (length bs) (ap (λ (found : Found PcmHead). as_found Other (as_found Other (as_found Other found))) (damaged_behind au.grammar au_laws.is_lawful bs l a));
 }
 
 pub all_words : All (IsFirstWord head_in) first_words
 all_words =
     let Owes = IsFirstWord head_in in
-    let flac_words = record { word = flac.magic; format = format.Flac } ∷ [] in
+    let au_words = record { word = au.magic; format = format.Au } ∷ [] in
+    let flac_words = record { word = flac.magic; format = format.Flac } ∷ au_words in
     let empty_lines = record { word = map Some (y4m.magic ++ line_feed ∷ []); format = format.Y4m } ∷ flac_words in
     let lines = record { word = map Some (y4m.magic ++ space ∷ []); format = format.Y4m } ∷ empty_lines in
     All-cons Owes (record { word = wav.magic; format = format.Wav }) lines wav_word
     (All-cons Owes (record { word = map Some (y4m.magic ++ space ∷ []); format = format.Y4m }) empty_lines line_word
     (All-cons Owes (record { word = map Some (y4m.magic ++ line_feed ∷ []); format = format.Y4m }) flac_words empty_line_word
-    (All-cons Owes (record { word = flac.magic; format = format.Flac }) [] flac_word (All-nil Owes))))
+    (All-cons Owes (record { word = flac.magic; format = format.Flac }) au_words flac_word
+    (All-cons Owes (record { word = au.magic; format = format.Au }) [] au_word (All-nil Owes)))))
 
 -- and each two words differ
 pub words_apart : are_apart first_words ≡ true

@@ -1,6 +1,6 @@
 -- The formats of inputs, a line for each in each list: its heads, its first words, its cut. By them the head of a whole input: in the
 -- format that was given, or in the one whose first word it has.
-use Rattle.std.specs.Prelude.{ℕ, List, [], ◌∷◌, ◌++◌, map, Option, Some, None, Err}
+use Rattle.std.specs.Prelude.{⊤, ℕ, List, [], ◌∷◌, ◌++◌, map, Option, Some, None, Err}
 use Rattle.ff_frame.specs.declared.head.StreamHead.{StreamHead}
 use Rattle.ff_reader.specs.Cutters.{Cutter}
 use Rattle.ff_reader.specs.Heads as heads
@@ -11,6 +11,8 @@ use Rattle.ff_format.specs.declared.format.FileFormat.TheVariants as format
 use Rattle.ff_pcm_cut.specs.declared.head.PcmHead.{PcmHead}
 use Rattle.ff_pcm_cut.specs.declared.cut.PcmCut.{PcmCut}
 use Rattle.ff_pcm_cut.specs.Cuts.{pcm_cutter}
+use Rattle.ff_au.specs.Heads as au
+use Rattle.ff_au.specs.declared.walk.Au.{Au}
 use Rattle.ff_wav.specs.Heads as wav
 use Rattle.ff_wav.specs.declared.walk.Wav.{Wav}
 use Rattle.ff_y4m.specs.declared.head.Y4mHead.{Y4mHead}
@@ -38,13 +40,13 @@ use Rattle.ff_input.specs.Y4mShapes.{y4m_owes}
 
 -- its heads, walks and cuts
 abbrev pub InputHead : Type 0
-InputHead = OneOf PcmHead (OneOf Y4mHead FlacHead)
+InputHead = OneOf PcmHead (OneOf Y4mHead (OneOf FlacHead PcmHead))
 
 abbrev pub AnyWalk : Type 0
-AnyWalk = OneOf (HeadWalk Wav PcmHead (Option StreamHead)) (OneOf Y4mWalk (HeadWalk Flac FlacHead (Option StreamHead)))
+AnyWalk = OneOf (HeadWalk Wav PcmHead (Option StreamHead)) (OneOf Y4mWalk (OneOf (HeadWalk Flac FlacHead (Option StreamHead)) (HeadWalk Au PcmHead ⊤)))
 
 abbrev pub AnyCut : Type 0
-AnyCut = OneOf PcmCut (OneOf Y4mCut FlacCut)
+AnyCut = OneOf PcmCut (OneOf Y4mCut (OneOf FlacCut PcmCut))
 
 -- a head, or the fault for which there is none
 abbrev pub Found : Type 0
@@ -54,33 +56,35 @@ Found = heads.Found InputHead
 abbrev pub head_in : FileFormat → List ℕ → Found
 head_in format.Wav bs = as_found First (wav.head bs)
 head_in format.Y4m bs = as_found Other (as_found First (y4m.head bs))
-head_in format.Flac bs = as_found Other (as_found Other (flac.head bs))
+head_in format.Flac bs = as_found Other (as_found Other (as_found First (flac.head bs)))
+head_in format.Au bs = as_found Other (as_found Other (as_found Other (au.head bs)))
 head_in format.FrameHash bs = Err (Unsupported 0)
 head_in format.FrameMd5 bs = Err (Unsupported 0)
 head_in format.FrameCrc bs = Err (Unsupported 0)
 
--- what its inputs begin with: `RIFF`, any four bytes and `WAVE`; `YUV4MPEG2` and a space or a line feed; `fLaC`
+-- what its inputs begin with: `RIFF`, any four bytes and `WAVE`; `YUV4MPEG2` and a space or a line feed; `fLaC`; `.snd`
 abbrev pub first_words : List Word
 first_words =
     record { word = wav.magic; format = format.Wav }
     ∷ record { word = map Some (y4m.magic ++ space ∷ []); format = format.Y4m }
     ∷ record { word = map Some (y4m.magic ++ line_feed ∷ []); format = format.Y4m }
     ∷ record { word = flac.magic; format = format.Flac }
+    ∷ record { word = au.magic; format = format.Au }
     ∷ []
 
 -- of its walk: the head of a whole input, and that it has read this front; over a line, which is read anew, any
 abbrev pub any_head : AnyWalk → List ℕ → Found
-any_head = either_head (λ w. wav.head) (either_head (λ w. y4m.head) (λ w. flac.head))
+any_head = either_head (λ w. wav.head) (either_head (λ w. y4m.head) (either_head (λ w. flac.head) (λ w. au.head)))
 
 abbrev pub any_reached : AnyWalk → List ℕ → Type 0
-any_reached = either_reached (units_reached wav.grammar) (either_reached (λ w front. Unit {0}) (units_reached flac.grammar))
+any_reached = either_reached (units_reached wav.grammar) (either_reached (λ w front. Unit {0}) (either_reached (units_reached flac.grammar) (units_reached au.grammar)))
 
 -- its cut, and what it owes by it
 abbrev pub any_cutter : Cutter InputHead AnyCut
-any_cutter = either_cutter pcm_cutter (either_cutter y4m_cutter flac_cutter)
+any_cutter = either_cutter pcm_cutter (either_cutter y4m_cutter (either_cutter flac_cutter pcm_cutter))
 
 pub any_owes : Owes any_cutter
-any_owes = either_owes pcm_owes (either_owes y4m_owes flac_owes)
+any_owes = either_owes pcm_owes (either_owes y4m_owes (either_owes flac_owes pcm_owes))
 
 -- ---- of any
 

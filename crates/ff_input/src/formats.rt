@@ -8,6 +8,7 @@ use crate::first_word::{FirstWord, told_by_word};
 use crate::head_reader::HeadReader;
 use crate::one_of::OneOf;
 use crate::walk::InputWalk;
+use ff_au::{Au, AuCut, AuHead, AuWalk};
 use ff_flac_dec::{Flac, FlacCut, FlacHead, FlacWalk};
 use ff_format::FileFormat;
 use ff_frame::HeadEnd;
@@ -16,14 +17,14 @@ use ff_wav::{Wav, WavCut, WavHead, WavWalk};
 use ff_y4m::{Y4mCut, Y4mHead, read_head};
 
 /// The head of an input: what comes before its packets, in the format that it has. WAV (RIFF WAVE), YUV4MPEG2 (yuv4mpeg(5)), FLAC
-/// (RFC 9639).
-pub type InputHead = OneOf<WavHead, OneOf<Y4mHead, FlacHead>>;
+/// (RFC 9639), AU.
+pub type InputHead = OneOf<WavHead, OneOf<Y4mHead, OneOf<FlacHead, AuHead>>>;
 
 /// How far the head of an input was read, in the format that it has.
-pub type AnyWalk = OneOf<WavWalk, OneOf<Y4mWalk, FlacWalk>>;
+pub type AnyWalk = OneOf<WavWalk, OneOf<Y4mWalk, OneOf<FlacWalk, AuWalk>>>;
 
 /// The packets of an input in any format that is read, from pieces of any size.
-pub type AnyCut = OneOf<WavCut, OneOf<Y4mCut, FlacCut>>;
+pub type AnyCut = OneOf<WavCut, OneOf<Y4mCut, OneOf<FlacCut, AuCut>>>;
 
 /// `YUV4MPEG2` and a space.
 const LINE: [Option<u8>; 10] = [
@@ -61,7 +62,8 @@ pub(crate) fn told_by_words(bytes: &[u8]) -> FirstWord
     let line = told_by_word(FileFormat::Y4m, &LINE, bytes);
     let empty_line = told_by_word(FileFormat::Y4m, &EMPTY_LINE, bytes);
     let flac = told_by_word(FileFormat::Flac, Flac::magic(), bytes);
-    wav.or(line.or(empty_line.or(flac.or(FirstWord::Other))))
+    let au = told_by_word(FileFormat::Au, Au::magic(), bytes);
+    wav.or(line.or(empty_line.or(flac.or(au.or(FirstWord::Other)))))
 }
 
 /// Before anything was read of an input in this format.
@@ -71,7 +73,10 @@ pub(crate) fn start_of(format: FileFormat) -> InputWalk
     match format {
         FileFormat::Wav => InputWalk::In(OneOf::First(WavWalk::new())),
         FileFormat::Y4m => InputWalk::In(OneOf::Other(OneOf::First(Y4mWalk))),
-        FileFormat::Flac => InputWalk::In(OneOf::Other(OneOf::Other(FlacWalk::new()))),
+        FileFormat::Flac => InputWalk::In(OneOf::Other(OneOf::Other(OneOf::First(
+            FlacWalk::new(),
+        )))),
+        FileFormat::Au => InputWalk::In(OneOf::Other(OneOf::Other(OneOf::Other(AuWalk::new())))),
         FileFormat::FrameHash | FileFormat::FrameMd5 | FileFormat::FrameCrc => InputWalk::Other,
     }
 }

@@ -67,7 +67,8 @@ options =
 
 -- the codecs of sound, in the order in which `-h` tells them
 abbrev pub audio_codecs : List Codec
-audio_codecs = codec.PcmU8 ∷ codec.PcmS16le ∷ codec.PcmS24le ∷ codec.PcmS32le ∷ codec.Flac ∷ []
+audio_codecs =
+    codec.PcmU8 ∷ codec.PcmS16le ∷ codec.PcmS24le ∷ codec.PcmS32le ∷ codec.PcmS8 ∷ codec.PcmS16be ∷ codec.PcmS24be ∷ codec.PcmS32be ∷ codec.Flac ∷ []
 
 abbrev pub video_codecs : List Codec
 video_codecs = codec.RawVideo ∷ []

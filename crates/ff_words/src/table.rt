@@ -157,11 +157,15 @@ pub static OPTIONS: [(&'static str, Concern, Kind); 51] = [
 ];
 
 /// The audio codecs.
-pub static AUDIO_CODECS: [Codec; 5] = [
+pub static AUDIO_CODECS: [Codec; 9] = [
     Codec::PcmU8,
     Codec::PcmS16le,
     Codec::PcmS24le,
     Codec::PcmS32le,
+    Codec::PcmS8,
+    Codec::PcmS16be,
+    Codec::PcmS24be,
+    Codec::PcmS32be,
     Codec::Flac,
 ];
 

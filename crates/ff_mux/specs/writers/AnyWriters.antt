@@ -10,11 +10,13 @@ use Rattle.ff_format.specs.declared.format.OutputOptions.{OutputOptions}
 use Rattle.ff_frame.specs.declared.head.StreamHead.{StreamHead}
 use Rattle.ff_frame.specs.declared.totals.Totals.{Totals}
 use Rattle.ff_mux.specs.declared.writers.any.AnyWriter.{AnyWriter}
-use Rattle.ff_mux.specs.declared.writers.any.AnyWriter.TheVariants.{Wav, Flac, Y4m, Hash, Crc}
+use Rattle.ff_mux.specs.declared.writers.any.AnyWriter.TheVariants.{Wav, Flac, Y4m, Hash, Crc, Au}
 use Rattle.ff_mux.specs.writers.CrcFile.{crc_format, crc_layout, crc_writes}
 use Rattle.ff_mux.specs.writers.FlacFile.{flac_format, flac_inside, flac_layout, flac_writes}
 use Rattle.ff_mux.specs.writers.HashFile.{hash_format, hash_layout, hash_writes, md5_writes}
 use Rattle.ff_mux.specs.writers.Writers.{flac_head, hash_kind, hash_heads, crc_heads}
+use Rattle.ff_au.specs.Header as au
+use Rattle.ff_au.specs.Layout.{au_format, au_inside, au_layout, au_writes}
 use Rattle.ff_wav.specs.Header.{written_head, body_size}
 use Rattle.ff_wav.specs.Layout.{wav_format, wav_inside, wav_layout, wav_writes}
 use Rattle.ff_y4m.specs.Layout.{y4m_format, y4m_layout, y4m_writes}
@@ -22,6 +24,7 @@ use Rattle.ff_y4m.specs.Writers.{y4m_head}
 
 abbrev pub format_of : FileFormat → OutputFormat
 format_of format.Wav = wav_format
+format_of format.Au = au_format
 format_of format.Flac = flac_format
 format_of format.Y4m = y4m_format
 format_of format.FrameHash = hash_format
@@ -39,6 +42,7 @@ layout_of f options heads = (format_of f).layout options heads
 -- each can write what its row takes
 pub writes_taken : (f : FileFormat) → WritesTaken (taken_by f) (format_of f)
 writes_taken format.Wav = wav_writes
+writes_taken format.Au = au_writes
 writes_taken format.Flac = flac_writes
 writes_taken format.Y4m = y4m_writes
 writes_taken format.FrameHash = hash_writes
@@ -49,6 +53,7 @@ writes_taken format.FrameCrc = crc_writes
 
 abbrev pub any_layout : AnyWriter → Layout
 any_layout (Wav put) = wav_layout (written_head put)
+any_layout (Au put) = au_layout (au.written_head put)
 any_layout (Flac w) = flac_layout (flac_head w)
 any_layout (Y4m w) = y4m_layout (y4m_head w)
 any_layout (Hash w) = hash_layout (hash_kind w) (hash_heads w)
@@ -56,6 +61,7 @@ any_layout (Crc w) = crc_layout (crc_heads w)
 
 abbrev pub any_counts : AnyWriter → ℕ → Type 0
 any_counts (Wav put) n = body_size put ≡ n
+any_counts (Au put) n = au.body_size put ≡ au.size_field n
 any_counts (Flac w) n = ⊤
 any_counts (Y4m w) n = ⊤
 any_counts (Hash w) n = ⊤
@@ -63,6 +69,7 @@ any_counts (Crc w) n = ⊤
 
 pub any_inside : (w : AnyWriter) (n : ℕ) (totals : Option Totals) → IsInside (any_layout w) n totals
 any_inside (Wav put) n totals = wav_inside (written_head put) n
+any_inside (Au put) n totals = au_inside (au.written_head put) n
 any_inside (Flac w) n totals = flac_inside (flac_head w) totals
 any_inside (Y4m w) n totals = tt
 any_inside (Hash w) n totals = tt

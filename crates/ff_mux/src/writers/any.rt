@@ -5,6 +5,7 @@ ghost use Rattle.ff_mux.specs.writers.AnyWriters.{CanWrite, layout_of, any_layou
 use crate::writers::flac::FlacWriter;
 use crate::writers::frame_crc::CrcWriter;
 use crate::writers::frame_hash::HashWriter;
+use ff_au::AuPut;
 use ff_format::{FileFormat, OutputOptions, Patch, TooLarge, Writer};
 use ff_frame::{Pkt, StreamHead, Totals};
 use ff_wav::WavPut;
@@ -16,6 +17,8 @@ use std::alloc::{AllocError, Global};
 pub enum AnyWriter {
     /// RIFF WAVE.
     Wav(WavPut),
+    /// AU.
+    Au(AuPut),
     /// FLAC.
     Flac(FlacWriter),
     /// YUV4MPEG2.
@@ -39,6 +42,7 @@ pub fn writer_of(
 {
     match format {
         FileFormat::Wav => Ok(AnyWriter::Wav(WavPut::new(alloc, &heads[0]))),
+        FileFormat::Au => Ok(AnyWriter::Au(AuPut::new(alloc, &heads[0]))),
         FileFormat::Flac => Ok(AnyWriter::Flac(FlacWriter::new(alloc, heads[0]))),
         FileFormat::Y4m => Ok(AnyWriter::Y4m(Y4mWriter::new(alloc, heads[0]))),
         FileFormat::FrameHash | FileFormat::FrameMd5 => {
@@ -60,6 +64,7 @@ impl Writer for AnyWriter {
     fn first(&self) -> Result<Vec<u8>, AllocError> {
         match self {
             AnyWriter::Wav(put) => Writer::first(put),
+            AnyWriter::Au(put) => Writer::first(put),
             AnyWriter::Flac(writer) => writer.first(),
             AnyWriter::Y4m(writer) => writer.first(),
             AnyWriter::Hash(writer) => writer.first(),
@@ -70,6 +75,7 @@ impl Writer for AnyWriter {
     fn text(&self, stream: u32, packet: Pkt) -> Result<Vec<u8>, Pkt> {
         match self {
             AnyWriter::Wav(put) => put.text(stream, packet),
+            AnyWriter::Au(put) => put.text(stream, packet),
             AnyWriter::Flac(writer) => writer.text(stream, packet),
             AnyWriter::Y4m(writer) => writer.text(stream, packet),
             AnyWriter::Hash(writer) => writer.text(stream, packet),
@@ -80,6 +86,7 @@ impl Writer for AnyWriter {
     fn add(&mut self, count: u64) -> Result<(), TooLarge> {
         match self {
             AnyWriter::Wav(put) => Writer::add(put, count),
+            AnyWriter::Au(put) => Writer::add(put, count),
             AnyWriter::Flac(writer) => writer.add(count),
             AnyWriter::Y4m(writer) => writer.add(count),
             AnyWriter::Hash(writer) => writer.add(count),
@@ -90,6 +97,7 @@ impl Writer for AnyWriter {
     fn pad(&self) -> &'static [u8] {
         match self {
             AnyWriter::Wav(put) => Writer::pad(put),
+            AnyWriter::Au(put) => put.pad(),
             AnyWriter::Flac(writer) => writer.pad(),
             AnyWriter::Y4m(writer) => writer.pad(),
             AnyWriter::Hash(writer) => writer.pad(),
@@ -100,6 +108,7 @@ impl Writer for AnyWriter {
     fn last(&self, totals: Option<Totals>) -> Result<Option<Patch>, AllocError> {
         match self {
             AnyWriter::Wav(put) => Writer::last(put, totals),
+            AnyWriter::Au(put) => Writer::last(put, totals),
             AnyWriter::Flac(writer) => writer.last(totals),
             AnyWriter::Y4m(writer) => writer.last(totals),
             AnyWriter::Hash(writer) => writer.last(totals),

@@ -14,6 +14,10 @@ pub returns-in-Flac : goal.returns-in-Flac
 unfolding input_head
 returns-in-Flac c = rw c.in-Flac.is (λ more. refl, ([], [], refl, (lit≤ tt, c.new-in-Flac.ensures)))
 
+pub returns-in-Au : goal.returns-in-Au
+unfolding input_head
+returns-in-Au c = rw c.in-Au.is (λ more. refl, ([], [], refl, (lit≤ tt, c.new-in-Au.ensures)))
+
 pub returns-in-FrameHash : goal.returns-in-FrameHash
 unfolding input_head
 returns-in-FrameHash c = rw c.in-FrameHash.is (λ more. refl)

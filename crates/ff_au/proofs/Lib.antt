@@ -1,0 +1,2 @@
+pub mod FinishedLaws
+pub mod WrittenLaws

@@ -1,0 +1,7 @@
+pub mod Codecs
+pub mod Fields
+pub mod Heads
+pub mod Header
+pub mod Written
+pub mod Layout
+pub mod HeadLaws
