@@ -5,8 +5,8 @@ use crate::words::Words;
 use ff_flac_dec::FlacHead;
 use ff_frame::{Codec, Format, HeadEnd, StreamHead};
 use ff_lists::front;
+use ff_pcm_cut::PcmHead;
 use ff_time::Rational;
-use ff_wav::WavHead;
 use ff_words::AUDIO_CODECS;
 use ff_y4m::Y4mHead;
 use std::alloc::Global;
@@ -70,8 +70,8 @@ pub fn show_stream(alloc: Global, head: &StreamHead) -> Result<String, Stop> {
     Ok(text)
 }
 
-/// The head of a WAV as a string.
-pub fn show_wav(alloc: Global, head: &WavHead) -> Result<String, Stop> {
+/// The head of a format whose body is linear PCM, as a string.
+pub fn show_pcm(alloc: Global, head: &PcmHead) -> Result<String, Stop> {
     let stream = show_stream(alloc, &head.head)?;
     let start = head.start;
     let text = match head.len {
@@ -113,7 +113,7 @@ pub fn show_end(alloc: Global, length: usize, end: HeadEnd) -> Result<String, St
 fn head_of(alloc: Global, format: &str, whole: bool, bytes: &[u8]) -> Result<String, Stop> {
     let told = match format {
         "wav" => match ff_wav::read_head(bytes, whole) {
-            Ok(head) => Ok(show_wav(alloc, &head)?),
+            Ok(head) => Ok(show_pcm(alloc, &head)?),
             Err(end) => Err(end),
         },
         "y4m" => match ff_y4m::read_head(bytes, whole) {

@@ -1,5 +1,5 @@
 //! Calls that read heads in the format that is given, or that their first bytes tell.
-use crate::heads::{is_whole, show_end, show_flac, show_stream, show_wav, show_y4m};
+use crate::heads::{is_whole, show_end, show_flac, show_pcm, show_stream, show_y4m};
 use crate::runs::Runs;
 use crate::table::Stop;
 use crate::words::Words;
@@ -13,6 +13,7 @@ fn format_of(word: &str) -> Result<Option<FileFormat>, Stop> {
     match word {
         "any" => Ok(None),
         "wav" => Ok(Some(FileFormat::Wav)),
+        "au" => Ok(Some(FileFormat::Au)),
         "y4m" => Ok(Some(FileFormat::Y4m)),
         "flac" => Ok(Some(FileFormat::Flac)),
         "framehash" => Ok(Some(FileFormat::FrameHash)),
@@ -22,9 +23,10 @@ fn format_of(word: &str) -> Result<Option<FileFormat>, Stop> {
 
 fn show(alloc: Global, head: &InputHead) -> Result<String, Stop> {
     let (name, text) = match head {
-        OneOf::First(head) => ("wav", show_wav(alloc, head)?),
+        OneOf::First(head) => ("wav", show_pcm(alloc, head)?),
         OneOf::Other(OneOf::First(head)) => ("y4m", show_y4m(alloc, head)?),
-        OneOf::Other(OneOf::Other(head)) => ("flac", show_flac(alloc, head)?),
+        OneOf::Other(OneOf::Other(OneOf::First(head))) => ("flac", show_flac(alloc, head)?),
+        OneOf::Other(OneOf::Other(OneOf::Other(head))) => ("au", show_pcm(alloc, head)?),
     };
     Ok(format!(in alloc; "{name} {text}")?)
 }

@@ -3,6 +3,7 @@
 //! A call takes the arguments of its row and answers in one line, in which an independent reader can write what is wanted.
 #![tactic(auto)]
 
+mod au;
 mod bits;
 mod blocks;
 mod commands;
@@ -67,6 +68,8 @@ pub fn answer(alloc: Global, name: &str, arguments: &[String]) -> Result<String,
         "packets" => cuts::packets(words),
         "cut_pieces" => cuts::cut_pieces(words),
         "cut_fronts" => cuts::cut_fronts(words),
+        "au_first" => au::first(words),
+        "au_last" => au::last(words),
         "wav_first" => wav::first(words),
         "wav_last" => wav::last(words),
         "y4m_line" => pictures::line(words),
