@@ -10,8 +10,8 @@ _ffmpeg_words() {
   local video='null trim setpts crop pad hflip vflip fps split hstack vstack concat'
   local audio='anull atrim asetpts asplit concat channelsplit join'
   case ${words[-2]-} in
-    -f) offered='wav flac yuv4mpegpipe framehash framemd5 framecrc' ;;
-    -c:a | -codec:a | -acodec) offered='pcm_u8 pcm_s16le pcm_s24le pcm_s32le flac' ;;
+    -f) offered='wav au flac yuv4mpegpipe framehash framemd5 framecrc' ;;
+    -c:a | -codec:a | -acodec) offered='pcm_u8 pcm_s16le pcm_s24le pcm_s32le pcm_s8 pcm_s16be pcm_s24be pcm_s32be flac' ;;
     -c:v | -codec:v | -vcodec) offered='rawvideo' ;;
     -hash)
       offered='sha256 md5'
