@@ -1,5 +1,6 @@
 pub mod Alls
 pub mod Closing
+pub mod Exact
 pub mod Fitting
 pub mod Gridding
 pub mod Keeping
@@ -9,4 +10,5 @@ pub mod Ordering
 pub mod Planning
 pub mod Seeing
 pub mod Shaping
+pub mod Telling
 pub mod Valid

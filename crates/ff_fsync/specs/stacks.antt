@@ -1,3 +1,5 @@
+pub mod Bases
+pub mod CommonBases
 pub mod Examples
 pub mod Heads
 pub mod Limits

@@ -10,8 +10,10 @@
 //! Which frames are shown together, and when, is framesync's (`ff_fsync`); how the planes of a stack lie is
 //! `ff_planes`'. `specs/stacks/Shapes` says what a frame of the stack is. `specs/stacks/Stacks` says which stack
 //! arguments and heads make, or why they are refused. `specs/stacks/Stacked` says how its machine is seen, within the
-//! limits of every stream.
+//! limits of every stream. `specs/stacks/Bases` says what the common base of the inputs is, in whose units they come to
+//! framesync.
 
+mod bases;
 mod configured;
 mod heads;
 mod hstack;
@@ -26,7 +28,10 @@ mod stacking;
 mod vstack;
 
 pub use hstack::HStack;
-pub use laws::{stacks_keep_valid_streams, stacks_of_two_pixels, stacks_of_valid_streams};
+pub use laws::{
+    common_bases_keep_times, equal_bases_keep_times, stacks_keep_valid_streams,
+    stacks_of_two_pixels, stacks_of_valid_streams,
+};
 pub use options::{StackSettings, count_inputs};
 pub use plan::Plan;
 pub use shape::{Direction, Shape};

@@ -10,7 +10,7 @@ use Rattle.ff_stream.specs.declared.item.Item.{Item}
 use Rattle.ff_stream.specs.declared.item.Item.TheVariants.{Audio, Video, Packet, Trailer, End, Broken}
 use Rattle.ff_stream.specs.declared.item.Lane.TheVariants.{Frames}
 use Rattle.ff_stream.specs.Times.{HasTime, start_of, ticks}
-use Rattle.ff_stream.specs.Lanes.{FitsFrames, IsItemFor, InOrder, IsValid}
+use Rattle.ff_stream.specs.Lanes.{FitsFrames, IsItemFor, InOrder, AreInShape, IsValid}
 use Rattle.ff_filter.specs.Joins.{Flow}
 use Rattle.ff_filter.specs.Shifts.{start_ticks}
 use Rattle.ff_fsync.specs.Events.{put_if}
@@ -62,6 +62,9 @@ module _ (tb : Fraction) (format : Format) (width height sar_num sar_den : ℕ) 
   from_start [] = tt
   from_start (x ∷ xs) = omega arith
 
+  pub shape_kept : (s : Flow) → AreInShape (Frames (VideoHead tb format width height sar_num sar_den)) s.items → kept 0 s ≡ s
+  shape_kept s v = ap (λ (xs : List Item). let r : Flow = record { items = xs; mark = s.mark } in r)
+      (all_kept 0 s.items v.each v.in_order (from_start s.items))
+
   pub valid_kept : (s : Flow) → IsValid (Frames (VideoHead tb format width height sar_num sar_den)) s → kept 0 s ≡ s
-  valid_kept s v = ap (λ (xs : List Item). let r : Flow = record { items = xs; mark = s.mark } in r)
-      (all_kept 0 s.items v.shape.each v.shape.in_order (from_start s.items))
+  valid_kept s v = shape_kept s v.shape

@@ -1,11 +1,15 @@
 -- A stack by its arguments and heads.
-use Rattle.std.specs.Prelude.{◌≡◌, ◌≢◌, ℕ, ◌≤◌, Bool, true, false, ◌&&◌, cond, nat_le, nat_eq, None, Some, List, [], ◌∷◌, length, Result, Ok, Err, refl}
+use Rattle.std.specs.Prelude.{◌≡◌, ◌≢◌, ℕ, ◌≤◌, Bool, true, false, ◌&&◌, cond, nat_le, nat_eq, Option, None, Some, is_some, List, [], ◌∷◌, length, Result, Ok, Err, refl}
 use Rattle.std.proofs.Common.{inr, ap, sym, ◌∙◌, subst, arith, get_or}
-use Rattle.std.proofs.lemmas.Bool.{and_parts, ne_eqb, eq-eqb, leb-true}
+use Rattle.std.proofs.lemmas.Bool.{and_parts, and_from, ne_eqb, eq-eqb, leb-true}
+use Rattle.ff_time.specs.Fraction.{Fraction}
+use Rattle.ff_time.specs.Common.{IsCommonOf}
+use Rattle.ff_time.proofs.CommonBases.{common_once}
 use Rattle.ff_frame.specs.declared.config.ConfigError.{ConfigError}
 use Rattle.ff_frame.specs.declared.config.ConfigError.TheVariants.{Pads, Kind, Mismatch, BadSize}
 use Rattle.ff_frame.specs.declared.head.StreamHead.{StreamHead}
 use Rattle.ff_frame.specs.declared.head.StreamHead.TheVariants.{Audio, Video}
+use Rattle.ff_frame.specs.Heads.{base_of_head}
 use Rattle.ff_frame.specs.Video.{IsSide}
 use Rattle.ff_lang.specs.declared.graph.Arg.{Arg}
 use Rattle.ff_filter.specs.Options.{is_video, AreRead, IsMade, IsRefused}
@@ -15,10 +19,11 @@ use Rattle.ff_fsync.specs.declared.stacks.options.StackSettings.{StackSettings}
 use Rattle.ff_fsync.specs.declared.stacks.plan.Plan.{Plan}
 use Rattle.ff_fsync.specs.declared.stacks.shape.Direction.{Direction}
 use Rattle.ff_fsync.specs.declared.stacks.shape.Direction.TheVariants.{Beside, Below}
+use Rattle.ff_fsync.specs.stacks.Bases.{bases_of, common_of, common_of_is, base_or, with_base, in_common, has_common}
 use Rattle.ff_fsync.specs.stacks.Heads.{size_across, total, is_side, all_on_grid, has_size, are_alike, with_length}
 use Rattle.ff_fsync.specs.stacks.Options.{stack_manual, counted}
 use Rattle.ff_fsync.specs.stacks.Shapes.{shape_of}
-use Rattle.ff_fsync.specs.stacks.Stacks.{StackOf, Unless, AfterRead, IsPlanned, IsStack, stack_view, stack_by, planned_by, head_of}
+use Rattle.ff_fsync.specs.stacks.Stacks.{StackOf, Unless, stack_on, AfterRead, IsPlanned, IsStack, stack_view, stack_by, planned_by, head_of}
 
 module _ {X : Type 0} (a b : Bool) (e f : ConfigError) (r : Result X ConfigError) (O : Type 0) where
   -- the first of two tests fails, the second does, or none
@@ -31,19 +36,51 @@ module _ {X : Type 0} (a b : Bool) (e f : ConfigError) (r : Result X ConfigError
   no_fault : a ≡ true → b ≡ true → O → Unless (cond a (cond b None (Some f)) (Some e)) r O
   no_fault y z o = subst (λ c. Unless (cond c (cond b None (Some f)) (Some e)) r O) (sym y) (subst (λ c. Unless (cond c None (Some f)) r O) (sym z) o)
 
+some_true : {A : Type 0} (o : Option A) (x : A) → o ≡ Some x → is_some o ≡ true
+some_true None x e = cc
+some_true (Some y) x e = refl
+
+-- whether there is a common base, by what it is
+pub common_so : (heads : List StreamHead) (bases : List Fraction) (r : Option Fraction) → bases ≡ bases_of heads → IsCommonOf bases r → common_of (bases_of heads) ≡ r
+common_so heads bases r e is =
+    common_once (bases_of heads) (common_of (bases_of heads)) r (common_of_is (bases_of heads)) (subst (λ (bs : List Fraction). IsCommonOf bs r) e is)
+
 module _ (d : Direction) (h : StreamHead) (heads : List StreamHead) (shortest : Bool) where
-  Stack : Result StackOf ConfigError → Type 0
-  Stack r = r ≡ Ok (record { direction = d; heads = heads; shortest = shortest; head = with_length d (total d heads) h })
+  none_common : (b c : Bool) → b ≡ false → (b && c) ≡ false
+  none_common true c e = cc
+  none_common false c e = refl
+
+  not_like : (b c : Bool) → c ≡ false → (b && c) ≡ false
+  not_like true c e = e
+  not_like false c e = refl
+
+  none_false : (o : Option Fraction) → o ≡ None → is_some o ≡ false
+  none_false None e = refl
+  none_false (Some x) e = cc
+
+  pub no_base : common_of (bases_of heads) ≡ None → IsPlanned d h heads shortest (Err Mismatch)
+  no_base n = first_fault (has_common heads && each_of (are_alike d h) heads) (has_size d h heads) Mismatch BadSize (Err Mismatch) _
+      (none_common (has_common heads) (each_of (are_alike d h) heads) (none_false (common_of (bases_of heads)) n)) refl
 
   pub not_alike : each_of (are_alike d h) heads ≡ false → IsPlanned d h heads shortest (Err Mismatch)
-  not_alike n = first_fault (each_of (are_alike d h) heads) (has_size d h heads) Mismatch BadSize (Err Mismatch) _ n refl
+  not_alike n = first_fault (has_common heads && each_of (are_alike d h) heads) (has_size d h heads) Mismatch BadSize (Err Mismatch) _
+      (not_like (has_common heads) (each_of (are_alike d h) heads) n) refl
 
-  pub no_size : each_of (are_alike d h) heads ≡ true → has_size d h heads ≡ false → IsPlanned d h heads shortest (Err BadSize)
-  no_size y n = second_fault (each_of (are_alike d h) heads) (has_size d h heads) Mismatch BadSize (Err BadSize) _ y n refl
+  module _ (base : Fraction) (common : common_of (bases_of heads) ≡ Some base) (y : each_of (are_alike d h) heads ≡ true) where
+    both : (has_common heads && each_of (are_alike d h) heads) ≡ true
+    both = and_from (has_common heads) (each_of (are_alike d h) heads) (some_true (common_of (bases_of heads)) base common) y
 
-  pub can_stack : (m : StackOf) → each_of (are_alike d h) heads ≡ true → has_size d h heads ≡ true
-      → m ≡ record { direction = d; heads = heads; shortest = shortest; head = with_length d (total d heads) h } → IsPlanned d h heads shortest (Ok m)
-  can_stack m y z e = no_fault (each_of (are_alike d h) heads) (has_size d h heads) Mismatch BadSize (Ok m) _ y z (ap (λ (x : StackOf). Ok x) e)
+    pub no_size : has_size d h heads ≡ false → IsPlanned d h heads shortest (Err BadSize)
+    no_size n = second_fault (has_common heads && each_of (are_alike d h) heads) (has_size d h heads) Mismatch BadSize (Err BadSize) _ both n refl
+
+    pub can_stack : (m : StackOf) → has_size d h heads ≡ true
+        → m ≡ record { direction = d; heads = heads; shortest = shortest; head = with_length d (total d heads) (with_base base h) } → IsPlanned d h heads shortest (Ok m)
+    can_stack m z e =
+        let is : with_length d (total d heads) (with_base base h) ≡ with_length d (total d heads) (in_common heads h) =
+        ap (λ (o : Option Fraction). with_length d (total d heads) (with_base (base_or (base_of_head h) o) h)) (sym common) in
+        let same : record { direction = d; heads = heads; shortest = shortest; head = with_length d (total d heads) (with_base base h) } ≡ stack_on d h heads shortest =
+        ap (λ (k : StreamHead). let s : StackOf = record { direction = d; heads = heads; shortest = shortest; head = k } in s) is in
+        no_fault (has_common heads && each_of (are_alike d h) heads) (has_size d h heads) Mismatch BadSize (Ok m) _ both z (ap (λ (x : StackOf). Ok x) (e ∙ same))
 
 module _ (d : Direction) (args : List Arg) (heads : List StreamHead) (r : Result StackOf ConfigError) where
   pub wrong_pads : length heads ≢ counted false 0 2 args → r ≡ Err Pads → IsStack d args heads r
@@ -85,6 +122,16 @@ first_of (k ∷ hs) h le e = (hs, ap (λ (x : StreamHead). x ∷ hs) (sym e))
 
 side_of : (n : ℕ) → is_side n ≡ true → IsSide n
 side_of n e = let b = and_parts (nat_le 1 n) (nat_le n 16384) e in (leb-true 1 n b.0, leb-true n 16384 b.1)
+
+-- a base changes no size
+pub size_as : (d : Direction) (c : Fraction) (h : StreamHead) → size_across d (with_base c h) ≡ size_across d h
+size_as Beside c (Audio tb rate bits channels codec) = refl
+size_as Below c (Audio tb rate bits channels codec) = refl
+size_as Beside c (Video tb format width height sar_num sar_den) = refl
+size_as Below c (Video tb format width height sar_num sar_den) = refl
+
+pub has_size_as : (d : Direction) (c : Fraction) (h : StreamHead) (hs : List StreamHead) → has_size d (with_base c h) hs ≡ has_size d h hs
+has_size_as d c h hs = ap (λ n. (is_side (total d hs) && is_side n) && all_on_grid d hs) (size_as d c h)
 
 -- a stack that has a size is one of pictures, and its sides are in range
 pub sized : (d : Direction) (h : StreamHead) (hs : List StreamHead) → has_size d h hs ≡ true

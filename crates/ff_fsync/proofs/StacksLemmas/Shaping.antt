@@ -47,8 +47,7 @@ one_like d n (Audio tb rate bits channels codec) k f e p = cc
 one_like d n (Video tb format width height num den) (Audio tb' rate bits channels codec) f e p = cc
 one_like Beside n (Video tb format width height num den) (Video tb' format' width' height' num' den') f e p =
     let a = and_parts _ (nat_eq height height') e in
-    let b = and_parts _ (same_format format format') a.0 in
-    let format_so : f.format ≡ format = p.format_is ∙ sym (format_is format format' b.1) in (
+    let format_so : f.format ≡ format = p.format_is ∙ sym (format_is format format' a.0) in (
       and_from _ _ (agrees_so f p.video)
           (and_from _ _ (ap (λ x. same_format x format) format_so ∙ format_self format)
           (eq-eqb f.height height (p.rows_are ∙ sym (eqb-true height height' a.1)))),
@@ -56,8 +55,7 @@ one_like Beside n (Video tb format width height num den) (Video tb' format' widt
     )
 one_like Below n (Video tb format width height num den) (Video tb' format' width' height' num' den') f e p =
     let a = and_parts _ (nat_eq width width') e in
-    let b = and_parts _ (same_format format format') a.0 in
-    let format_so : f.format ≡ format = p.format_is ∙ sym (format_is format format' b.1) in (
+    let format_so : f.format ≡ format = p.format_is ∙ sym (format_is format format' a.0) in (
       and_from _ _ (agrees_so f p.video)
           (and_from _ _ (ap (λ x. same_format x format) format_so ∙ format_self format)
           (eq-eqb f.width width (p.columns_are ∙ sym (eqb-true width width' a.1)))),
@@ -103,12 +101,10 @@ one_on d n (Audio tb rate bits channels codec) k f e g p = cc
 one_on d n (Video tb format width height num den) (Audio tb' rate bits channels codec) f e g p = cc
 one_on Beside n (Video tb format width height num den) (Video tb' format' width' height' num' den') f e g p =
     let a = and_parts _ (nat_eq height height') e in
-    let b = and_parts _ (same_format format format') a.0 in
-    columns_so format f.width (ap (λ x. on_grid Beside x f.width) (format_is format format' b.1) ∙ (ap (λ x. on_grid Beside format' x) p.columns_are ∙ g))
+    columns_so format f.width (ap (λ x. on_grid Beside x f.width) (format_is format format' a.0) ∙ (ap (λ x. on_grid Beside format' x) p.columns_are ∙ g))
 one_on Below n (Video tb format width height num den) (Video tb' format' width' height' num' den') f e g p =
     let a = and_parts _ (nat_eq width width') e in
-    let b = and_parts _ (same_format format format') a.0 in
-    rows_so format f.height (ap (λ x. on_grid Below x f.height) (format_is format format' b.1) ∙ (ap (λ x. on_grid Below format' x) p.rows_are ∙ g))
+    rows_so format f.height (ap (λ x. on_grid Below x f.height) (format_is format format' a.0) ∙ (ap (λ x. on_grid Below format' x) p.rows_are ∙ g))
 
 all_on : (d : Direction) (n : ℕ) (h : StreamHead) (ks : List StreamHead) (fs : List VFrame) → each_of (are_alike d h) ks ≡ true → all_on_grid d ks ≡ true → OneEach ks fs
     → AreOn d (shape_of d (with_length d n h)).format fs

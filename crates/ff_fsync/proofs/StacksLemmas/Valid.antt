@@ -1,5 +1,5 @@
 -- Of valid streams a stack gives items in shape for its output.
-use Rattle.std.specs.Prelude.{◌≡◌, ◌≢◌, ℕ, suc, ◌+◌, ◌-◌, ◌<◌, ◌≤◌, ℤ, pos, negsuc, ◌≤ℤ◌, Bool, true, false, ◌&&◌, nat_le, cond, if◌then◌else◌, None, Some, List, [], ◌∷◌, ◌++◌, length, refl}
+use Rattle.std.specs.Prelude.{◌≡◌, ◌≢◌, ℕ, suc, ◌+◌, ◌-◌, ◌<◌, ◌≤◌, ℤ, pos, negsuc, ◌≤ℤ◌, Bool, true, false, ◌&&◌, nat_le, cond, if◌then◌else◌, Option, None, Some, List, [], ◌∷◌, ◌++◌, length, refl}
 use Rattle.std.proofs.Common.{inl, inr, ap, sym, ◌∙◌, subst, arith}
 use Rattle.std.proofs.lemmas.Bool.{and_parts}
 use Rattle.std.proofs.lemmas.Int.{ints}
@@ -7,15 +7,16 @@ use Rattle.ff_frame.specs.declared.config.ConfigError.{ConfigError}
 use Rattle.ff_frame.specs.declared.head.StreamHead.{StreamHead}
 use Rattle.ff_frame.specs.declared.head.StreamHead.TheVariants.{Audio as AudioHead, Video as VideoHead}
 use Rattle.ff_frame.specs.declared.video.VFrame.{VFrame}
-use Rattle.ff_frame.specs.Heads.{IsPictureFor}
+use Rattle.ff_time.specs.Fraction.{Fraction}
+use Rattle.ff_frame.specs.Heads.{base_of_head, IsPictureFor}
 use Rattle.ff_frame.specs.Video.{IsVideo, frame_size}
 use Rattle.ff_stream.specs.declared.item.Item.{Item}
-use Rattle.ff_stream.specs.declared.item.Item.TheVariants.{Audio, Video, Packet, Trailer, End, Broken}
+use Rattle.ff_stream.specs.declared.item.Item.TheVariants.{Video}
 use Rattle.ff_stream.specs.declared.item.Lane.TheVariants.{Frames}
 use Rattle.ff_stream.specs.Times.{HasTime, end_of, ticks}
 use Rattle.ff_stream.specs.Ports.{IsUnbroken}
 use Rattle.ff_stream.specs.Stream.{Mark, still_open, whole, broken}
-use Rattle.ff_stream.specs.Lanes.{FitsFrames, StartsAfter, IsItemFor, Follows, AreInShape, IsValid}
+use Rattle.ff_stream.specs.Lanes.{FitsFrames, StartsAfter, IsItemFor, Follows, AreInShape}
 use Rattle.ff_filter.specs.Joins.{Flow, Ports}
 use Rattle.ff_filter.specs.Options.{is_video}
 use Rattle.ff_filter.specs.Shifts.{start_ticks}
@@ -27,10 +28,11 @@ use Rattle.ff_fsync.specs.SyncLaws.{ready_at}
 use Rattle.ff_fsync.specs.declared.stacks.shape.Direction.{Direction}
 use Rattle.ff_fsync.specs.declared.stacks.shape.Direction.TheVariants.{Beside, Below}
 use Rattle.ff_fsync.specs.declared.stacks.shape.Shape.{Shape}
+use Rattle.ff_fsync.specs.stacks.Bases.{all_told, units_on, in_common, has_common, with_base, base_or}
 use Rattle.ff_fsync.specs.stacks.Heads.{are_alike, is_side, size_across, all_on_grid, has_size, total, with_length, stack_fault}
 use Rattle.ff_fsync.specs.stacks.Shapes.{end_ticks, fits_stack, planes_by, stacked_planes, lasts, stacked, shape_of}
 use Rattle.ff_fsync.specs.stacks.Stacks.{StackOf, stacked_of, stack_on, AreStreamsOf}
-use Rattle.ff_fsync.proofs.StacksLemmas.Keeping.{valid_kept}
+use Rattle.ff_fsync.proofs.StacksLemmas.Exact.{AreBased, AreTold, AreShaped, all_shaped, shape_based, common_there_is, common_fine, has_picture}
 use Rattle.ff_fsync.proofs.StacksLemmas.Ordering.{list_shift, last_item, ends_later, events_each, events_order}
 use Rattle.ff_fsync.proofs.StacksLemmas.Planning.{sized}
 use Rattle.ff_fsync.proofs.StacksLemmas.Shaping.{OneEach, fits_valid, planes_long}
@@ -51,36 +53,14 @@ all_video d h (k ∷ ks) e =
     let a = and_parts (are_alike d h k) (each_of (are_alike d h) ks) e in
     ap (λ b. b && each_of is_video ks) (video_like d h k a.0) ∙ all_video d h ks a.1
 
--- of valid streams none is let go
-head_kept : (h : StreamHead) (s : Flow) → is_video h ≡ true → IsValid (Frames h) s → IsValid (Frames h) (kept 0 s)
-head_kept (AudioHead tb rate bits channels codec) s e v = cc
-head_kept (VideoHead tb format width height num den) s e v =
-    subst (λ (r : Flow). IsValid (Frames (VideoHead tb format width height num den)) r) (sym (valid_kept tb format width height num den s v)) v
-
-all_kept : (hs : List StreamHead) (ss : Ports) → each_of is_video hs ≡ true → AreStreamsOf hs ss → AreStreamsOf hs (λ p. kept 0 (ss p))
-all_kept [] ss e v = tt
-all_kept (h ∷ hs) ss e v =
-    let a = and_parts (is_video h) (each_of is_video hs) e in
-    (head_kept h (ss 0) a.0 v.0, all_kept hs (λ p. ss (suc p)) a.1 v.1)
-
--- an item of a stream of pictures is a picture
-has_picture : (h : StreamHead) (x : Item) → is_video h ≡ true → FitsFrames h x → (f : VFrame) × (x ≡ Video f) × IsPictureFor h f
-has_picture (AudioHead tb rate bits channels codec) x e p = cc
-has_picture (VideoHead tb format width height num den) (Audio f) e p = absurd p
-has_picture (VideoHead tb format width height num den) (Video f) e p = (f, refl, p)
-has_picture (VideoHead tb format width height num den) (Packet f) e p = absurd p
-has_picture (VideoHead tb format width height num den) (Trailer f) e p = absurd p
-has_picture (VideoHead tb format width height num den) End e p = absurd p
-has_picture (VideoHead tb format width height num den) Broken e p = absurd p
-
 -- the last picture of a stream by a time at which it has begun
 pub record IsPicked (h : StreamHead) (t : ℕ) (xs : List Item) (f : VFrame) : Type 0 where
   pub is : last_of (λ y. nat_le (start_ticks y) t) xs ≡ Video f ∷ []
   pub picture : IsPictureFor h f
 
-picked : (h : StreamHead) (t : ℕ) (s : Flow) → is_video h ≡ true → IsValid (Frames h) s → some_of (λ y. nat_le (start_ticks y) t) s.items ≡ true
+picked : (h : StreamHead) (t : ℕ) (s : Flow) → is_video h ≡ true → AreInShape (Frames h) s.items → some_of (λ y. nat_le (start_ticks y) t) s.items ≡ true
     → (f : VFrame) × IsPicked h t s.items f
-picked h t s e v b = elim (last_item (Frames h) t s.items v.shape.each) as (λ _. (f : VFrame) × IsPicked h t s.items f) [
+picked h t s e v b = elim (last_item (Frames h) t s.items v.each) as (λ _. (f : VFrame) × IsPicked h t s.items f) [
   | inl none ↦ (let c : true ≡ false = sym b ∙ none.0 in cc)
   | inr r ↦ (
       let one = has_picture h r.0 e r.1.item.fits in
@@ -94,7 +74,7 @@ frames_first : (n : ℕ) (t : ℕ) (ss : Ports) (f : VFrame) → picks t ss 0 �
     → frames_of (list_to (suc n) (picks t ss)) ≡ f ∷ frames_of (list_to n (picks t (λ p. ss (suc p))))
 frames_first n t ss f e = ap (λ (xs : List Item). frames_of xs) (list_shift n (picks t ss) ∙ ap (λ (xs : List Item). xs ++ list_to n (picks t (λ p. ss (suc p)))) e)
 
-one_each : (hs : List StreamHead) (t : ℕ) (ss : Ports) → each_of is_video hs ≡ true → AreStreamsOf hs ss
+one_each : (hs : List StreamHead) (t : ℕ) (ss : Ports) → each_of is_video hs ≡ true → AreShaped hs ss
     → ((p : ℕ) → p < length hs → some_of (λ y. nat_le (start_ticks y) t) (ss p).items ≡ true) → OneEach hs (frames_of (list_to (length hs) (picks t ss)))
 one_each [] t ss e v b = tt
 one_each (h ∷ hs) t ss e v b =
@@ -136,7 +116,7 @@ planes_fit s fs e = ap (λ b. length (if b then planes_by s.direction s fs else 
 
 -- what is shown at the times at which something is
 module _ (d : Direction) (h : StreamHead) (hs : List StreamHead) (shortest : Bool) (ts : Ports) (alike : each_of (are_alike d h) (h ∷ hs) ≡ true)
-    (size : has_size d h (h ∷ hs) ≡ true) (valid : AreStreamsOf (h ∷ hs) ts) where
+    (size : has_size d h (h ∷ hs) ≡ true) (valid : AreShaped (h ∷ hs) ts) where
   videos : each_of is_video (h ∷ hs) ≡ true
   videos = all_video d h (h ∷ hs) alike
 
@@ -181,7 +161,7 @@ module _ (d : Direction) (h : StreamHead) (hs : List StreamHead) (shortest : Boo
       let f = picked h t (ts 0) video valid.0 (begun t a 0 (omega arith)) in
       let g = picked h u (ts 0) video valid.0 (begun u b 0 (omega arith)) in
       let ends : end_of (Video f.0) ≤ℤ end_of (Video g.0) =
-      ends_later (Frames h) (timed_so h video) t u (ts 0).items (Video f.0) (Video g.0) (omega (arith, lt)) valid.0.shape.each valid.0.shape.in_order f.1.is g.1.is in
+      ends_later (Frames h) (timed_so h video) t u (ts 0).items (Video f.0) (Video g.0) (omega (arith, lt)) valid.0.each valid.0.in_order f.1.is g.1.is in
       let first = lasts_so t f.0 f.1.is in
       let next = lasts_so u g.0 g.1.is in
       let so = ends_so t u f.0 g.0 lt (ticks_so (end_of (Video f.0)) (end_of (Video g.0)) ends) in
@@ -202,11 +182,46 @@ module _ (d : Direction) (h : StreamHead) (hs : List StreamHead) (shortest : Boo
         in_order = events_order (Frames (with_length d (total d (h ∷ hs)) h)) (is_shown k ts) show each_item each_follows 0 (horizon k ts - 0);
       }
 
-pub stacks_in_shape : (d : Direction) (h : StreamHead) (hs : List StreamHead) (shortest : Bool) (ss : Ports) → stack_fault d h (h ∷ hs) ≡ None → AreStreamsOf (h ∷ hs) ss
+shape_as : (d e : Direction) (n : ℕ) (c : Fraction) (h : StreamHead) → shape_of e (with_length d n (with_base c h)) ≡ shape_of e (with_length d n h)
+shape_as Beside e n c (AudioHead tb rate bits channels codec) = refl
+shape_as Below e n c (AudioHead tb rate bits channels codec) = refl
+shape_as Beside e n c (VideoHead tb format width height num den) = refl
+shape_as Below e n c (VideoHead tb format width height num den) = refl
+
+base_last : (d : Direction) (n : ℕ) (c : Fraction) (h : StreamHead) → with_base c (with_length d n h) ≡ with_length d n (with_base c h)
+base_last Beside n c (AudioHead tb rate bits channels codec) = refl
+base_last Below n c (AudioHead tb rate bits channels codec) = refl
+base_last Beside n c (VideoHead tb format width height num den) = refl
+base_last Below n c (VideoHead tb format width height num den) = refl
+
+base_is : (d : Direction) (n : ℕ) (c : Fraction) (h : StreamHead) → base_of_head (with_length d n (with_base c h)) ≡ c
+base_is Beside n c (AudioHead tb rate bits channels codec) = refl
+base_is Below n c (AudioHead tb rate bits channels codec) = refl
+base_is Beside n c (VideoHead tb format width height num den) = refl
+base_is Below n c (VideoHead tb format width height num den) = refl
+
+pub stacks_in_shape : (d : Direction) (h : StreamHead) (hs : List StreamHead) (shortest : Bool) (ss : Ports) → AreBased (h ∷ hs) → stack_fault d h (h ∷ hs) ≡ None → AreStreamsOf (h ∷ hs) ss
     → AreInShape (Frames (stack_on d h (h ∷ hs) shortest).head) (stacked_of (stack_on d h (h ∷ hs) shortest) ss).items
-stacks_in_shape d h hs shortest ss none valid =
-    let a = no_faults (each_of (are_alike d h) (h ∷ hs)) (has_size d h (h ∷ hs)) _ _ none in
-    in_shape d h hs shortest (λ p. kept 0 (ss p)) a.0 a.1 (all_kept (h ∷ hs) ss (all_video d h (h ∷ hs) a.0) valid)
+stacks_in_shape d h hs shortest ss based none valid =
+    let a = no_faults (has_common (h ∷ hs) && each_of (are_alike d h) (h ∷ hs)) (has_size d h (h ∷ hs)) _ _ none in
+    let b = and_parts (has_common (h ∷ hs)) (each_of (are_alike d h) (h ∷ hs)) a.0 in
+    let n = total d (h ∷ hs) in
+    let common = common_there_is (h ∷ hs) b.0 in
+    let c : Fraction = common.0 in
+    let out : StreamHead = with_length d n (with_base c h) in
+    let head : with_length d n (in_common (h ∷ hs) h) ≡ out = ap (λ (o : Option Fraction). with_length d n (with_base (base_or (base_of_head h) o) h)) common.1 in
+    let stacked_by : StreamHead → Flow = λ k. stacked_of (record { direction = d; heads = h ∷ hs; shortest = shortest; head = k }) ss in
+    let fine = common_fine (h ∷ hs) c based common.2 in
+    let shaped : AreShaped (h ∷ hs) (λ p. kept 0 (all_told (units_on (h ∷ hs) out) ss p)) =
+    all_shaped (h ∷ hs) out ss (all_video d h (h ∷ hs) b.1) (subst (λ (x : Fraction). AreTold (h ∷ hs) x) (sym (base_is d n c h)) fine) valid in
+    let ts : Ports = λ p. kept 0 (all_told (units_on (h ∷ hs) out) ss p) in
+    let first = in_shape d h hs shortest ts b.1 a.1 shaped in
+    let reshaped = shape_based c (with_length d n h) _ first in
+    let k = timed (length (h ∷ hs)) shortest in
+    let all : AreInShape (Frames out) (synced k (shown_as (stacked (shape_of d out))) ts).items =
+    subst (λ (s : Shape). AreInShape (Frames out) (synced k (shown_as (stacked s)) ts).items) (sym (shape_as d d n c h))
+    (subst (λ (x : StreamHead). AreInShape (Frames x) (synced k (shown_as (stacked (shape_of d (with_length d n h)))) ts).items) (base_last d n c h) reshaped) in
+    subst (λ (x : StreamHead). AreInShape (Frames x) (stacked_by x).items) (sym head) all
 
 not_lost : (w l g : Bool) → l ≡ false → mark_by w l g ≢ broken
 not_lost true l g e = λ b. cc
@@ -221,6 +236,6 @@ unbroken_so broken n = absurd (n refl)
 pub stacks_unbroken : (m : StackOf) (ss : Ports) → ((p : ℕ) → IsUnbroken (ss p)) → IsUnbroken (stacked_of m ss)
 stacks_unbroken m ss all =
     let k = timed (length m.heads) m.shortest in
-    let ts : Ports = λ p. kept 0 (ss p) in
+    let ts : Ports = λ p. kept 0 (all_told (units_on m.heads m.head) ss p) in
     not_lost (is_complete k ts) (any_to k.inputs (λ p. is_broken (ts p).mark)) (goes_on k ts)
     (none_from k.inputs (λ p. is_broken (ts p).mark) (λ p lt. unbroken_so (ss p).mark (all p)))

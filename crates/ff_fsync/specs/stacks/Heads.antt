@@ -1,6 +1,5 @@
 -- Which streams can be stacked, and the head of the stack.
 use Rattle.std.specs.Prelude.{ℕ, ◌+◌, ◌%◌, Bool, true, false, ◌&&◌, nat_le, nat_eq, cond, Option, Some, None, List, [], ◌∷◌, length}
-use Rattle.ff_time.specs.Fraction.{Fraction}
 use Rattle.ff_frame.specs.declared.config.ConfigError.{ConfigError}
 use Rattle.ff_frame.specs.declared.config.ConfigError.TheVariants.{Pads, Kind, Mismatch, BadSize}
 use Rattle.ff_frame.specs.declared.head.StreamHead.{StreamHead}
@@ -10,10 +9,8 @@ use Rattle.ff_frame.specs.declared.video.Format.TheVariants.{C420, C422, C444, M
 use Rattle.ff_fsync.specs.Synced.{each_of}
 use Rattle.ff_fsync.specs.declared.stacks.shape.Direction.{Direction}
 use Rattle.ff_fsync.specs.declared.stacks.shape.Direction.TheVariants.{Beside, Below}
+use Rattle.ff_fsync.specs.stacks.Bases.{has_common}
 use Rattle.ff_fsync.specs.stacks.Shapes.{same_format}
-
-abbrev pub same_base : Fraction → Fraction → Bool
-same_base a b = nat_eq a.num b.num && nat_eq a.den b.den
 
 -- how long pictures are in the direction of stacking, and in the other
 abbrev pub size_along : Direction → StreamHead → ℕ
@@ -26,12 +23,12 @@ size_across d (Audio tb rate bits channels codec) = 0
 size_across Beside (Video tb format width height sar_num sar_den) = height
 size_across Below (Video tb format width height sar_num sar_den) = width
 
--- one time base and one format; side by side one height, one below the other one width
+-- one format; side by side one height, one below the other one width
 abbrev pub are_alike : Direction → StreamHead → StreamHead → Bool
 are_alike d (Audio tb rate bits channels codec) k = false
 are_alike d (Video tb format width height sar_num sar_den) (Audio tb' rate bits channels codec) = false
 are_alike d (Video tb format width height sar_num sar_den) (Video tb' format' width' height' sar_num' sar_den') =
-    (same_base tb tb' && same_format format format')
+    same_format format format'
     && nat_eq (size_across d (Video tb format width height sar_num sar_den)) (size_across d (Video tb' format' width' height' sar_num' sar_den'))
 
 -- so many columns, or rows, of Y are whole ones of Cb and of Cr
@@ -77,4 +74,4 @@ input_fault n wanted heads = cond (nat_eq (length heads) n) (cond (each_of wante
 
 -- what is wrong with the inputs of a stack, of which this is the first
 abbrev pub stack_fault : Direction → StreamHead → List StreamHead → Option ConfigError
-stack_fault d h heads = cond (each_of (are_alike d h) heads) (cond (has_size d h heads) None (Some BadSize)) (Some Mismatch)
+stack_fault d h heads = cond (has_common heads && each_of (are_alike d h) heads) (cond (has_size d h heads) None (Some BadSize)) (Some Mismatch)

@@ -8,6 +8,7 @@ use Rattle.ff_filter.specs.Views.{View}
 use Rattle.ff_fsync.specs.Sides.{sync_view, sync_spent, left_to_show}
 use Rattle.ff_fsync.specs.Syncs.{sides_of}
 use Rattle.ff_fsync.specs.declared.stacks.stacked.Stacked.{Stacked}
+use Rattle.ff_fsync.specs.stacks.Bases.{told_view}
 use Rattle.ff_fsync.specs.stacks.Shapes.{stacked}
 use Rattle.ff_fsync.specs.stacks.Limits.{limits_view}
 
@@ -16,7 +17,9 @@ shows m = stacked m.sync.stack.shape
 
 -- what it still shows without regard to the limits
 abbrev pub sync_seen : Stacked → View
-sync_seen m = sync_view (shows m) m.sync.shortest (Frames m.sync.head) m.sync.from (sides_of m.sync.inputs.items) m.sync.ended m.sync.stopped
+sync_seen m =
+    told_view m.units.items
+    (sync_view (shows m) m.sync.shortest (Frames m.sync.head) m.sync.from (sides_of m.sync.inputs.items) m.sync.ended m.sync.stopped)
 
 abbrev pub seen : Stacked → View
 seen m = limits_view (Frames m.sync.head) m.before (sync_seen m)

@@ -1,43 +1,65 @@
 -- The laws of the machine of a stack.
-use Rattle.std.specs.Prelude.{◌≡◌, ℕ, ◌+◌, ◌⊎◌, Bool, true, false, cond, List, [], ◌∷◌, refl}
-use Rattle.std.proofs.Common.{inl, inr, sym, ◌∙◌, arith}
+use Rattle.std.specs.Prelude.{◌≡◌, ℕ, ◌+◌, ◌⊎◌, Bool, true, false, cond, List, [], ◌∷◌, map, refl}
+use Rattle.std.proofs.Common.{inl, inr, ap, sym, ◌∙◌, arith}
 use Rattle.std.proofs.lemmas.Bool.{cases_Bool, or_cases, or_left, or_right}
+use Rattle.std.proofs.lemmas.List.{map-append}
+use mathlib.Core.List.{IsPrefix}
 use Rattle.ff_stream.specs.declared.item.Item.{Item}
 use Rattle.ff_stream.specs.declared.item.Lane.TheVariants.{Frames}
-use Rattle.ff_stream.specs.Stream.{Mark, still_open, whole, broken}
+use Rattle.ff_stream.specs.Stream.{Mark, still_open, whole, broken, LiesBelow}
 use Rattle.ff_stream.specs.Ports.{nothing, IsClosed}
 use Rattle.ff_stream.specs.Within.{some_pass, passes_limits}
-use Rattle.ff_filter.specs.Joins.{Flow, Ports, silence, joined, Grows, HidesBreaks}
+use Rattle.ff_filter.specs.Joins.{Flow, Ports, silence, joined, Grows, HidesBreaks, grows_after, hides_after}
 use Rattle.ff_filter.specs.Limits.{limited, limit_step}
 use Rattle.ff_filter.specs.Made.{is_over}
 use Rattle.ff_filter.specs.Runs.{run_at, no_more}
 use Rattle.ff_filter.specs.Views.{Settles, IsSpent, IsOver, AllDone}
 use Rattle.ff_fsync.specs.SideLaws.{sync-grows, sync-hides, sync-settles, sync-quiet, sync-spent_only, sync-spent_if, sync-done_spent}
-use Rattle.ff_fsync.specs.Sides.{side_at, left_to_show}
+use Rattle.ff_fsync.specs.Sides.{side_at, left_to_show, sync_view}
 use Rattle.ff_fsync.specs.Syncs.{sides_of, sides_sound}
 use Rattle.ff_fsync.specs.declared.stacks.stacked.Stacked.{Stacked}
+use Rattle.ff_fsync.specs.stacks.Bases.{item_in, told_in, units_at, all_told}
 use Rattle.ff_fsync.specs.stacks.Limits.{limits-spent}
 use Rattle.ff_fsync.specs.stacks.Stacked.{shows, sync_seen, seen, is_cut, stack_spent}
 
+told_prefix : (n : ℕ) (xs ys : List Item) → IsPrefix xs ys → IsPrefix (map (item_in n) xs) (map (item_in n) ys)
+told_prefix n xs ys p = (map (item_in n) p.0, sym (map-append (item_in n) xs p.0) ∙ ap (λ (zs : List Item). map (item_in n) zs) p.1)
+
+told_below : (n : ℕ) (r s : Flow) → LiesBelow r s → LiesBelow (told_in n r) (told_in n s)
+told_below n r s (inl e) = inl (ap (λ (t : Flow). told_in n t) e)
+told_below n r s (inr h) = inr (h.0, told_prefix n r.items s.items h.1)
+
+pub told-grows : (us : List ℕ) → Grows (all_told us)
+told-grows us rs ss h p = told_below (units_at us p) (rs p) (ss p) (h p)
+
+pub told-hides : (us : List ℕ) → HidesBreaks (all_told us)
+told-hides us rs p = inl refl
+
 pub sync_grows : (m : Stacked) → Grows (sync_seen m).rest
 sync_grows m =
-    sync-grows (shows m) m.sync.shortest (Frames m.sync.head) m.sync.from (sides_of m.sync.inputs.items)
-    (sides_sound (Frames m.sync.head) m.sync.inputs.items) m.sync.ended m.sync.stopped
+    let v = sync_view (shows m) m.sync.shortest (Frames m.sync.head) m.sync.from (sides_of m.sync.inputs.items) m.sync.ended m.sync.stopped in
+    grows_after (all_told m.units.items) v.rest (told-grows m.units.items)
+    (sync-grows (shows m) m.sync.shortest (Frames m.sync.head) m.sync.from (sides_of m.sync.inputs.items)
+    (sides_sound (Frames m.sync.head) m.sync.inputs.items) m.sync.ended m.sync.stopped)
 
 pub sync_hides : (m : Stacked) → HidesBreaks (sync_seen m).rest
 sync_hides m =
-    sync-hides (shows m) m.sync.shortest (Frames m.sync.head) m.sync.from (sides_of m.sync.inputs.items)
-    (sides_sound (Frames m.sync.head) m.sync.inputs.items) m.sync.ended m.sync.stopped
+    let v = sync_view (shows m) m.sync.shortest (Frames m.sync.head) m.sync.from (sides_of m.sync.inputs.items) m.sync.ended m.sync.stopped in
+    hides_after (all_told m.units.items) v.rest (told-hides m.units.items)
+    (sync-hides (shows m) m.sync.shortest (Frames m.sync.head) m.sync.from (sides_of m.sync.inputs.items)
+    (sides_sound (Frames m.sync.head) m.sync.inputs.items) m.sync.ended m.sync.stopped)
+    (sync-grows (shows m) m.sync.shortest (Frames m.sync.head) m.sync.from (sides_of m.sync.inputs.items)
+    (sides_sound (Frames m.sync.head) m.sync.inputs.items) m.sync.ended m.sync.stopped)
 
 pub sync_settles : (m : Stacked) → Settles (sync_seen m)
-sync_settles m =
+sync_settles m ext h q lt on =
     sync-settles (shows m) m.sync.shortest (Frames m.sync.head) m.sync.from (sides_of m.sync.inputs.items)
-    (sides_sound (Frames m.sync.head) m.sync.inputs.items) m.sync.ended m.sync.stopped
+    (sides_sound (Frames m.sync.head) m.sync.inputs.items) m.sync.ended m.sync.stopped (all_told m.units.items ext) h q lt on
 
 pub sync_quiet : (m : Stacked) (q : ℕ) → m.sync.ended ≡ true → (ext : Ports) → (sync_seen m).rest ext q ≡ nothing
 sync_quiet m q e ext =
     sync-quiet (shows m) m.sync.shortest (Frames m.sync.head) m.sync.from (sides_of m.sync.inputs.items)
-    (sides_sound (Frames m.sync.head) m.sync.inputs.items) m.sync.ended m.sync.stopped q e ext
+    (sides_sound (Frames m.sync.head) m.sync.inputs.items) m.sync.ended m.sync.stopped q e (all_told m.units.items ext)
 
 -- within limits a stream is broken where an item passes one; else it stands as it stood
 mark_at : (passes : ℕ → Item → Bool) (n : ℕ) (xs : List Item) (m : Mark)

@@ -15,6 +15,7 @@ use Rattle.ff_fsync.specs.Sides.{kept, shown_as}
 use Rattle.ff_fsync.specs.Synced.{synced}
 use Rattle.ff_fsync.specs.declared.stacks.options.StackSettings.{StackSettings}
 use Rattle.ff_fsync.specs.declared.stacks.shape.Direction.{Direction}
+use Rattle.ff_fsync.specs.stacks.Bases.{all_told, units_on, in_common}
 use Rattle.ff_fsync.specs.stacks.Heads.{total, with_length, input_fault, stack_fault}
 use Rattle.ff_fsync.specs.stacks.Options.{stack_manual, counted}
 use Rattle.ff_fsync.specs.declared.stacks.plan.Plan.{Plan}
@@ -30,10 +31,11 @@ pub record StackOf : Type 0 where
 abbrev pub head_of : StackOf → StreamHead
 head_of m = m.head
 
--- Of streams of pictures, of each the pictures that start after those before, as all of a valid stream do: at each time at
--- which one of them starts a picture, the last of each by then, stacked.
+-- Of streams of frames, with their times in units of the output's base. Of each the frames count that start after those
+-- before, as all of a valid stream do. At each time at which one of them starts a frame: the last of each by then, stacked.
 abbrev pub stacked_of : StackOf → Ports → Flow
-stacked_of m ss = synced (timed (length m.heads) m.shortest) (shown_as (stacked (shape_of m.direction m.head))) (λ p. kept 0 (ss p))
+stacked_of m ss =
+    synced (timed (length m.heads) m.shortest) (shown_as (stacked (shape_of m.direction m.head))) (λ p. kept 0 (all_told (units_on m.heads m.head) ss p))
 
 -- each is a valid stream of its head
 abbrev pub AreStreamsOf : List StreamHead → Ports → Type 0
@@ -58,7 +60,7 @@ Unless None r Others = Others
 
 -- of these streams, of which this is the first
 abbrev pub stack_on : Direction → StreamHead → List StreamHead → Bool → StackOf
-stack_on d h heads shortest = record { direction = d; heads = heads; shortest = shortest; head = with_length d (total d heads) h }
+stack_on d h heads shortest = record { direction = d; heads = heads; shortest = shortest; head = with_length d (total d heads) (in_common heads h) }
 
 abbrev pub IsPlanned : Direction → StreamHead → List StreamHead → Bool → Result StackOf ConfigError → Type 0
 IsPlanned d h heads shortest r =
@@ -70,8 +72,8 @@ AfterRead d [] r (Ok s) = r ≡ Err Pads
 AfterRead d (h ∷ hs) r (Ok s) = IsPlanned d h (h ∷ hs) s.shortest r
 
 -- A stack by its arguments and the heads of its inputs: their number and kinds decide first, then the arguments in their
--- order, then whether the inputs are alike, then the size. The head of the stack is the first input's, with their sum in the
--- direction of stacking.
+-- order, then whether the inputs are alike and have a common base, then the size. The head of the stack is the first input's,
+-- with their sum in the direction of stacking and with the common base.
 abbrev pub IsStack : Direction → List Arg → List StreamHead → Result StackOf ConfigError → Type 0
 IsStack d args heads r =
     Unless (input_fault (counted false 0 2 args) is_video heads) r

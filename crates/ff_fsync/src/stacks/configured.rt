@@ -1,13 +1,15 @@
 //! The configuration of `hstack` and `vstack` by their arguments and the heads of their inputs.
-ghost use Rattle.std.specs.Prelude.{◌≡◌, IfOk, IfErr};
+ghost use Rattle.std.specs.Prelude.{◌≡◌, ◌<◌, IfOk, IfErr, length};
 ghost use Rattle.ff_filter.specs.Options.{IsMade, IsRefused};
 ghost use Rattle.ff_frame.specs.declared.config.ConfigError.TheVariants.{NoMemory};
+ghost use Rattle.ff_fsync.specs.stacks.Bases.{bases_of};
 ghost use Rattle.ff_fsync.specs.stacks.Heads.{with_length as head_with_length};
 ghost use Rattle.ff_fsync.specs.stacks.Shapes.{shape_of};
 ghost use Rattle.ff_fsync.specs.stacks.Stacked.{seen};
 ghost use Rattle.ff_fsync.specs.stacks.Stacks.{IsStack, IsPlanned, stack_view, stack_by, planned_by, head_of};
 
 use crate::Framesync;
+use crate::stacks::bases::{bases, units, with_base};
 use crate::stacks::heads::{all_alike, all_video, has_size, inputs_for, total};
 use crate::stacks::options::{StackSettings, count_inputs};
 use crate::stacks::plan::Plan;
@@ -17,6 +19,7 @@ use crate::stacks::stacking::Stacking;
 use ff_filter::{Filter, read_args};
 use ff_frame::{ConfigError, Format, StreamHead};
 use ff_lang::Arg;
+use ff_time::{Rational, common_base};
 use std::alloc::{AllocError, Global};
 
 // The head with so many columns, or rows.
@@ -74,15 +77,21 @@ fn shape_for(direction: Direction, head: &StreamHead) -> Shape
     }
 }
 
-// The stack of these streams, of which the first is given too.
+// The stack of these streams, of which the first is given too, and their bases.
 fn plan_for(
     direction: Direction,
     first: &StreamHead,
     heads: &[StreamHead],
+    bases: &[Rational],
     shortest: bool,
 ) -> Result<Plan, ConfigError>
+    requires some { 0 < length heads.now }
+    requires bases { bases.now ≡ bases_of heads.now }
     ensures { IsPlanned direction first.now heads.now shortest (planned_by heads.now result) }
 {
+    let Some(base) = common_base(bases) else {
+        return Err(ConfigError::Mismatch);
+    };
     if !all_alike(direction, first, heads) {
         return Err(ConfigError::Mismatch);
     }
@@ -90,7 +99,7 @@ fn plan_for(
         return Err(ConfigError::BadSize);
     }
     let length = total(direction, heads) as u32;
-    let head = with_length(direction, length, first);
+    let head = with_length(direction, length, &with_base(base, first));
     let shape = shape_for(direction, &head);
     Ok(Plan {
         shape,
@@ -99,8 +108,14 @@ fn plan_for(
     })
 }
 
-// The stack by its arguments and the heads of its inputs.
-fn planned(direction: Direction, args: &[Arg], heads: &[StreamHead]) -> Result<Plan, ConfigError>
+// The stack by its arguments, and the heads and the bases of its inputs.
+fn planned(
+    direction: Direction,
+    args: &[Arg],
+    heads: &[StreamHead],
+    bases: &[Rational],
+) -> Result<Plan, ConfigError>
+    requires { bases.now ≡ bases_of heads.now }
     ensures { IsStack direction args.now heads.now (planned_by heads.now result) }
 {
     if heads.len() != count_inputs(args) {
@@ -113,7 +128,7 @@ fn planned(direction: Direction, args: &[Arg], heads: &[StreamHead]) -> Result<P
         Err(error) => Err(error),
         Ok(settings) => match heads {
             [] => Err(ConfigError::Pads),
-            [first, ..] => plan_for(direction, first, heads, settings.shortest),
+            [first, ..] => plan_for(direction, first, heads, bases, settings.shortest),
         },
     }
 }
@@ -123,7 +138,9 @@ fn machine_for(alloc: Global, plan: &Plan, heads: &[StreamHead]) -> Result<Stack
     ensures { IfOk result (λ m. seen m ≡ stack_view (stack_by plan.now heads.now)) }
 {
     let inputs = inputs_for(alloc, heads)?;
+    let units = units(alloc, heads, &plan.head)?;
     Ok(Stacked {
+        units,
         sync: Framesync {
             stack: Stacking {
                 shape: plan.shape,
@@ -151,7 +168,10 @@ pub(crate) fn stack_for(
     ensures made { IfOk result (λ r. IsMade (IsStack direction args.now heads.now) stack_view head_of (⟦<Stacked as Filter>⟧.view r.0) r.1.items) }
     ensures refused { IfErr result (IsRefused (IsStack direction args.now heads.now)) }
 {
-    match planned(direction, args, heads) {
+    let Ok(bases) = bases(alloc, heads) else {
+        return Err(ConfigError::NoMemory);
+    };
+    match planned(direction, args, heads, bases.as_slice()) {
         Err(error) => Err(error),
         Ok(plan) => match machine_for(alloc, &plan, heads) {
             Err(_) => Err(ConfigError::NoMemory),

@@ -5,13 +5,12 @@ ghost use Rattle.ff_filter.specs.Options.{is_video};
 ghost use Rattle.ff_fsync.specs.Sides.{no_side};
 ghost use Rattle.ff_fsync.specs.Syncs.{sides_of};
 ghost use Rattle.ff_fsync.specs.Synced.{each_of};
-ghost use Rattle.ff_fsync.specs.stacks.Heads.{size_along, size_across, same_base, are_alike, on_grid};
+ghost use Rattle.ff_fsync.specs.stacks.Heads.{size_along, size_across, are_alike, on_grid};
 ghost use Rattle.ff_fsync.specs.stacks.Heads.{head_on_grid, all_on_grid, total, has_size};
 
 use crate::Input;
 use crate::stacks::shape::{Direction, same_format};
 use ff_frame::{Format, StreamHead};
-use ff_time::Rational;
 use std::alloc::{AllocError, Global};
 
 /// Whether all of these streams are video.
@@ -25,13 +24,6 @@ pub(crate) fn all_video(heads: &[StreamHead]) -> bool
         }
     }
     true
-}
-
-// Whether two time bases are one.
-fn same_base(a: Rational, b: Rational) -> bool
-    ensures { result ≡ same_base a b }
-{
-    a.num() == b.num() && a.den() == b.den()
 }
 
 // How long frames are in the direction of stacking.
@@ -66,17 +58,12 @@ fn alike(direction: Direction, a: &StreamHead, b: &StreamHead) -> bool
 {
     match *a {
         StreamHead::Audio { .. } => false,
-        StreamHead::Video { tb, format, .. } => match *b {
+        StreamHead::Video { format, .. } => match *b {
             StreamHead::Audio { .. } => false,
             StreamHead::Video {
-                tb: other_tb,
                 format: other_format,
                 ..
-            } => {
-                same_base(tb, other_tb)
-                    && same_format(format, other_format)
-                    && across(direction, a) == across(direction, b)
-            }
+            } => same_format(format, other_format) && across(direction, a) == across(direction, b),
         },
     }
 }

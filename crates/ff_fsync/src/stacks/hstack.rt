@@ -20,7 +20,7 @@ impl HStack {
     /// this order of places, are `inputs` and `shortest`. `inputs` is a whole number of 2 to 16, and 2 where it isn't
     /// given. `shortest` is 0 or 1, and 0 where it isn't given. It refuses in this order: `Pads` where there aren't
     /// so many inputs, `Kind` where one is audio, `UnknownOption` and `BadOption` by argument. Then come `Mismatch`
-    /// where time bases, formats or heights differ, and `BadSize`. The widths then come to more than 16,384, or one
+    /// where the inputs have no common base, or formats or heights differ, and `BadSize`. The widths then come to more than 16,384, or one
     /// but the last is odd where two columns share a sample of Cb.
     pub fn configure(
         alloc: Global,

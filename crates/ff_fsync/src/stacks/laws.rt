@@ -1,6 +1,9 @@
 //! Laws of stacks: functions that do nothing, whose clauses hold of all values.
-ghost use Rattle.std.specs.Prelude.{◌≡◌, ℕ, Bool, None, List, [], ◌∷◌};
-ghost use Rattle.ff_time.specs.Fraction.{Fraction};
+ghost use Rattle.std.specs.Prelude.{◌≡◌, ℕ, true, All, Bool, None, List, [], ◌∷◌};
+ghost use Rattle.ff_time.specs.Fraction.{Fraction, IsBase};
+ghost use Rattle.ff_time.specs.Common.{IsUnits, units_of};
+ghost use Rattle.ff_frame.specs.Heads.{base_of_head};
+ghost use Rattle.ff_filter.specs.Options.{is_video};
 ghost use Rattle.ff_frame.specs.declared.head.StreamHead.{StreamHead};
 ghost use Rattle.ff_frame.specs.declared.head.StreamHead.TheVariants.{Video as VideoHead};
 ghost use Rattle.ff_frame.specs.declared.video.Format.{Format};
@@ -12,6 +15,7 @@ ghost use Rattle.ff_fsync.specs.Sides.{kept};
 ghost use Rattle.ff_fsync.specs.declared.stacks.shape.Direction.{Direction};
 ghost use Rattle.ff_fsync.specs.declared.stacks.shape.Direction.TheVariants.{Beside, Below};
 ghost use Rattle.ff_fsync.specs.stacks.Examples.{grey, grey_stack, two_streams, whole_of};
+ghost use Rattle.ff_fsync.specs.stacks.Bases.{bases_of, told_in, IsExact};
 ghost use Rattle.ff_fsync.specs.stacks.Heads.{stack_fault};
 ghost use Rattle.ff_fsync.specs.stacks.Stacks.{StackOf, stacked_of, stack_on, AreStreamsOf};
 
@@ -33,7 +37,19 @@ pub fn stacks_keep_valid_streams()
 /// ends before one that was shown before it. Where no stream breaks off, neither does the stack.
 pub fn stacks_of_valid_streams()
     ensures shape { (d : Direction) (h : StreamHead) (hs : List StreamHead) (shortest : Bool) (ss : Ports)
-        → stack_fault d h (h ∷ hs) ≡ None → AreStreamsOf (h ∷ hs) ss
+        → All IsBase (bases_of (h ∷ hs)) → stack_fault d h (h ∷ hs) ≡ None → AreStreamsOf (h ∷ hs) ss
         → AreInShape (Frames (stack_on d h (h ∷ hs) shortest).head) (stacked_of (stack_on d h (h ∷ hs) shortest) ss).items }
     ensures unbroken { (m : StackOf) (ss : Ports) → ((p : ℕ) → IsUnbroken (ss p)) → IsUnbroken (stacked_of m ss) }
+{}
+
+/// Over equal bases the times of frames stay as they are.
+pub fn equal_bases_keep_times()
+    ensures { (s : Flow) → told_in 1 s ≡ s }
+{}
+
+/// In the units of a common base, each time of a valid stream is told exactly.
+pub fn common_bases_keep_times()
+    ensures { (h : StreamHead) (c : Fraction) (s : Flow) → is_video h ≡ true → IsBase (base_of_head h) → IsBase c
+        → IsUnits (units_of (base_of_head h) c) (base_of_head h) c → IsValid (Frames h) s
+        → All (IsExact (units_of (base_of_head h) c)) s.items }
 {}

@@ -7,12 +7,14 @@ ghost use Rattle.ff_fsync.specs.Inputs.{items_of, last_by};
 ghost use Rattle.ff_fsync.specs.Sides.{frames_of};
 ghost use Rattle.ff_fsync.specs.Synced.{pictures};
 ghost use Rattle.ff_fsync.specs.Syncs.{timing_of, standing_of, IsDue};
+ghost use Rattle.ff_fsync.specs.stacks.Bases.{units_at};
 ghost use Rattle.ff_fsync.specs.stacks.Shapes.{lasts as lasts_at};
 ghost use Rattle.ff_fsync.specs.stacks.Limits.{limits_view, limits-grows, limits-hides, limits-settles, limits-quiet};
 ghost use Rattle.ff_fsync.specs.stacks.Stacked.{seen, sync_seen, is_cut as is_cut_of, stack_spent};
 ghost use Rattle.ff_fsync.specs.stacks.StackedLaws.{sync_grows, sync_hides, sync_settles};
 ghost use Rattle.ff_fsync.specs.stacks.StackedLaws.{sync_quiet, stacked-spent_only, stacked-shut_spent, stacked-done_spent};
 
+use crate::stacks::bases::{at_times, item_in, times};
 use crate::stacks::limits::{end_ticks, is_long};
 use crate::stacks::stacked::Stacked;
 use crate::stacks::stacking::lasts_of;
@@ -50,6 +52,17 @@ fn lasts_by(queue: &VecDeque<VFrame>, time: u64) -> u64
 }
 
 impl Stacked {
+    // How many units of the output's base are in one of an input's.
+    fn units_of(&self, port: usize) -> u64
+        ensures { result ≡ units_at self.now.units.items port }
+    {
+        if port < self.units.len() {
+            self.units[port]
+        } else {
+            1
+        }
+    }
+
     // How long what is due at a time is shown.
     fn lasts(&self, from: u64, time: u64) -> u64
         requires due { IsDue (timing_of self.now.sync.shortest self.now.sync.inputs.items) from
@@ -138,7 +151,14 @@ impl Filter for Stacked {
     }
 
     fn feed(&mut self, port: usize, item: Item) -> Result<(), Refused> {
-        self.sync.feed(port, item)
+        let times = times(&item);
+        let units = self.units_of(port);
+        match self.sync.feed(port, item_in(units, item)) {
+            Ok(()) => Ok(()),
+            Err(refused) => Err(Refused {
+                item: at_times(times, refused.item),
+            }),
+        }
     }
 
     fn pull(&mut self, port: usize) -> Result<Option<Item>, AllocError> {

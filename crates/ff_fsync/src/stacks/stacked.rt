@@ -7,6 +7,8 @@ use crate::stacks::stacking::Stacking;
 /// Shows the frames of several inputs stacked, within the limits of every stream.
 #[derive(Drop)]
 pub struct Stacked {
+    /// Of each input, how many units of the output's base are in one of its own.
+    pub units: Vec<u64>,
     /// The frames of each time, stacked.
     pub sync: Framesync<Stacking>,
     /// How many frames it gave.

@@ -23,8 +23,8 @@ pub struct Stacking {
     pub ghost rows: { IsSide shape.height },
 }
 
-// When a frame ends, in ticks from 0; what lies before 0 counts as 0.
-fn end_of(picture: &VFrame) -> u64
+/// When a frame ends, in ticks from 0; what lies before 0 counts as 0.
+pub(crate) fn end_of(picture: &VFrame) -> u64
     ensures { result ≡ end_ticks picture.now }
 {
     let end = picture.pts as i128 + picture.duration as i128;

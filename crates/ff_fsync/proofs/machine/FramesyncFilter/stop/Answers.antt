@@ -1,4 +1,3 @@
-use Rattle.std.proofs.Common.{refl}
 use Rattle.ff_stream.specs.declared.item.Lane.TheVariants.{Frames}
 use Rattle.ff_fsync.specs.Syncs.{sides_of}
 use Rattle.ff_fsync.proofs.Showing.{idle_stopped}

@@ -6,4 +6,4 @@ use Rattle.ff_fsync.proofs.stacks.configured.machine_for.Goals as goal
 pub returns : goal.returns
 returns c =
     let p = c.args.plan.now in
-    seen_new (stack_by p c.args.heads.now) p.shape (sides_of c.in_ok-inputs.inputs.items) p.shaped c.in_ok-inputs.ensures
+    seen_new (stack_by p c.args.heads.now) p.shape (sides_of c.in_ok-inputs.inputs.items) c.in_ok-units.units.items p.shaped c.in_ok-inputs.ensures c.in_ok-units.ensures

@@ -1,4 +1,4 @@
-use Rattle.std.proofs.Common.{◌≡◌, ℕ, ◌+◌, [], ◌∷◌, ap, sym, ◌∙◌, refl, arith, true, false}
+use Rattle.std.proofs.Common.{◌≡◌, ℕ, ◌+◌, [], ◌∷◌, ap, sym, ◌∙◌, arith, true, false}
 use Rattle.ff_frame.specs.declared.head.StreamHead.{StreamHead}
 use Rattle.ff_filter.specs.Made.{is_over}
 use Rattle.std.proofs.lemmas.Bool.{iff_false}
@@ -9,6 +9,7 @@ use Rattle.ff_filter.specs.Limits.{limited}
 use Rattle.ff_filter.specs.Views.{View, closes}
 use Rattle.ff_fsync.specs.Sides.{side_at, sync_view}
 use Rattle.ff_fsync.specs.Syncs.{sides_of}
+use Rattle.ff_fsync.specs.stacks.Bases.{told_view}
 use Rattle.ff_fsync.specs.stacks.Limits.{long_at, limits_view}
 use Rattle.ff_fsync.specs.stacks.Shapes.{stacked}
 use Rattle.ff_fsync.specs.stacks.Stacked.{sync_seen}
@@ -34,7 +35,7 @@ returns-then-is_long c = λ v one g.
     let late : passes_limits lane m.before x ≡ true = ap (λ n. long_at m.sync.head m.before n) (sym c.end_ticks.ensures.is) ∙ (sym c.is_long.ensures.is ∙ c.if-is_long.true) in
     let n = c.let_go.new.self in
     let e = c.let_go.ensures in
-    let u : View = limits_view (Frames n.head) m.before (sync_view (stacked n.stack.shape) n.shortest (Frames n.head) n.from (sides_of n.inputs.items) n.ended n.stopped) in
+    let u : View = limits_view (Frames n.head) m.before (told_view m.units.items (sync_view (stacked n.stack.shape) n.shortest (Frames n.head) n.from (sides_of n.inputs.items) n.ended n.stopped)) in
     let after : (p : ℕ) → (side_at (Frames n.head) (sides_of n.inputs.items) p).after ≡ (side_at lane (sides_of m.sync.inputs.items) p).after = rw e.head e.emptied.shut in
     limits_cut lane m.before v (sync_seen m) u 0 x more late (alone_at v 0 one (omega (arith, one))) g e.emptied.lanes (ap (λ (h : StreamHead). Frames h ∷ []) e.head)
     (λ i p. is_over (after p i)) (λ i q. e.stopped i) e.ended
