@@ -43,7 +43,7 @@ copied_lanes : (n : ℕ) (h : StreamHead) → replicate n (Frames h) ≡ map Fra
 copied_lanes zero h = refl
 copied_lanes (suc n) h = ap (λ (ls : List Lane). Frames h ∷ ls) (copied_lanes n h)
 
-copied_heads : (n : ℕ) (h k : StreamHead) → Becomes h k → AllByRecursion (λ j. Becomes h j) (replicate n k)
+copied_heads : (n : ℕ) (h k : StreamHead) → Becomes (h ∷ []) k → AllByRecursion (λ j. Becomes (h ∷ []) j) (replicate n k)
 copied_heads zero h k is = tt
 copied_heads (suc n) h k is = (is, copied_heads n h k is)
 
@@ -70,7 +70,7 @@ split_owed takes_sound wanted =
       outs = copied_lanes n p.head;
       new = record { shut = λ q. refl; ended = λ q. refl; stopped = λ q. refl };
       owes = λ timed. split_owes (p.head, n);
-      become = copied_heads n p.head p.head (itself p.head);
+      become = copied_heads n p.head p.head (itself p.head []);
       count = length-replicate n p.head ∙ split_read false 0 (record { outputs = 2 }) args p.settings p.read;
     }))
 
@@ -91,7 +91,7 @@ channelsplit_owed =
       outs = copied_lanes (channels_in p.head) (mono_head p.head);
       new = record { shut = λ q. refl; ended = λ q. refl; stopped = λ q. refl };
       owes = λ timed. channels_owes p.head p.kind;
-      become = copied_heads (channels_in p.head) p.head (mono_head p.head) (mono p.head);
+      become = copied_heads (channels_in p.head) p.head (mono_head p.head) (mono p.head []);
       count = (refl, p.kind, length-replicate (channels_in p.head) (mono_head p.head), refl);
     }))
 
@@ -109,8 +109,8 @@ stacked_gives d (h ∷ hs) s m e =
       ins = ap (λ (x : StackOf). map Frames x.heads) (sym same);
       outs = refl;
       new = record { shut = λ p. refl; ended = λ q. refl; stopped = λ q. refl };
-      owes = λ timed. stack_owes d (h ∷ hs) s m e;
-      becomes = subst (λ (x : StackOf). Becomes h (head_of x)) same (longer h d (total d (h ∷ hs)));
+      owes = λ timed. stack_owes d (h ∷ hs) s m timed e;
+      becomes = subst (λ (x : StackOf). Becomes (h ∷ hs) (head_of x)) same (longer h hs d (total d (h ∷ hs)));
     }
 
 pub stack_owed : (d : Direction) → Owed (merging (counted false 0 2) (λ args. false) (stack_by d) (λ heads. stack_view) head_of) (one (IsStack d) (λ heads. stack_view) head_of)
@@ -138,7 +138,7 @@ segments_give (h ∷ hs) m e =
       outs = refl;
       new = record { shut = λ p. refl; ended = λ q. refl; stopped = λ q. refl };
       owes = λ timed. concat_owes h (length (h ∷ hs)) timed.0;
-      becomes = itself h;
+      becomes = itself h hs;
     })
 
 pub concat_owed : Owed (definition_of filter.Concat) (relation_of filter.Concat)
@@ -163,7 +163,7 @@ joined_gives (h ∷ hs) m sounds e =
       outs = refl;
       new = record { shut = λ p. refl; ended = λ q. refl; stopped = λ q. refl };
       owes = λ timed. join_owes (h ∷ hs) m sounds e;
-      becomes = subst (λ (x : StreamHead). Becomes h x) (same_ok (with_channels h (all_channels (h ∷ hs))) m second.1) (joined h hs second.0);
+      becomes = subst (λ (x : StreamHead). Becomes (h ∷ hs) x) (same_ok (with_channels h (all_channels (h ∷ hs))) m second.1) (joined h hs second.0);
     }
 
 join_few : (args : List Arg) → inputs_said args ≤ 16

@@ -49,7 +49,7 @@ null_owed takes_sound wanted = plain_owed takes_sound wanted (IsPass wanted) pas
       outs = refl;
       new = record { shut = λ p. refl; ended = λ q. refl; stopped = λ q. refl };
       owes = pass_owes (pass_of h);
-      becomes = itself h;
+      becomes = itself h [];
     })
 
 abbrev trim_of : StreamHead → Times → Trim
@@ -62,7 +62,7 @@ trim_owed = free_owed false is_video IsTrim range_manual set_times all_times tri
       outs = refl;
       new = record { shut = λ p. refl; ended = λ q. refl; stopped = λ q. refl };
       owes = trim_owes (trim_of h u);
-      becomes = itself h;
+      becomes = itself h [];
     })
 
 abbrev atrim_of : StreamHead → Times → ATrim
@@ -75,7 +75,7 @@ atrim_owed = free_owed true is_sound IsATrim range_manual set_times all_times at
       outs = refl;
       new = record { shut = λ p. refl; ended = λ q. refl; stopped = λ q. refl };
       owes = atrim_owes (atrim_of h u) k;
-      becomes = itself h;
+      becomes = itself h [];
     })
 
 rebase_single : (h : StreamHead) (u : ExprSettings) (m : Rebase) → rebased_as h u ≡ Ok m → IsSingle h (rebase_view m) m.head
@@ -87,7 +87,7 @@ rebase_single h u m e =
       outs = refl;
       new = record { shut = λ p. refl; ended = λ q. refl; stopped = λ q. refl };
       owes = rebase_owes (record { head = h; first = None });
-      becomes = itself h;
+      becomes = itself h [];
     })
 
 pub setpts_owed : (takes_sound : Bool) (wanted : StreamHead → Bool) → Owed (single takes_sound (rebase_by wanted) rebase_view (λ m. m.head))
@@ -112,7 +112,7 @@ crop_owed = single_owed false is_video IsCrop crop_manual set_crop (record { siz
       outs = refl;
       new = record { shut = λ p. refl; ended = λ q. refl; stopped = λ q. refl };
       owes = crop_owes h u m e;
-      becomes = subst (λ (x : StreamHead). Becomes x (crop_head m)) (sym (crop_keeps h u m e)) (resized m.0 m.1.width m.1.height);
+      becomes = subst (λ (x : StreamHead). Becomes (x ∷ []) (crop_head m)) (sym (crop_keeps h u m e)) (resized m.0 [] m.1.width m.1.height);
     })
 
 pad_keeps : (h : StreamHead) (u : PadSettings) (m : Padded) → padded_as h u ≡ Ok m → h ≡ m.head
@@ -130,7 +130,7 @@ pad_owed = single_owed false is_video IsPad pad_manual set_pad (record { sizes =
       outs = refl;
       new = record { shut = λ p. refl; ended = λ q. refl; stopped = λ q. refl };
       owes = pad_owes h u m e;
-      becomes = subst (λ (x : StreamHead). Becomes x (pad_head m)) (sym (pad_keeps h u m e)) (resized m.head m.width m.height);
+      becomes = subst (λ (x : StreamHead). Becomes (x ∷ []) (pad_head m)) (sym (pad_keeps h u m e)) (resized m.head [] m.width m.height);
     })
 
 pub hflip_owed : Owed (definition_of filter.HFlip) (relation_of filter.HFlip)
@@ -140,7 +140,7 @@ hflip_owed = plain_owed false is_video IsHFlip (λ h. h) hflip_view (λ h. h) (p
       outs = refl;
       new = record { shut = λ p. refl; ended = λ q. refl; stopped = λ q. refl };
       owes = hflip_owes h k;
-      becomes = itself h;
+      becomes = itself h [];
     })
 
 pub vflip_owed : Owed (definition_of filter.VFlip) (relation_of filter.VFlip)
@@ -150,7 +150,7 @@ vflip_owed = plain_owed false is_video IsVFlip (λ h. h) vflip_view (λ h. h) (p
       outs = refl;
       new = record { shut = λ p. refl; ended = λ q. refl; stopped = λ q. refl };
       owes = vflip_owes h k;
-      becomes = itself h;
+      becomes = itself h [];
     })
 
 pub fps_owed : Owed (definition_of filter.Fps) (relation_of filter.Fps)
@@ -161,5 +161,5 @@ fps_owed = sure_owed false is_video IsFps fps_manual set_fps (record { base = re
       outs = refl;
       new = record { shut = λ p. refl; ended = λ q. refl; stopped = λ q. refl };
       owes = fps_owes h u.base k;
-      becomes = paced h u.base base;
+      becomes = paced h [] u.base base;
     })

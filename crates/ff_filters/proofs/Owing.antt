@@ -14,6 +14,7 @@ use Rattle.ff_vfilter.specs.Sizes.{sized}
 use Rattle.ff_vfilter.specs.FpsOptions.{fps_head}
 use Rattle.ff_afilter.specs.Channels.{mono_head, channels_in}
 use Rattle.ff_fsync.specs.declared.stacks.shape.Direction.{Direction}
+use Rattle.ff_fsync.specs.stacks.Bases.{in_common}
 use Rattle.ff_fsync.specs.stacks.Heads.{with_length}
 use Rattle.ff_joins.specs.JoinOptions.{channels_in as all_channels, with_channels}
 use Rattle.ff_filters.specs.Configured.{Filtered, filtered}
@@ -24,33 +25,34 @@ use Rattle.ff_filters.proofs.Refusing.{HasReason}
 
 -- ---- what becomes of a head
 
-pub data Becomes : StreamHead → StreamHead → Type 0 where
-  itself : (h : StreamHead) → Becomes h h
-  resized : (h : StreamHead) (w k : ℕ) → Becomes h (sized h w k)
-  paced : (h : StreamHead) (base : Fraction) → IsBase base → Becomes h (fps_head (h, base))
-  mono : (h : StreamHead) → Becomes h (mono_head h)
-  longer : (h : StreamHead) (d : Direction) (n : ℕ) → Becomes h (with_length d n h)
-  joined : (h : StreamHead) (hs : List StreamHead) → nat_le (all_channels (h ∷ hs)) 8 ≡ true → Becomes h (with_channels h (all_channels (h ∷ hs)))
+-- of the first of several heads
+pub data Becomes : List StreamHead → StreamHead → Type 0 where
+  itself : (h : StreamHead) (hs : List StreamHead) → Becomes (h ∷ hs) h
+  resized : (h : StreamHead) (hs : List StreamHead) (w k : ℕ) → Becomes (h ∷ hs) (sized h w k)
+  paced : (h : StreamHead) (hs : List StreamHead) (base : Fraction) → IsBase base → Becomes (h ∷ hs) (fps_head (h, base))
+  mono : (h : StreamHead) (hs : List StreamHead) → Becomes (h ∷ hs) (mono_head h)
+  longer : (h : StreamHead) (hs : List StreamHead) (d : Direction) (n : ℕ) → Becomes (h ∷ hs) (with_length d n (in_common (h ∷ hs) h))
+  joined : (h : StreamHead) (hs : List StreamHead) → nat_le (all_channels (h ∷ hs)) 8 ≡ true → Becomes (h ∷ hs) (with_channels h (all_channels (h ∷ hs)))
 
 -- what is so of a head stays so of what becomes of it
 pub record IsKept (P : StreamHead → Type 0) : Type 0 where
   pub sized_too : (h : StreamHead) (w k : ℕ) → P h → P (sized h w k)
   pub paced_too : (h : StreamHead) (base : Fraction) → IsBase base → P h → P (fps_head (h, base))
   pub mono_too : (h : StreamHead) → P h → P (mono_head h)
-  pub longer_too : (d : Direction) (n : ℕ) (h : StreamHead) → P h → P (with_length d n h)
+  pub longer_too : (d : Direction) (n : ℕ) (h : StreamHead) (hs : List StreamHead) → AllByRecursion P (h ∷ hs) → P (with_length d n (in_common (h ∷ hs) h))
   pub joined_too : (h : StreamHead) (hs : List StreamHead) → nat_le (all_channels (h ∷ hs)) 8 ≡ true → P h → P (with_channels h (all_channels (h ∷ hs)))
 
-becomes_so : (P : StreamHead → Type 0) → IsKept P → {h k : StreamHead} → Becomes h k → P h → P k
-becomes_so P keeps (itself h) p = p
-becomes_so P keeps (resized h w k) p = keeps.sized_too h w k p
-becomes_so P keeps (paced h base is) p = keeps.paced_too h base is p
-becomes_so P keeps (mono h) p = keeps.mono_too h p
-becomes_so P keeps (longer h d n) p = keeps.longer_too d n h p
-becomes_so P keeps (joined h hs few) p = keeps.joined_too h hs few p
+becomes_so : (P : StreamHead → Type 0) → IsKept P → {hs : List StreamHead} {k : StreamHead} → Becomes hs k → AllByRecursion P hs → P k
+becomes_so P keeps (itself h hs) all = all.0
+becomes_so P keeps (resized h hs w k) all = keeps.sized_too h w k all.0
+becomes_so P keeps (paced h hs base is) all = keeps.paced_too h base is all.0
+becomes_so P keeps (mono h hs) all = keeps.mono_too h all.0
+becomes_so P keeps (longer h hs d n) all = keeps.longer_too d n h hs all
+becomes_so P keeps (joined h hs few) all = keeps.joined_too h hs few all.0
 
-all_so : (P : StreamHead → Type 0) → IsKept P → (h : StreamHead) (ks : List StreamHead) → AllByRecursion (λ k. Becomes h k) ks → P h → AllByRecursion P ks
-all_so P keeps h [] all p = tt
-all_so P keeps h (k ∷ ks) all p = (becomes_so P keeps all.0 p, all_so P keeps h ks all.1 p)
+all_so : (P : StreamHead → Type 0) → IsKept P → (hs ks : List StreamHead) → AllByRecursion (λ k. Becomes hs k) ks → AllByRecursion P hs → AllByRecursion P ks
+all_so P keeps hs [] are all = tt
+all_so P keeps hs (k ∷ ks) are all = (becomes_so P keeps are.0 all, all_so P keeps hs ks are.1 all)
 
 -- ---- what a filter that isn't refused gives
 
@@ -68,7 +70,7 @@ pub record Gives (d : Definition) (args : List Arg) (heads : List StreamHead) (f
   pub outs : f.view.outs ≡ map Frames f.outs
   pub new : IsNew f.view
   pub owes : AreTimed heads → Owes f.view.ins f.view.outs f.view.rest
-  pub become : AllByRecursion (λ k. Becomes first k) f.outs
+  pub become : AllByRecursion (λ k. Becomes (first ∷ others) k) f.outs
   pub count : Counted d.is_apart first others (length f.outs) (d.outputs args)
 
 -- one to 16 output pads, or none that is linked without a label
@@ -93,7 +95,7 @@ pub record Owed (d : Definition) (r : Relation) : Type 0 where
 -- what is so of the heads of its inputs, is so of those of its outputs
 pub kept_by : (P : StreamHead → Type 0) → IsKept P → (d : Definition) (args : List Arg) (heads : List StreamHead) (f : Filtered) → Gives d args heads f
     → AllByRecursion P heads → AllByRecursion P f.outs
-kept_by P keeps d args heads f g all = all_so P keeps g.first f.outs g.become (subst (λ (hs : List StreamHead). AllByRecursion P hs) g.fed all).0
+kept_by P keeps d args heads f g all = all_so P keeps (g.first ∷ g.others) f.outs g.become (subst (λ (hs : List StreamHead). AllByRecursion P hs) g.fed all)
 
 -- ---- whoever is configured so owes it
 
@@ -127,7 +129,7 @@ pub record GivesOne (heads : List StreamHead) (v : View) (k : StreamHead) : Type
   pub outs : v.outs ≡ Frames k ∷ []
   pub new : IsNew v
   pub owes : AreTimed heads → Owes v.ins v.outs v.rest
-  pub becomes : Becomes first k
+  pub becomes : Becomes (first ∷ others) k
 
 module _ {X : Type 0} (is : List Arg → List StreamHead → Result X ConfigError → Type 0) (by : List Arg → List StreamHead → Result X ConfigError)
     (same : (args : List Arg) (heads : List StreamHead) (r : Result X ConfigError) → is args heads r → by args heads ≡ r)

@@ -23,7 +23,7 @@ pub record IsSingle (h : StreamHead) (v : View) (k : StreamHead) : Type 0 where
   pub outs : v.outs ≡ Frames k ∷ []
   pub new : IsNew v
   pub owes : Owes v.ins v.outs v.rest
-  pub becomes : Becomes h k
+  pub becomes : Becomes (h ∷ []) k
 
 -- `Fits` is what each value keeps of the settings
 module _ {S T X : Type 0} (takes_sound : Bool) (wanted : StreamHead → Bool) (is : List Arg → List StreamHead → Result X ConfigError → Type 0)

@@ -1,7 +1,10 @@
 -- What every filter keeps of heads.
-use Rattle.std.proofs.Common.{◌≡◌, ℕ, ◌≤◌, nat_le, true, List, ◌∷◌, arith}
+use Rattle.std.proofs.Common.{◌≡◌, ℕ, ◌≤◌, nat_le, true, List, [], ◌∷◌, arith}
+use Rattle.std.specs.List.{All, AllByRecursion}
 use Rattle.std.proofs.lemmas.Bool.Decides.{nat_tests}
+use Rattle.std.proofs.lemmas.List.Elements.{All-nil, All-cons}
 use Rattle.ff_time.specs.Fraction.{Fraction, IsBase}
+use Rattle.ff_frame.specs.Heads.{base_of_head}
 use Rattle.ff_frame.specs.declared.head.StreamHead.{StreamHead}
 use Rattle.ff_frame.specs.declared.head.StreamHead.TheVariants.{Audio, Video}
 use Rattle.ff_vfilter.specs.Sizes.{sized}
@@ -9,7 +12,9 @@ use Rattle.ff_vfilter.specs.FpsOptions.{fps_head}
 use Rattle.ff_afilter.specs.Channels.{mono_head}
 use Rattle.ff_fsync.specs.declared.stacks.shape.Direction.{Direction}
 use Rattle.ff_fsync.specs.declared.stacks.shape.Direction.TheVariants.{Beside, Below}
+use Rattle.ff_fsync.specs.stacks.Bases.{bases_of, in_common, with_base}
 use Rattle.ff_fsync.specs.stacks.Heads.{with_length}
+use Rattle.ff_fsync.proofs.StacksLemmas.Exact.{in_common_based}
 use Rattle.ff_joins.specs.JoinOptions.{channels_in, with_channels}
 use Rattle.ff_filters.proofs.Owing.{IsKept}
 use Rattle.ff_words.specs.declared.job.OutputJob.{OutputJob}
@@ -30,10 +35,18 @@ mono_fit : (h : StreamHead) → IsFitHead h → IsFitHead (mono_head h)
 mono_fit (Audio tb rate bits channels codec) fit = record { base = fit.base; channels = (omega arith, omega arith) }
 mono_fit (Video tb format width height sar_num sar_den) fit = fit
 
-long_fit : (d : Direction) (n : ℕ) (h : StreamHead) → IsFitHead h → IsFitHead (with_length d n h)
-long_fit d n (Audio tb rate bits channels codec) fit = fit
-long_fit Beside n (Video tb format width height sar_num sar_den) fit = record { base = fit.base; channels = tt }
-long_fit Below n (Video tb format width height sar_num sar_den) fit = record { base = fit.base; channels = tt }
+all_based : (heads : List StreamHead) → AllByRecursion IsFitHead heads → All IsBase (bases_of heads)
+all_based [] all = All-nil IsBase
+all_based (h ∷ hs) all = All-cons IsBase (base_of_head h) (bases_of hs) all.0.base (all_based hs all.1)
+
+long_fit : (d : Direction) (n : ℕ) (h : StreamHead) (hs : List StreamHead) → AllByRecursion IsFitHead (h ∷ hs) → IsFitHead (with_length d n (in_common (h ∷ hs) h))
+long_fit d n h hs all = at d h (in_common_based h hs (all_based (h ∷ hs) all)) all.0
+  where
+    at : (e : Direction) (k : StreamHead) {c : Fraction} → IsBase c → IsFitHead k → IsFitHead (with_length e n (with_base c k))
+    at Beside (Audio tb rate bits channels codec) base fit = record { base = base; channels = fit.channels }
+    at Below (Audio tb rate bits channels codec) base fit = record { base = base; channels = fit.channels }
+    at Beside (Video tb format width height sar_num sar_den) base fit = record { base = base; channels = tt }
+    at Below (Video tb format width height sar_num sar_den) base fit = record { base = base; channels = tt }
 
 joined_fit : (h : StreamHead) (hs : List StreamHead) → nat_le (channels_in (h ∷ hs)) 8 ≡ true → IsFitHead h → IsFitHead (with_channels h (channels_in (h ∷ hs)))
 joined_fit (Audio tb rate bits channels codec) hs few fit =
@@ -58,10 +71,12 @@ mono_taken : (out : OutputJob) (h : StreamHead) → takes_head out h ≡ true �
 mono_taken out (Audio tb rate bits channels codec) e = e
 mono_taken out (Video tb format width height sar_num sar_den) e = e
 
-long_taken : (out : OutputJob) (d : Direction) (n : ℕ) (h : StreamHead) → takes_head out h ≡ true → takes_head out (with_length d n h) ≡ true
-long_taken out d n (Audio tb rate bits channels codec) e = e
-long_taken out Beside n (Video tb format width height sar_num sar_den) e = e
-long_taken out Below n (Video tb format width height sar_num sar_den) e = e
+long_taken : (out : OutputJob) (d : Direction) (n : ℕ) (h : StreamHead) (hs : List StreamHead) → AllByRecursion (λ k. takes_head out k ≡ true) (h ∷ hs)
+    → takes_head out (with_length d n (in_common (h ∷ hs) h)) ≡ true
+long_taken out Beside n (Audio tb rate bits channels codec) hs all = all.0
+long_taken out Below n (Audio tb rate bits channels codec) hs all = all.0
+long_taken out Beside n (Video tb format width height sar_num sar_den) hs all = all.0
+long_taken out Below n (Video tb format width height sar_num sar_den) hs all = all.0
 
 joined_taken : (out : OutputJob) (h : StreamHead) (hs : List StreamHead) → nat_le (channels_in (h ∷ hs)) 8 ≡ true → takes_head out h ≡ true
     → takes_head out (with_channels h (channels_in (h ∷ hs))) ≡ true

@@ -2,6 +2,7 @@
 use Rattle.std.proofs.Common.{◌≡◌, ℕ, zero, suc, ℤ, ◌+◌, ◌-◌, ◌<◌, Bool, true, false, nat_le, Option, Some, None, Result, Ok, List, [], ◌∷◌, length, get_or, map}
 use Rattle.std.proofs.Common.{refl, sym, ap, subst, ◌∙◌, arith}
 use Rattle.std.specs.Prelude.{replicate}
+use Rattle.std.proofs.lemmas.List.Elements.{All-nil, All-cons}
 use Rattle.ff_time.specs.Fraction.{IsBase}
 use Rattle.ff_frame.specs.declared.config.ConfigError.{ConfigError}
 use Rattle.ff_frame.specs.declared.config.ConfigError.TheVariants.{Mismatch, BadSize}
@@ -18,7 +19,7 @@ use Rattle.ff_stream.specs.Within.{within, passes_limits}
 use Rattle.ff_stream.specs.WithinLaws.{within_valid}
 use Rattle.ff_net.specs.Ways.{lane_at, IsValidOn, AreValid}
 use Rattle.ff_filter.specs.declared.after.After.TheVariants.{More}
-use Rattle.ff_filter.specs.Joins.{Flow, Ports, all_opened, Grows, HidesBreaks}
+use Rattle.ff_filter.specs.Joins.{Flow, Ports, all_opened, Grows, HidesBreaks, grows_after, hides_after}
 use Rattle.ff_filter.specs.Limits.{limited, limited_is}
 use Rattle.ff_filter.specs.LimitLaws.{limited-below, limited-calm}
 use Rattle.ff_filter.specs.Options.{is_sound}
@@ -27,11 +28,14 @@ use Rattle.ff_fsync.specs.Sides.{Sound, sync_view}
 use Rattle.ff_fsync.specs.SideLaws.{sync-grows, sync-hides}
 use Rattle.ff_fsync.specs.declared.stacks.shape.Direction.{Direction}
 use Rattle.ff_fsync.specs.declared.stacks.options.StackSettings.{StackSettings}
+use Rattle.ff_fsync.specs.stacks.Bases.{bases_of, units_on, all_told, told_view}
+use Rattle.ff_fsync.specs.stacks.StackedLaws.{told-grows, told-hides}
 use Rattle.ff_fsync.specs.stacks.Heads.{stack_fault}
 use Rattle.ff_fsync.specs.stacks.Limits.{limits-grows, limits-hides}
 use Rattle.ff_fsync.specs.stacks.Shapes.{stacked, shape_of}
 use Rattle.ff_fsync.specs.stacks.Stacks.{StackOf, stack_on, stacked_of, stack_view, AreStreamsOf}
 use Rattle.ff_fsync.proofs.StacksLemmas.Seeing.{none_came, stack_seen}
+use Rattle.ff_fsync.proofs.StacksLemmas.Exact.{AreBased}
 use Rattle.ff_fsync.proofs.StacksLemmas.Valid.{stacks_in_shape}
 use Rattle.ff_joins.specs.Arguments.{Checked, each_head}
 use Rattle.ff_joins.specs.Concats.{concatenated}
@@ -45,6 +49,7 @@ use Rattle.ff_joins.specs.LotLaws.{lots-grows, lots-hides}
 use Rattle.ff_joins.proofs.JoinHeads.{join_valid}
 use Rattle.ff_joins.proofs.SegmentShape.{segments_valid}
 use Rattle.ff_node_filter.specs.Tasks.{ported}
+use Rattle.ff_filters.specs.limited.Cuts.{AreTimed}
 use Rattle.ff_filters.specs.Configured.{stacked_as, checked, joined_as}
 use Rattle.ff_filters.proofs.Parting.{unless_ok}
 use Rattle.ff_filters.proofs.LimitedLemmas.Opening.{Owes}
@@ -65,30 +70,43 @@ streams_of : (hs : List StreamHead) (ss : Ports) → ((p : ℕ) → IsValidOn (l
 streams_of [] ss v = tt
 streams_of (h ∷ hs) ss v = (v 0, streams_of hs (λ p. ss (suc p)) (λ p. v (suc p)))
 
+abbrev sync_before : StackOf → View
+sync_before m = sync_view (stacked (shape_of m.direction m.head)) m.shortest (Frames m.head) 0 (none_came m.heads) false false
+
+before_grows : (m : StackOf) → Grows (sync_before m).rest
+before_grows m = sync-grows (stacked (shape_of m.direction m.head)) m.shortest (Frames m.head) 0 (none_came m.heads) (sound_none (Frames m.head) m.heads) false false
+
+before_hides : (m : StackOf) → HidesBreaks (sync_before m).rest
+before_hides m = sync-hides (stacked (shape_of m.direction m.head)) m.shortest (Frames m.head) 0 (none_came m.heads) (sound_none (Frames m.head) m.heads) false false
+
 stack_before : StackOf → View
-stack_before m = sync_view (stacked (shape_of m.direction m.head)) m.shortest (Frames m.head) 0 (none_came m.heads) false false
+stack_before m = told_view (units_on m.heads m.head) (sync_view (stacked (shape_of m.direction m.head)) m.shortest (Frames m.head) 0 (none_came m.heads) false false)
 
 stack_grows : (m : StackOf) → Grows (stack_view m).rest
 unfolding stack_before
 stack_grows m =
     subst (λ (v : View). Grows v.rest) (stack_seen m)
     (limits-grows (Frames m.head) 0 (stack_before m)
-    (sync-grows (stacked (shape_of m.direction m.head)) m.shortest (Frames m.head) 0 (none_came m.heads) (sound_none (Frames m.head) m.heads) false false))
+    (grows_after (all_told (units_on m.heads m.head)) (sync_before m).rest (told-grows (units_on m.heads m.head)) (before_grows m)))
 
 stack_hides : (m : StackOf) → HidesBreaks (stack_view m).rest
 unfolding stack_before
 stack_hides m =
     subst (λ (v : View). HidesBreaks v.rest) (stack_seen m)
     (limits-hides (Frames m.head) 0 (stack_before m)
-    (sync-hides (stacked (shape_of m.direction m.head)) m.shortest (Frames m.head) 0 (none_came m.heads) (sound_none (Frames m.head) m.heads) false false))
+    (hides_after (all_told (units_on m.heads m.head)) (sync_before m).rest (told-hides (units_on m.heads m.head)) (before_hides m) (before_grows m)))
 
 same_ok : {X : Type 0} (x y : X) → (let r : Result X ConfigError = Ok x in r) ≡ Ok y → x ≡ y
 same_ok x y e = cc
 
-pub stack_owes : (d : Direction) (heads : List StreamHead) (s : StackSettings) (m : StackOf) → stacked_as d heads s ≡ Ok m
+are_based : (heads : List StreamHead) → AreTimed heads → AreBased heads
+are_based [] timed = All-nil IsBase
+are_based (h ∷ hs) timed = All-cons IsBase (base_of_head h) (bases_of hs) timed.0 (are_based hs timed.1)
+
+pub stack_owes : (d : Direction) (heads : List StreamHead) (s : StackSettings) (m : StackOf) → AreTimed heads → stacked_as d heads s ≡ Ok m
     → Owes (stack_view m).ins (stack_view m).outs (stack_view m).rest
-stack_owes d [] s m e = cc
-stack_owes d (h ∷ hs) s m e =
+stack_owes d [] s m timed e = cc
+stack_owes d (h ∷ hs) s m timed e =
     let k = unless_ok (stack_fault d h (h ∷ hs)) (Ok (stack_on d h (h ∷ hs) s.shortest)) m e in
     let n = stack_on d h (h ∷ hs) s.shortest in
     subst (λ (x : StackOf). Owes (stack_view x).ins (stack_view x).outs (stack_view x).rest) (same_ok n m k.1)
@@ -96,7 +114,7 @@ stack_owes d (h ∷ hs) s m e =
       grows = stack_grows n;
       hides = stack_hides n;
       keeps = λ ss v. one_valid n.head (stack_view n).rest ss
-          (within_valid (Frames n.head) (stacked_of n (stream_at ss)) (stacks_in_shape d h hs s.shortest (stream_at ss) k.0 (streams_of (h ∷ hs) (stream_at ss) v)));
+          (within_valid (Frames n.head) (stacked_of n (stream_at ss)) (stacks_in_shape d h hs s.shortest (stream_at ss) (are_based (h ∷ hs) timed) k.0 (streams_of (h ∷ hs) (stream_at ss) v)));
     })
 
 -- ---- segments

@@ -1,6 +1,7 @@
 -- What filters keep of heads: that they have time bases, and that sound has a channel.
 use Rattle.std.proofs.Common.{ℕ, ◌≤◌, List, [], ◌∷◌, arith}
-use Rattle.std.specs.List.{AllByRecursion}
+use Rattle.std.specs.List.{All, AllByRecursion}
+use Rattle.std.proofs.lemmas.List.Elements.{All-nil, All-cons}
 use Rattle.ff_time.specs.Fraction.{Fraction, IsBase}
 use Rattle.ff_frame.specs.declared.head.StreamHead.{StreamHead}
 use Rattle.ff_frame.specs.declared.head.StreamHead.TheVariants.{Audio, Video}
@@ -10,7 +11,9 @@ use Rattle.ff_vfilter.specs.FpsOptions.{fps_head}
 use Rattle.ff_afilter.specs.Channels.{mono_head}
 use Rattle.ff_fsync.specs.declared.stacks.shape.Direction.{Direction}
 use Rattle.ff_fsync.specs.declared.stacks.shape.Direction.TheVariants.{Beside, Below}
+use Rattle.ff_fsync.specs.stacks.Bases.{bases_of, in_common}
 use Rattle.ff_fsync.specs.stacks.Heads.{with_length}
+use Rattle.ff_fsync.proofs.StacksLemmas.Exact.{in_common_based}
 use Rattle.ff_joins.specs.JoinOptions.{channels_in, with_channels}
 use Rattle.ff_filters.specs.limited.Cuts.{AreTimed}
 use Rattle.ff_filters.proofs.Owing.{IsKept}
@@ -41,10 +44,17 @@ mono_timed : (h : StreamHead) → IsTimed h → IsTimed (mono_head h)
 mono_timed (Audio tb rate bits channels codec) t = t
 mono_timed (Video tb format width height sar_num sar_den) t = t
 
-longer_timed : (d : Direction) (n : ℕ) (h : StreamHead) → IsTimed h → IsTimed (with_length d n h)
-longer_timed d n (Audio tb rate bits channels codec) t = t
-longer_timed Beside n (Video tb format width height sar_num sar_den) t = t
-longer_timed Below n (Video tb format width height sar_num sar_den) t = t
+all_based : (heads : List StreamHead) → AllByRecursion IsTimed heads → All IsBase (bases_of heads)
+all_based [] all = All-nil IsBase
+all_based (h ∷ hs) all = All-cons IsBase (base_of_head h) (bases_of hs) all.0 (all_based hs all.1)
+
+longer_timed : (d : Direction) (n : ℕ) (h : StreamHead) (hs : List StreamHead) → AllByRecursion IsTimed (h ∷ hs) → IsTimed (with_length d n (in_common (h ∷ hs) h))
+longer_timed Beside n (Audio tb rate bits channels codec) hs all = in_common_based (Audio tb rate bits channels codec) hs (all_based (Audio tb rate bits channels codec ∷ hs) all)
+longer_timed Below n (Audio tb rate bits channels codec) hs all = in_common_based (Audio tb rate bits channels codec) hs (all_based (Audio tb rate bits channels codec ∷ hs) all)
+longer_timed Beside n (Video tb format width height sar_num sar_den) hs all =
+    in_common_based (Video tb format width height sar_num sar_den) hs (all_based (Video tb format width height sar_num sar_den ∷ hs) all)
+longer_timed Below n (Video tb format width height sar_num sar_den) hs all =
+    in_common_based (Video tb format width height sar_num sar_den) hs (all_based (Video tb format width height sar_num sar_den ∷ hs) all)
 
 joined_timed : (h : StreamHead) (hs : List StreamHead) → IsTimed h → IsTimed (with_channels h (channels_in (h ∷ hs)))
 joined_timed (Audio tb rate bits channels codec) hs t = t
@@ -67,10 +77,11 @@ mono_heard : (h : StreamHead) → HasChannel h → HasChannel (mono_head h)
 mono_heard (Audio tb rate bits channels codec) t = omega arith
 mono_heard (Video tb format width height sar_num sar_den) t = tt
 
-longer_heard : (d : Direction) (n : ℕ) (h : StreamHead) → HasChannel h → HasChannel (with_length d n h)
-longer_heard d n (Audio tb rate bits channels codec) t = t
-longer_heard Beside n (Video tb format width height sar_num sar_den) t = tt
-longer_heard Below n (Video tb format width height sar_num sar_den) t = tt
+longer_heard : (d : Direction) (n : ℕ) (h : StreamHead) (hs : List StreamHead) → AllByRecursion HasChannel (h ∷ hs) → HasChannel (with_length d n (in_common (h ∷ hs) h))
+longer_heard Beside n (Audio tb rate bits channels codec) hs all = all.0
+longer_heard Below n (Audio tb rate bits channels codec) hs all = all.0
+longer_heard Beside n (Video tb format width height sar_num sar_den) hs all = tt
+longer_heard Below n (Video tb format width height sar_num sar_den) hs all = tt
 
 joined_heard : (h : StreamHead) (hs : List StreamHead) → HasChannel h → HasChannel (with_channels h (channels_in (h ∷ hs)))
 joined_heard (Audio tb rate bits channels codec) hs t = (let some : 1 ≤ channels = t in omega (arith, some))
