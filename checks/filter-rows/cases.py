@@ -467,8 +467,28 @@ def stack_edges():
     return rows
 
 
+def stack_bases():
+    """Inputs of different time bases, each with each mark, and bases that have none in common."""
+    rows = []
+    for one, two in ((Fraction(1, 25), Fraction(1, 30)), (Fraction(1001, 30000), Fraction(1, 25)), (Fraction(2, 3), Fraction(4, 9)), (Fraction(1), Fraction(1, 1000000))):
+        heads = [GREY._replace(base=one), GREY._replace(base=two)]
+        streams = [pictures(heads[0], [(0, 1), (1, 1), (2, 2)], 10), pictures(heads[1], [(0, 1), (1, 2), (3, 1)], 50)]
+        for shortest, (a, b) in itertools.product((0, 1), itertools.product((OPEN, WHOLE, BROKEN), repeat=2)):
+            for order in (by_port, last_first):
+                rows.append(steps(f"hstack of bases {one} and {two}, shortest {shortest}: {a}, {b}, {'first' if order is by_port else 'last'} input first",
+                                  f"hstack=2:{shortest}", heads, order([(streams[0], a), (streams[1], b)])))
+    three = [GREY._replace(base=Fraction(1, rate)) for rate in (24, 25, 30)]
+    for shortest in (0, 1):
+        streams = [(pictures(head, [(0, 1), (1, 1), (2, 1)], 10 + 40 * n), WHOLE) for n, head in enumerate(three)]
+        rows.append(steps(f"vstack of 24, 25 and 30 a second, shortest {shortest}", f"vstack=3:{shortest}", three, by_port(streams)))
+    for bases in (("1/1000000", "1/1"), ("1/1000001", "1/1"), ("1/1000001", "1/1000001"), ("1/1000", "1/1001"), ("1/999", "1/1001"), ("1/97", "1/101", "1/102"),
+                  ("1/100", "1/101", "1/103"), ("1/1000001", "1/1000001", "1/1"), ("2147483647/999999", "1/9")):
+        rows.append(configure(f"hstack={len(bases)}", [GREY._replace(base=Fraction(base)) for base in bases]))
+    return rows
+
+
 def of_stacks():
-    return stack_marks() + stack_three() + stack_orders() + stack_shapes() + stack_edges()
+    return stack_marks() + stack_three() + stack_orders() + stack_shapes() + stack_edges() + stack_bases()
 
 
 # One after another ---------------------------------------------------------------------------------------------------------------------

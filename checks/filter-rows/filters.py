@@ -7,7 +7,7 @@ import collections
 import itertools
 import re
 from fractions import Fraction
-from math import ceil, floor, gcd
+from math import ceil, floor, gcd, lcm
 
 OPEN, WHOLE, BROKEN = "open", "whole", "broken"
 Stream = collections.namedtuple("Stream", "items mark")
@@ -339,20 +339,34 @@ def channelsplit(args, heads):
 
 # Several inputs ------------------------------------------------------------------------------------------------------------------------
 
+def common_base(bases):
+    """The greatest base in which the times of each are whole; None where they differ and it isn't at least 1/1000000 of a whole number."""
+    if len(set(bases)) == 1:
+        return bases[0]
+    under = lcm(*(base.denominator for base in bases))
+    return None if under > 1_000_000 else Fraction(gcd(*(base.numerator for base in bases)), under)
+
+
 def stack(args, heads, beside):
     """Pictures of several inputs side by side, or one below the other, at each time at which one of them starts a picture."""
     options = [("inputs", ["inputs"], number(5, 2, 16)), ("shortest", ["shortest"], number(5, 0, 1))]
     check_inputs(heads, last(args, options, "inputs", 2), False)
     shortest = read_args(args, options).get("shortest", 0) == 1
     first = heads[0]
-    if any((head.base, head.format, head.height if beside else head.width) != (first.base, first.format, first.height if beside else first.width)
-           for head in heads):
+    base = common_base([head.base for head in heads])
+    if base is None or any((head.format, head.height if beside else head.width) != (first.format, first.height if beside else first.width)
+                           for head in heads):
         raise Refused("mismatch")
     lengths = [head.width if beside else head.height for head in heads]
     step = grid(first.format)[0 if beside else 1]
     if sum(lengths) > 16384 or any(length % step for length in lengths[:-1]):
         raise Refused("bad size")
-    out = first._replace(width=sum(lengths)) if beside else first._replace(height=sum(lengths))
+    out = first._replace(base=base, width=sum(lengths)) if beside else first._replace(base=base, height=sum(lengths))
+
+    def told(streams):
+        """The streams with their times in the common base."""
+        units = [int(head.base / base) for head in heads]
+        return [Stream([(item[0] * n, item[1] * n, *item[2:]) for item in s.items], s.mark) for s, n in zip(streams, units)]
 
     def shown(streams, t):
         pictures = [[item for item in s.items if item[0] <= t][-1] for s in streams]
@@ -365,6 +379,7 @@ def stack(args, heads, beside):
         return frame(out, t, end - t, joined)
 
     def function(streams):
+        streams = told(streams)
         times = sorted({item[0] for s in streams for item in s.items})
         events = [t for t in times if all(any(item[0] <= t for item in s.items) for s in streams)]
         if shortest:
@@ -381,7 +396,7 @@ def stack(args, heads, beside):
         items, _ = streams[p]
         own = heads[p]
         black = [[[0] * columns for _ in range(rows)] for columns, rows in sizes(own.format, own.width, own.height)]
-        times = sorted({item[0] + n for s in streams for item in s.items for n in (0, 1, 2)} | {0})
+        times = sorted({floor(item[0] * head.base / own.base) + n for s, head in zip(streams, heads) for item in s.items for n in (0, 1, 2)} | {0})
         more = list(items)
         for t in times:
             if not more or t > more[-1][0]:

@@ -40,6 +40,7 @@ pub fn answer(alloc: Global, name: &str, arguments: &[String]) -> Result<String,
     let words = Words::new(alloc, arguments);
     match name {
         "base" => time::base(words),
+        "common_base" => time::common(words),
         "rescale" => time::rescaled(words),
         "compare" => time::compared(words),
         "least_units" => time::least_units(words),

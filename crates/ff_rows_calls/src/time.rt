@@ -1,7 +1,7 @@
 //! Calls on times and time bases.
 use crate::table::Stop;
 use crate::words::Words;
-use ff_time::{Rational, TimeError, ceil_units, compare, read_duration, rescale};
+use ff_time::{Rational, TimeError, ceil_units, common_base, compare, read_duration, rescale};
 use std::alloc::Global;
 use std::cmp::Ordering;
 
@@ -23,6 +23,24 @@ pub fn base(words: Words) -> Result<String, Stop> {
             Ok(format!(in words.alloc; "{num}/{den}")?)
         }
         Err(error) => fault(words.alloc, error),
+    }
+}
+
+/// `common_base BASE..`: the common base of one or more, or `none`.
+pub fn common(words: Words) -> Result<String, Stop> {
+    let mut bases = Vec::new(words.alloc);
+    for at in 0..words.len() {
+        bases.push(words.base(at)?)?;
+    }
+    if bases.is_empty() {
+        return Err(Stop::Unreadable);
+    }
+    match common_base(bases.as_slice()) {
+        None => Ok(String::from_str(words.alloc, "none")?),
+        Some(base) => {
+            let (num, den) = (base.num(), base.den());
+            Ok(format!(in words.alloc; "{num}/{den}")?)
+        }
     }
 }
 
