@@ -1,4 +1,5 @@
 pub mod Alls
+pub mod Bases
 pub mod Closing
 pub mod Exact
 pub mod Fitting

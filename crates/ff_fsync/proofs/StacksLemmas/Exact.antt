@@ -24,8 +24,9 @@ use Rattle.ff_filter.specs.Joins.{Flow, Ports}
 use Rattle.ff_filter.specs.Options.{is_video}
 use Rattle.ff_fsync.specs.Sides.{kept}
 use Rattle.ff_fsync.specs.Synced.{each_of}
-use Rattle.ff_fsync.specs.stacks.Bases.{bases_of, common_of, common_of_is, base_or, has_common, with_base, start_in, end_in, frame_in, item_in, told_in, units_on, all_told, IsExact}
-use Rattle.ff_fsync.specs.stacks.CommonBases.{all_one}
+use Rattle.ff_fsync.specs.stacks.CommonBases.{common_of}
+use Rattle.ff_fsync.proofs.StacksLemmas.Bases.{all_one, common_of_is}
+use Rattle.ff_fsync.specs.stacks.Bases.{bases_of, base_or, has_common, with_base, start_in, end_in, frame_in, item_in, told_in, units_on, all_told, IsExact}
 use Rattle.ff_fsync.specs.stacks.Stacks.{AreStreamsOf}
 use Rattle.ff_fsync.proofs.StacksLemmas.Keeping.{shape_kept}
 

@@ -19,7 +19,9 @@ use Rattle.ff_fsync.specs.declared.stacks.options.StackSettings.{StackSettings}
 use Rattle.ff_fsync.specs.declared.stacks.plan.Plan.{Plan}
 use Rattle.ff_fsync.specs.declared.stacks.shape.Direction.{Direction}
 use Rattle.ff_fsync.specs.declared.stacks.shape.Direction.TheVariants.{Beside, Below}
-use Rattle.ff_fsync.specs.stacks.Bases.{bases_of, common_of, common_of_is, base_or, with_base, in_common, has_common}
+use Rattle.ff_fsync.specs.stacks.CommonBases.{common_of}
+use Rattle.ff_fsync.proofs.StacksLemmas.Bases.{common_of_is}
+use Rattle.ff_fsync.specs.stacks.Bases.{bases_of, base_or, with_base, in_common, has_common}
 use Rattle.ff_fsync.specs.stacks.Heads.{size_across, total, is_side, all_on_grid, has_size, are_alike, with_length}
 use Rattle.ff_fsync.specs.stacks.Options.{stack_manual, counted}
 use Rattle.ff_fsync.specs.stacks.Shapes.{shape_of}

@@ -1,7 +1,7 @@
 -- The common base of a stack's inputs, and streams with their times in its units.
 use Rattle.std.specs.Prelude.{◌≡◌, ℕ, zero, suc, ◌*◌, ◌-◌, min, cond, nat_eq, Bool, ℤ, pos, ◌+ℤ◌, Option, None, Some, List, [], ◌∷◌, map, is_some}
 use Rattle.ff_time.specs.Fraction.{Fraction}
-use Rattle.ff_time.specs.Common.{IsCommonOf, units_of}
+use Rattle.ff_time.specs.Common.{units_of}
 use Rattle.ff_frame.specs.Heads.{base_of_head}
 use Rattle.ff_frame.specs.declared.head.StreamHead.{StreamHead}
 use Rattle.ff_frame.specs.declared.head.StreamHead.TheVariants.{Audio as AudioHead, Video as VideoHead}
@@ -11,20 +11,12 @@ use Rattle.ff_stream.specs.declared.item.Item.TheVariants.{Audio, Video, Packet,
 use Rattle.ff_stream.specs.Times.{ticks, start_of, end_of}
 use Rattle.ff_filter.specs.Joins.{Flow, Ports}
 use Rattle.ff_filter.specs.Views.{View}
-use Rattle.ff_fsync.specs.stacks.CommonBases.{common_there}
+use Rattle.ff_fsync.specs.stacks.CommonBases.{common_of}
 
 -- ---- bases
 
 abbrev pub bases_of : List StreamHead → List Fraction
 bases_of heads = map base_of_head heads
-
--- the common base, where there is one
-pub common_of : List Fraction → Option Fraction
-common_of bases = (common_there bases).0
-
-pub common_of_is : (bases : List Fraction) → IsCommonOf bases (common_of bases)
-unfolding common_of
-common_of_is bases = (common_there bases).1
 
 -- the head with its times in units of this base
 abbrev pub with_base : Fraction → StreamHead → StreamHead
