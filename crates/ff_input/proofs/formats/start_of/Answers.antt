@@ -1,4 +1,4 @@
-use Rattle.std.proofs.Common.{[], refl, lit≤}
+use Rattle.std.proofs.Common.{[], refl, lit≤, inl, inr}
 use Rattle.ff_input.specs.Formats.{input_head}
 use Rattle.ff_input.proofs.formats.start_of.Goals as goal
 
@@ -20,12 +20,8 @@ returns-in-Au c = rw c.in-Au.is (λ more. refl, ([], [], refl, (lit≤ tt, c.new
 
 pub returns-in-FrameHash : goal.returns-in-FrameHash
 unfolding input_head
-returns-in-FrameHash c = rw c.in-FrameHash.is (λ more. refl)
-
-pub returns-in-FrameMd5 : goal.returns-in-FrameMd5
-unfolding input_head
-returns-in-FrameMd5 c = rw c.in-FrameMd5.is (λ more. refl)
-
-pub returns-in-FrameCrc : goal.returns-in-FrameCrc
-unfolding input_head
-returns-in-FrameCrc c = rw c.in-FrameCrc.is (λ more. refl)
+returns-in-FrameHash c = elim c.in-FrameHash.is [
+  | inl e ↦ rw e (λ more. refl)
+  | inr (inl e) ↦ rw e (λ more. refl)
+  | inr (inr e) ↦ rw e (λ more. refl)
+]
