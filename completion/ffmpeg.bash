@@ -17,7 +17,6 @@ _ffmpeg_words() {
       offered='sha256 md5'
       [[ $word != [A-Z]* ]] || offered='SHA256 MD5'
       ;;
-    -rf64) offered='never auto always' ;;
     -loglevel | -v) offered='quiet panic fatal error warning info verbose debug trace' ;;
     -fps_mode) offered='passthrough' ;;
     -vsync) offered='passthrough 0' ;;
@@ -33,7 +32,7 @@ _ffmpeg_words() {
         offered+=' -fflags -flags -flags:a -flags:v -map_metadata -map_chapters -metadata -strict'
         offered+=' -threads -filter_threads -filter_complex_threads -max_muxing_queue_size -fps_mode -vsync'
         offered+=' -filter_complex -lavfi -thread_queue_size -sched_trace -h -version -selfrun'
-        offered+=' -f -ss -t -i -map -c:a -codec:a -acodec -c:v -codec:v -vcodec -vf -filter:v -af -filter:a -vn -an -shortest -hash -rf64'
+        offered+=' -f -ss -t -i -map -c:a -codec:a -acodec -c:v -codec:v -vcodec -vf -filter:v -af -filter:a -vn -an -shortest -hash'
       fi
       ;;
   esac

@@ -49,10 +49,7 @@ fn is_flac_coded(coded: &StreamHead) -> bool
 fn options_of(out: &OutputJob) -> OutputOptions
     ensures { result ≡ said_by out.now }
 {
-    OutputOptions {
-        hash: out.hash,
-        rf64: out.rf64,
-    }
+    OutputOptions { hash: out.hash }
 }
 
 /// How many packets are on no queue: the one that waits for room on it, and the one that is being decoded.
