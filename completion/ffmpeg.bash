@@ -17,6 +17,7 @@ _ffmpeg_words() {
       offered='sha256 md5'
       [[ $word != [A-Z]* ]] || offered='SHA256 MD5'
       ;;
+    -rf64) offered='never auto always' ;;
     -loglevel | -v) offered='quiet panic fatal error warning info verbose debug trace' ;;
     -fps_mode) offered='passthrough' ;;
     -vsync) offered='passthrough 0' ;;
@@ -32,7 +33,7 @@ _ffmpeg_words() {
         offered+=' -fflags -flags -flags:a -flags:v -map_metadata -map_chapters -metadata -strict'
         offered+=' -threads -filter_threads -filter_complex_threads -max_muxing_queue_size -fps_mode -vsync'
         offered+=' -filter_complex -lavfi -thread_queue_size -sched_trace -h -version -selfrun'
-        offered+=' -f -ss -t -i -map -c:a -codec:a -acodec -c:v -codec:v -vcodec -vf -filter:v -af -filter:a -vn -an -shortest -hash'
+        offered+=' -f -ss -t -i -map -c:a -codec:a -acodec -c:v -codec:v -vcodec -vf -filter:v -af -filter:a -vn -an -shortest -hash -rf64'
       fi
       ;;
   esac

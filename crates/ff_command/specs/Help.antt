@@ -56,6 +56,7 @@ taken kind.VideoCodec = codes " CODEC"
 taken kind.VideoGraph = codes " GRAPH"
 taken kind.AudioGraph = codes " GRAPH"
 taken kind.Hash = codes " DIGEST"
+taken kind.Rf64 = codes " WHEN"
 taken _ = []
 
 -- what it does
@@ -86,6 +87,7 @@ effect kind.NoVideo = codes "no video from the inputs"
 effect kind.NoAudio = codes "no audio from the inputs"
 effect kind.Shortest = codes "all streams end where the shortest does"
 effect kind.Hash = codes "the digest of packets, SHA256 or MD5; without it that of the format"
+effect kind.Rf64 = codes "whether a WAV is RF64, never, auto (past 4 GiB) or always; never without it"
 
 -- the line of an option
 abbrev pub option_line : List ℕ → Concern → Kind → List ℕ

@@ -70,6 +70,7 @@ fn value_text(kind: Kind) -> &'static str
         Kind::Map => " MAP",
         Kind::AudioCodec | Kind::VideoCodec => " CODEC",
         Kind::Hash => " DIGEST",
+        Kind::Rf64 => " WHEN",
         _ => "",
     }
 }
@@ -105,6 +106,7 @@ fn effect(kind: Kind) -> &'static str
         Kind::NoAudio => "no audio from the inputs",
         Kind::Shortest => "all streams end where the shortest does",
         Kind::Hash => "the digest of packets, SHA256 or MD5; without it that of the format",
+        Kind::Rf64 => "whether a WAV is RF64, never, auto (past 4 GiB) or always; never without it",
     }
 }
 

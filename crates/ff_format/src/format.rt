@@ -183,9 +183,22 @@ impl FileFormat {
     }
 }
 
+/// When a WAV output is of the form RF64, which holds bodies past 4 GiB (EBU Tech 3306).
+#[derive(Clone, Copy, Debug, PartialEq, Eq)]
+pub enum Rf64 {
+    /// Never: a longer body is refused.
+    Never,
+    /// Where its sizes don't fit in 32 bits.
+    Auto,
+    /// Always.
+    Always,
+}
+
 /// What the options of an output say to its format.
 #[derive(Clone, Copy, Debug, PartialEq, Eq)]
 pub struct OutputOptions {
     /// Which digest stands for the bytes of a packet, where the format has one.
     pub hash: HashKind,
+    /// When it is RF64, where it is WAV.
+    pub rf64: Rf64,
 }

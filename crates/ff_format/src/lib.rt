@@ -15,6 +15,6 @@ mod format;
 mod laws;
 mod writer;
 
-pub use format::{FORMATS, FileFormat, OutputOptions, SoundTaken, Taken};
+pub use format::{FORMATS, FileFormat, OutputOptions, Rf64, SoundTaken, Taken};
 pub use laws::the_formats_are_as_defined;
 pub use writer::{Patch, TooLarge, Writer};

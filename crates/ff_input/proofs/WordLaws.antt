@@ -17,6 +17,7 @@ use Rattle.ff_au.specs.HeadLaws as au_laws
 use Rattle.ff_au.specs.Heads as au
 use Rattle.ff_pcm_cut.specs.declared.head.PcmHead.{PcmHead}
 use Rattle.ff_wav.specs.HeadLaws as wav_laws
+use Rattle.ff_wav.proofs.FormLaws as wav_forms
 use Rattle.ff_y4m.specs.Heads as y4m
 use Rattle.ff_y4m.specs.Lines.{line_feed, space}
 use Rattle.ff_y4m.proofs.HeadLaws as y4m_laws
@@ -82,11 +83,20 @@ line_head ws bs p e l a = ap (λ xs. head_in format.Y4m xs) (are_these ws bs l a
 
 -- ---- each word
 
-wav_word : IsFirstWord head_in (record { word = wav.magic; format = format.Wav })
-wav_word = record {
-  bytes = wav_laws.is_lawful.bytes;
-  few = wav_laws.is_lawful.few;
-  own = λ bs l a. not_other (head_in format.Wav bs) (length bs) (ap (as_found First) (damaged_behind wav.grammar wav_laws.is_lawful bs l a));
+riff_word : IsFirstWord head_in (record { word = wav.riff_magic; format = format.Wav })
+riff_word = record {
+  bytes = wav_laws.riff_lawful.bytes;
+  few = wav_laws.riff_lawful.few;
+  own = λ bs l a. not_other (head_in format.Wav bs) (length bs)
+      (ap (as_found First) (wav_forms.head_riff bs (wav_forms.riff_told bs (omega (arith, l)) a) ∙ damaged_behind wav.riff_grammar wav_laws.riff_lawful bs l a));
+}
+
+rf64_word : IsFirstWord head_in (record { word = wav.rf64_magic; format = format.Wav })
+rf64_word = record {
+  bytes = wav_laws.rf64_lawful.bytes;
+  few = wav_laws.rf64_lawful.few;
+  own = λ bs l a. not_other (head_in format.Wav bs) (length bs)
+      (ap (as_found First) (wav_forms.head_rf64 bs (wav_forms.magic_told bs a) ∙ damaged_behind wav.rf64_grammar wav_laws.rf64_lawful bs l a));
 }
 
 line_word : IsFirstWord head_in (record { word = map Some (y4m.magic ++ space ∷ []); format = format.Y4m })
@@ -124,11 +134,13 @@ all_words =
     let flac_words = record { word = flac.magic; format = format.Flac } ∷ au_words in
     let empty_lines = record { word = map Some (y4m.magic ++ line_feed ∷ []); format = format.Y4m } ∷ flac_words in
     let lines = record { word = map Some (y4m.magic ++ space ∷ []); format = format.Y4m } ∷ empty_lines in
-    All-cons Owes (record { word = wav.magic; format = format.Wav }) lines wav_word
+    let rf64 = record { word = wav.rf64_magic; format = format.Wav } ∷ lines in
+    All-cons Owes (record { word = wav.riff_magic; format = format.Wav }) rf64 riff_word
+    (All-cons Owes (record { word = wav.rf64_magic; format = format.Wav }) lines rf64_word
     (All-cons Owes (record { word = map Some (y4m.magic ++ space ∷ []); format = format.Y4m }) empty_lines line_word
     (All-cons Owes (record { word = map Some (y4m.magic ++ line_feed ∷ []); format = format.Y4m }) flac_words empty_line_word
     (All-cons Owes (record { word = flac.magic; format = format.Flac }) au_words flac_word
-    (All-cons Owes (record { word = au.magic; format = format.Au }) [] au_word (All-nil Owes)))))
+    (All-cons Owes (record { word = au.magic; format = format.Au }) [] au_word (All-nil Owes))))))
 
 -- and each two words differ
 pub words_apart : are_apart first_words ≡ true

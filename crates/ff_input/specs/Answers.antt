@@ -6,6 +6,8 @@ use Rattle.ff_frame.specs.declared.cut.HeadEnd.TheVariants as end
 use Rattle.ff_reader.specs.Heads.{Found, answered, IsOpen}
 use Rattle.ff_reader.specs.Walks.{Grammar, head_limit, Reached}
 use Rattle.ff_reader.specs.declared.walk.HeadWalk.{HeadWalk}
+use Rattle.ff_wav.specs.Heads as wav
+use Rattle.ff_wav.specs.Heads.{WavWalk}
 use Rattle.ff_input.specs.declared.one_of.OneOf.{OneOf}
 use Rattle.ff_input.specs.declared.one_of.OneOf.TheVariants.{First, Other}
 
@@ -36,6 +38,10 @@ as_answer make (Err e) = Err e
 -- a walk over units has read this front
 abbrev pub units_reached : {F H S : Type 0} → Grammar H S → HeadWalk F H S → List ℕ → Type 0
 units_reached g walk front = (length front ≤ head_limit) × Reached g walk.at walk.state front
+
+-- a walk over a WAV, by the form that its first bytes tell
+abbrev pub wav_reached : WavWalk → List ℕ → Type 0
+wav_reached walk front = (length front ≤ head_limit) × wav.IsReached walk front
 
 -- of a walk of one of two formats: the head of a whole input, and that it has read this front
 abbrev pub either_head : {A B H K : Type 0} → (A → List ℕ → Found H) → (B → List ℕ → Found K) → OneOf A B → List ℕ → Found (OneOf H K)

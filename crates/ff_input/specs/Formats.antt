@@ -14,7 +14,7 @@ use Rattle.ff_pcm_cut.specs.Cuts.{pcm_cutter}
 use Rattle.ff_au.specs.Heads as au
 use Rattle.ff_au.specs.declared.walk.Au.{Au}
 use Rattle.ff_wav.specs.Heads as wav
-use Rattle.ff_wav.specs.declared.walk.Wav.{Wav}
+use Rattle.ff_wav.specs.Heads.{WavWalk}
 use Rattle.ff_y4m.specs.declared.head.Y4mHead.{Y4mHead}
 use Rattle.ff_y4m.specs.declared.cut.Y4mCut.{Y4mCut}
 use Rattle.ff_y4m.specs.Cuts.{y4m_cutter}
@@ -28,7 +28,7 @@ use Rattle.ff_flac_dec.specs.declared.walk.Flac.{Flac}
 use Rattle.ff_input.specs.declared.formats.Y4mWalk.{Y4mWalk}
 use Rattle.ff_input.specs.declared.one_of.OneOf.{OneOf}
 use Rattle.ff_input.specs.declared.one_of.OneOf.TheVariants.{First, Other}
-use Rattle.ff_input.specs.Answers.{as_found, either_head, either_reached, units_reached}
+use Rattle.ff_input.specs.Answers.{as_found, either_head, either_reached, units_reached, wav_reached}
 use Rattle.ff_input.specs.Either.{either_cutter}
 use Rattle.ff_input.specs.FirstWords.{Word, named_in}
 use Rattle.ff_input.specs.FlacShapes.{flac_owes}
@@ -43,7 +43,7 @@ abbrev pub InputHead : Type 0
 InputHead = OneOf PcmHead (OneOf Y4mHead (OneOf FlacHead PcmHead))
 
 abbrev pub AnyWalk : Type 0
-AnyWalk = OneOf (HeadWalk Wav PcmHead (Option StreamHead)) (OneOf Y4mWalk (OneOf (HeadWalk Flac FlacHead (Option StreamHead)) (HeadWalk Au PcmHead ⊤)))
+AnyWalk = OneOf WavWalk (OneOf Y4mWalk (OneOf (HeadWalk Flac FlacHead (Option StreamHead)) (HeadWalk Au PcmHead ⊤)))
 
 abbrev pub AnyCut : Type 0
 AnyCut = OneOf PcmCut (OneOf Y4mCut (OneOf FlacCut PcmCut))
@@ -62,10 +62,11 @@ head_in format.FrameHash bs = Err (Unsupported 0)
 head_in format.FrameMd5 bs = Err (Unsupported 0)
 head_in format.FrameCrc bs = Err (Unsupported 0)
 
--- what its inputs begin with: `RIFF`, any four bytes and `WAVE`; `YUV4MPEG2` and a space or a line feed; `fLaC`; `.snd`
+-- what its inputs begin with: `RIFF` or `RF64`, any four bytes and `WAVE`; `YUV4MPEG2` and a space or a line feed; `fLaC`; `.snd`
 abbrev pub first_words : List Word
 first_words =
-    record { word = wav.magic; format = format.Wav }
+    record { word = wav.riff_magic; format = format.Wav }
+    ∷ record { word = wav.rf64_magic; format = format.Wav }
     ∷ record { word = map Some (y4m.magic ++ space ∷ []); format = format.Y4m }
     ∷ record { word = map Some (y4m.magic ++ line_feed ∷ []); format = format.Y4m }
     ∷ record { word = flac.magic; format = format.Flac }
@@ -77,7 +78,7 @@ abbrev pub any_head : AnyWalk → List ℕ → Found
 any_head = either_head (λ w. wav.head) (either_head (λ w. y4m.head) (either_head (λ w. flac.head) (λ w. au.head)))
 
 abbrev pub any_reached : AnyWalk → List ℕ → Type 0
-any_reached = either_reached (units_reached wav.grammar) (either_reached (λ w front. Unit {0}) (either_reached (units_reached flac.grammar) (units_reached au.grammar)))
+any_reached = either_reached wav_reached (either_reached (λ w front. Unit {0}) (either_reached (units_reached flac.grammar) (units_reached au.grammar)))
 
 -- its cut, and what it owes by it
 abbrev pub any_cutter : Cutter InputHead AnyCut

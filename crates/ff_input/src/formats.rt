@@ -12,12 +12,12 @@ use ff_au::{Au, AuCut, AuHead, AuWalk};
 use ff_flac_dec::{Flac, FlacCut, FlacHead, FlacWalk};
 use ff_format::FileFormat;
 use ff_frame::HeadEnd;
-use ff_reader::HeadFormat;
-use ff_wav::{Wav, WavCut, WavHead, WavWalk};
+use ff_reader::{HeadFormat, HeadWalk};
+use ff_wav::{BothForms, Rf64Wave, RiffWave, WavCut, WavHead, WavWalk};
 use ff_y4m::{Y4mCut, Y4mHead, read_head};
 
-/// The head of an input: what comes before its packets, in the format that it has. WAV (RIFF WAVE), YUV4MPEG2 (yuv4mpeg(5)), FLAC
-/// (RFC 9639), AU.
+/// The head of an input: what comes before its packets, in the format that it has. WAV (RIFF WAVE, EBU Tech 3306), YUV4MPEG2
+/// (yuv4mpeg(5)), FLAC (RFC 9639), AU.
 pub type InputHead = OneOf<WavHead, OneOf<Y4mHead, OneOf<FlacHead, AuHead>>>;
 
 /// How far the head of an input was read, in the format that it has.
@@ -58,12 +58,13 @@ const EMPTY_LINE: [Option<u8>; 10] = [
 pub(crate) fn told_by_words(bytes: &[u8]) -> FirstWord
     ensures { result ≡ told first_words bytes.now }
 {
-    let wav = told_by_word(FileFormat::Wav, Wav::magic(), bytes);
+    let riff = told_by_word(FileFormat::Wav, RiffWave::magic(), bytes);
+    let rf64 = told_by_word(FileFormat::Wav, Rf64Wave::magic(), bytes);
     let line = told_by_word(FileFormat::Y4m, &LINE, bytes);
     let empty_line = told_by_word(FileFormat::Y4m, &EMPTY_LINE, bytes);
     let flac = told_by_word(FileFormat::Flac, Flac::magic(), bytes);
     let au = told_by_word(FileFormat::Au, Au::magic(), bytes);
-    wav.or(line.or(empty_line.or(flac.or(au.or(FirstWord::Other)))))
+    riff.or(rf64.or(line.or(empty_line.or(flac.or(au.or(FirstWord::Other))))))
 }
 
 /// Before anything was read of an input in this format.
@@ -78,6 +79,24 @@ pub(crate) fn start_of(format: FileFormat) -> InputWalk
         )))),
         FileFormat::Au => InputWalk::In(OneOf::Other(OneOf::Other(OneOf::Other(AuWalk::new())))),
         FileFormat::FrameHash | FileFormat::FrameMd5 | FileFormat::FrameCrc => InputWalk::Other,
+    }
+}
+
+impl HeadReader for BothForms<HeadWalk<RiffWave>, HeadWalk<Rf64Wave>> {
+    ghost use Rattle.ff_pcm_cut.specs.Packets.{IsHead as IsPcmHead};
+    ghost use Rattle.ff_wav.specs.Heads.{head as wav_head};
+    ghost use Rattle.ff_input.specs.Answers.{wav_reached};
+
+    type Head = WavHead;
+
+    ghost head = { λ walk. wav_head };
+
+    ghost is_sound = { IsPcmHead };
+
+    ghost reached = { wav_reached };
+
+    fn read(&mut self, bytes: &[u8], whole: bool) -> Result<WavHead, HeadEnd> {
+        WavWalk::read(self, bytes, whole)
     }
 }
 

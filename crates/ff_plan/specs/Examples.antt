@@ -3,6 +3,7 @@ use Rattle.std.specs.Prelude.{ℕ, Bool, true, false, List, [], ◌∷◌, codes
 use Rattle.std.specs.Str.{bytes_eq}
 use Rattle.ff_time.specs.Fraction.{Fraction}
 use Rattle.ff_time.specs.declared.cut.TimeCut.{TimeCut}
+use Rattle.ff_format.specs.declared.format.Rf64.TheVariants as rf64
 use Rattle.ff_frame.specs.declared.hash.HashKind.TheVariants as hash
 use Rattle.ff_frame.specs.declared.head.Codec.TheVariants as codec
 use Rattle.ff_frame.specs.declared.head.StreamHead.{StreamHead}
@@ -60,6 +61,7 @@ example_output cut f maps = record {
   cut = cut;
   shortest = false;
   hash = hash.Sha256;
+  rf64 = rf64.Never;
 }
 
 abbrev pub example_job : TimeCut → List Graph → FileFormat → List MapSpec → Job

@@ -3,7 +3,7 @@ use crate::lang::show;
 use crate::maps::show_map;
 use crate::table::{Stop, text_of};
 use crate::words::{Words, read_number};
-use ff_format::{FORMATS, FileFormat};
+use ff_format::{FORMATS, FileFormat, Rf64};
 use ff_frame::{Codec, HashKind};
 use ff_lang::Graph;
 use ff_time::TimeCut;
@@ -98,10 +98,13 @@ fn add_output(alloc: Global, out: &mut String, output: &OutputJob) -> Result<(),
     add_if(out, output.no_video, "no-video")?;
     add_cut(alloc, out, output.cut)?;
     add_if(out, output.shortest, "shortest")?;
-    Ok(add_if(out, output.hash == HashKind::Md5, "md5")?)
+    add_if(out, output.hash == HashKind::Md5, "md5")?;
+    add_if(out, output.rf64 == Rf64::Auto, "rf64-auto")?;
+    Ok(add_if(out, output.rf64 == Rf64::Always, "rf64-always")?)
 }
 
-// What concerns the whole command, then the inputs, then the outputs; of an output its digest is told where it is MD5.
+// What concerns the whole command, then the inputs, then the outputs; of an output its digest is told where it is MD5,
+// and RF64 where it may be.
 fn show_job(alloc: Global, job: &Job) -> Result<String, Stop> {
     let queue = job.queue;
     let mut out = format!(in alloc; "queue {queue}")?;

@@ -5,7 +5,7 @@ ghost use Rattle.ff_mux.specs.FlacHead.{CanHold};
 use crate::table::Stop;
 use crate::wav::head_of;
 use crate::words::Words;
-use ff_format::Writer;
+use ff_format::{Rf64, Writer};
 use ff_frame::{Bytes, Codec, Format, HashKind, Pkt, StreamHead, Totals};
 use ff_mux::{AnyWriter, FlacWriter, HashWriter};
 use ff_time::Rational;
@@ -77,7 +77,11 @@ fn file(words: Words, from: usize, writer: AnyWriter) -> Result<String, Stop> {
 /// `wav_file CODEC CHANNELS PACKET..`: the WAV of these packets, at 44,100 sample frames a second.
 pub fn wav(words: Words) -> Result<String, Stop> {
     let head = head_of(words)?;
-    file(words, 2, AnyWriter::Wav(WavPut::new(words.alloc, &head)))
+    file(
+        words,
+        2,
+        AnyWriter::Wav(WavPut::new(words.alloc, &head, Rf64::Never)),
+    )
 }
 
 fn base(num: i64, den: i64) -> Result<Rational, Stop> {

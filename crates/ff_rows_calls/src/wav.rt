@@ -6,6 +6,7 @@ ghost use Rattle.ff_wav.specs.Codecs.{IsWavCodec, IsWavCoded};
 use crate::heads::codec_named;
 use crate::table::Stop;
 use crate::words::Words;
+use ff_format::Rf64;
 use ff_frame::{Codec, StreamHead};
 use ff_pcm::depth_of;
 use ff_time::Rational;
@@ -46,16 +47,27 @@ pub fn head_of(words: Words) -> Result<StreamHead, Stop>
     })
 }
 
-/// `wav_first CODEC CHANNELS`: the header of a WAV whose sizes aren't known yet.
+// When it is RF64, where the third argument says it, and the place of the next argument; never without it.
+fn mode_of(words: Words) -> (Rf64, usize) {
+    match words.text(2) {
+        Ok("never") => (Rf64::Never, 3),
+        Ok("auto") => (Rf64::Auto, 3),
+        Ok("always") => (Rf64::Always, 3),
+        _ => (Rf64::Never, 2),
+    }
+}
+
+/// `wav_first CODEC CHANNELS [never|auto|always]`: the header of a WAV whose sizes aren't known yet.
 pub fn first(words: Words) -> Result<String, Stop> {
     let head = head_of(words)?;
-    let bytes = WavPut::new(words.alloc, &head).first()?;
+    let (mode, _next) = mode_of(words);
+    let bytes = WavPut::new(words.alloc, &head, mode).first()?;
     Ok(hex::encode(words.alloc, bytes.as_slice())?)
 }
 
 // Counts the sizes that the arguments from this place on say, and adds for each whether it was taken.
-fn count(words: Words, put: &mut WavPut, text: &mut String) -> Result<(), Stop> {
-    for at in 2..words.len() {
+fn count(words: Words, from: usize, put: &mut WavPut, text: &mut String) -> Result<(), Stop> {
+    for at in from..words.len() {
         let told = match put.add(words.number(at)?) {
             Ok(()) => "taken ",
             Err(_) => "refused ",
@@ -65,13 +77,14 @@ fn count(words: Words, put: &mut WavPut, text: &mut String) -> Result<(), Stop> 
     Ok(())
 }
 
-/// `wav_last CODEC CHANNELS SIZE..`: for each size whether so many bytes of the body are taken. Then comes the
+/// `wav_last CODEC CHANNELS [never|auto|always] SIZE..`: for each size whether so many bytes of the body are taken. Then comes the
 /// header, and `pad` where a byte follows the body.
 pub fn last(words: Words) -> Result<String, Stop> {
     let head = head_of(words)?;
-    let mut put = WavPut::new(words.alloc, &head);
+    let (mode, next) = mode_of(words);
+    let mut put = WavPut::new(words.alloc, &head, mode);
     let mut text = String::new(words.alloc);
-    count(words, &mut put, &mut text)?;
+    count(words, next, &mut put, &mut text)?;
     let bytes = put.last()?;
     text.push_str(hex::encode(words.alloc, bytes.as_slice())?.as_str())?;
     if put.pad() {

@@ -1,6 +1,8 @@
 -- Words that ask for the run over generated input ask for 3,600 seconds at most.
 use Rattle.std.proofs.Common.{◌≡◌, ℕ, ◌+◌, ◌≤◌, Bool, true, false, Option, Some, None, Result, Ok, Err, List, [], ◌∷◌, ◌++◌, refl, sym, subst}
 use Rattle.std.specs.Prelude.{if◌then◌else◌, codes}
+use Rattle.std.specs.Str.{bytes_eq}
+use Rattle.ff_format.specs.declared.format.Rf64.TheVariants.{Never, Auto, Always}
 use Rattle.ff_frame.specs.declared.head.Codec.{Codec}
 use Rattle.ff_frame.specs.declared.hash.HashKind.TheVariants.{Sha256, Md5}
 use Rattle.ff_words.specs.declared.error.WordKind.{WordKind}
@@ -15,7 +17,7 @@ use Rattle.ff_words.specs.declared.table.Rule.{Rule}
 use Rattle.ff_words.specs.declared.value.Value.{Value}
 use Rattle.ff_words.specs.declared.value.Value.TheVariants as value
 use Rattle.ff_words.specs.Table.{option_named, format_named, format_ending, audio_codec, video_codec, is_level, is_frame_mode, is_sync_mode}
-use Rattle.ff_words.specs.Values.{Reads, ReadsWhole, ReadsTime, ReadsGraph, ReadsMap, Makes, made, switched, or_bad, format_value, codec_value, mode_value, ReadsLevel, hash_value, is_spelled}
+use Rattle.ff_words.specs.Values.{Reads, ReadsWhole, ReadsTime, ReadsGraph, ReadsMap, Makes, made, switched, or_bad, format_value, codec_value, mode_value, ReadsLevel, hash_value, rf64_value, is_spelled}
 use Rattle.ff_words.specs.Words.{Token, Entry, is_dashed, placed, IsOption, IsNamed, IsToken, AreRead, tokens, command_by, last, as_solo, or_else}
 use Rattle.ff_selfrun.specs.SelfRun.{SecondsAreFew}
 
@@ -92,6 +94,12 @@ reads-few kind.Hash text v h =
     (test-few (value.Hash Sha256) tt (is_spelled text (codes "SHA256")) (if is_spelled text (codes "MD5") then Some (value.Hash Md5) else None)
     (test-few (value.Hash Md5) tt (is_spelled text (codes "MD5")) None none-few))
     h
+reads-few kind.Rf64 text v h =
+    named-few v (rf64_value text)
+    (test-few (value.Rf64 Never) tt (bytes_eq text (codes "never")) (if bytes_eq text (codes "auto") then Some (value.Rf64 Auto) else if bytes_eq text (codes "always") then Some (value.Rf64 Always) else None)
+    (test-few (value.Rf64 Auto) tt (bytes_eq text (codes "auto")) (if bytes_eq text (codes "always") then Some (value.Rf64 Always) else None)
+    (test-few (value.Rf64 Always) tt (bytes_eq text (codes "always")) None none-few)))
+    h
 
 switched-few : (k : Kind) (w : Value) → switched k ≡ Some w → Few w
 switched-few kind.Nothing w e = (let same : value.Nothing ≡ w = cc in subst Few same tt)
@@ -120,6 +128,7 @@ switched-few kind.VideoCodec w e = absurd cc
 switched-few kind.VideoGraph w e = absurd cc
 switched-few kind.AudioGraph w e = absurd cc
 switched-few kind.Hash w e = absurd cc
+switched-few kind.Rf64 w e = absurd cc
 
 -- ---- of each token, and of all
 
@@ -176,6 +185,7 @@ asked-few (value.VideoCodec c) h = tt
 asked-few (value.VideoGraph g) h = tt
 asked-few (value.AudioGraph g) h = tt
 asked-few (value.Hash d) h = tt
+asked-few (value.Rf64 mode) h = tt
 asked-few (value.Output n x) h = tt
 
 either-few : (a b : Option Solo) → FewAsked a → FewAsked b → FewAsked (or_else a b)

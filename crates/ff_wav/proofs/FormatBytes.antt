@@ -2,9 +2,9 @@
 use Rattle.std.proofs.Common.{◌≡◌, ℕ, ◌^◌, ◌<◌, true, false, List, [], ◌++◌, take, length, refl, arith}
 use Rattle.std.specs.Prelude.{codes}
 use Rattle.std.specs.Str.{bytes_eq}
-use Rattle.std.proofs.lemmas.Nat.{from_le_bytes-to_le_bytes_4}
-use Rattle.ff_wav.specs.Chunks.{number_16, number_32}
-use Rattle.ff_wav.specs.Header.{le_16, le_32, fields_of, pcm_guid, extension, plain_format, long_format}
+use Rattle.std.proofs.lemmas.Nat.{from_le_bytes-to_le_bytes_4, from_le_bytes-to_le_bytes_8}
+use Rattle.ff_wav.specs.Chunks.{number_16, number_32, number_64}
+use Rattle.ff_wav.specs.Header.{le_16, le_32, le_64, fields_of, pcm_guid, extension, plain_format, long_format}
 
 -- ---- numbers in bytes
 
@@ -15,6 +15,10 @@ word_16 n more lt = omega arith
 pub word_32 : (n : ℕ) (more : List ℕ) → n < 2 ^ 32 → number_32 0 (le_32 n ++ more) ≡ n
 unfolding le_32
 word_32 n more lt = omega (arith, from_le_bytes-to_le_bytes_4 n lt)
+
+pub word_64 : (n : ℕ) (more : List ℕ) → n < 2 ^ 64 → number_64 0 (le_64 n ++ more) ≡ n
+unfolding le_64
+word_64 n more lt = omega (arith, from_le_bytes-to_le_bytes_8 n lt)
 
 -- ---- a `fmt ` of 16 bytes
 

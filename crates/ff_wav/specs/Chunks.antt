@@ -1,4 +1,5 @@
--- The chunks of a RIFF WAVE (RIFF, "WAVE form definition"), one at a time. All numbers are little-endian.
+-- The chunks of a RIFF WAVE (RIFF, "WAVE form definition") and of an RF64 (EBU Tech 3306), one at a time. All numbers are
+-- little-endian.
 use Rattle.std.specs.Prelude.{ℕ, ◌+◌, ◌*◌, ◌/◌, ◌%◌, ◌^◌, ◌==◌, ◌&&◌, ◌||◌, nat_lt, nat_le, not, if◌then◌else◌, List, take, length, slice_index, Option, Some, None, Result, Ok, Err, codes}
 use Rattle.std.specs.Str.{bytes_eq}
 use Rattle.ff_frame.specs.declared.head.StreamHead.{StreamHead}
@@ -48,12 +49,15 @@ tag_pcm = 1
 abbrev pub tag_extensible : ℕ
 tag_extensible = 0xFFFE
 
--- the number of two bytes at a place, and of four
+-- the number of two bytes at a place, of four and of eight
 abbrev pub number_16 : ℕ → List ℕ → ℕ
 number_16 i bs = slice_index bs i + 256 * slice_index bs (i + 1)
 
 abbrev pub number_32 : ℕ → List ℕ → ℕ
 number_32 i bs = number_16 i bs + 65536 * number_16 (i + 2) bs
+
+abbrev pub number_64 : ℕ → List ℕ → ℕ
+number_64 i bs = number_32 i bs + 4294967296 * number_32 (i + 4) bs
 
 -- 8 bits are unsigned, the others signed
 abbrev pub codec_of : ℕ → Codec
@@ -104,18 +108,56 @@ format_chunk None at bs =
     else if nat_lt (length bs) 24 then Wait
     else tagged at bs
 
--- a body of 0 or 2^32 - 1 bytes goes to the end of the input
-abbrev pub body_len : ℕ → Option ℕ
-body_len size = if size == 0 || size == 0xFFFFFFFF then None else Some size
+-- how many bytes of the body a size means, where 2^32 - 1 stands for another; None: all to the end of the input, as 0 does
+abbrev pub body_len : Option ℕ → ℕ → Option ℕ
+body_len large size = if size == 0 then None else if size == 0xFFFFFFFF then large else Some size
 
-abbrev pub data_chunk : Option StreamHead → ℕ → List ℕ → ChunkStep
-data_chunk None at bs = Decide (Err (Damaged at))
-data_chunk (Some format) at bs = Decide (Ok (record { head = format; start = at + 8; len = body_len (number_32 chunk_size bs) }))
+-- the same of a size of 64 bits, of which all ones mean to the end, too
+abbrev pub large_len : ℕ → Option ℕ
+large_len size = if size == 0 || size == 0xFFFFFFFFFFFFFFFF then None else Some size
+
+abbrev pub data_chunk : Option ℕ → Option StreamHead → ℕ → List ℕ → ChunkStep
+data_chunk large None at bs = Decide (Err (Damaged at))
+data_chunk large (Some format) at bs = Decide (Ok (record { head = format; start = at + 8; len = body_len large (number_32 chunk_size bs) }))
 
 -- what the chunk does that begins the bytes, at offset at of the input
-unfoldable pub chunk : Option StreamHead → ℕ → List ℕ → ChunkStep
-chunk format at bs =
+unfoldable pub chunk : Option ℕ → Option StreamHead → ℕ → List ℕ → ChunkStep
+chunk large format at bs =
     if nat_lt (length bs) 8 then Wait
-    else if bytes_eq (take 4 bs) (codes "data") then data_chunk format at bs
+    else if bytes_eq (take 4 bs) (codes "data") then data_chunk large format at bs
     else if bytes_eq (take 4 bs) (codes "fmt ") then format_chunk format at bs
     else passed (number_32 chunk_size bs) format
+
+-- ---- RF64
+
+-- What the chunks so far say. None: nothing yet, and `ds64` comes first. Else the size of the body where its chunk says
+-- 2^32 - 1, and the stream's head after `fmt `.
+abbrev pub WavState : Type 0
+WavState = Option (Option ℕ × Option StreamHead)
+
+-- what a chunk does where the sizes of 64 bits may be known
+abbrev pub WavStep : Type 0
+WavStep = Step WavHead WavState
+
+-- where the body's size stands in `ds64`, from the chunk's first byte (EBU Tech 3306, "ds64")
+abbrev pub large_size : ℕ
+large_size = 16
+
+-- the first chunk of an RF64: `ds64`, of at least 28 bytes
+unfoldable pub sizes_chunk : ℕ → List ℕ → WavStep
+sizes_chunk at bs =
+    if nat_lt (length bs) 8 then Wait
+    else if not (bytes_eq (take 4 bs) (codes "ds64")) || nat_lt (number_32 chunk_size bs) 28 then Decide (Err (Damaged at))
+    else if nat_lt (length bs) 24 then Wait
+    else Skip (7 + number_32 chunk_size bs + number_32 chunk_size bs % 2) (Some (large_len (number_64 large_size bs), None))
+
+-- the size that was told stays
+abbrev pub known : Option ℕ → ChunkStep → WavStep
+known large Wait = Wait
+known large (Decide found) = Decide found
+known large (Skip size format) = Skip size (Some (large, format))
+
+-- what the next chunk does
+abbrev pub unit : WavState → ℕ → List ℕ → WavStep
+unit None at bs = sizes_chunk at bs
+unit (Some (large, format)) at bs = known large (chunk large format at bs)

@@ -1,6 +1,6 @@
 -- What is true of every head that is read.
 use Rattle.std.proofs.Common.{◌≡◌, ℕ, ◌+◌, ◌<◌, ◌≤◌, ◌*◌, ◌^◌, Bool, true, false, cond, List, take, length, Option, Some, None, Result, Ok, Err, refl, arith}
-use Rattle.std.specs.Prelude.{◌==◌, ◌&&◌, ◌||◌, not, nat_le, nat_lt, codes, IfSome}
+use Rattle.std.specs.Prelude.{◌%◌, ◌==◌, ◌&&◌, ◌||◌, not, nat_le, nat_lt, codes, IfSome}
 use Rattle.std.specs.Str.{bytes_eq}
 use Rattle.std.proofs.lemmas.Bool.Decides.{nat_tests}
 use Rattle.ff_frame.specs.declared.head.StreamHead.{StreamHead}
@@ -8,8 +8,8 @@ use Rattle.ff_frame.specs.Codecs.{IsPcmCodec, sample_bytes}
 use Rattle.ff_frame.specs.declared.head.Codec.TheVariants.{PcmU8, PcmS16le, PcmS24le, PcmS32le}
 use Rattle.ff_reader.specs.declared.fault.HeadFault.{HeadFault}
 use Rattle.ff_reader.specs.declared.fault.HeadFault.TheVariants.{Damaged, Unsupported}
-use Rattle.ff_reader.specs.declared.step.Step.TheVariants.{Wait, Decide}
-use Rattle.ff_wav.specs.Chunks.{ChunkStep, passed, number_16, number_32, codec_of, stream_of, format_of, step_of, fields, tagged, format_chunk, data_chunk, chunk}
+use Rattle.ff_reader.specs.declared.step.Step.TheVariants.{Wait, Decide, Skip}
+use Rattle.ff_wav.specs.Chunks.{WavState, ChunkStep, passed, number_16, number_32, number_64, large_len, codec_of, stream_of, format_of, step_of, fields, tagged, format_chunk, data_chunk, chunk, sizes_chunk, known, unit}
 use Rattle.ff_reader.specs.Walks.{head_limit, IsKept, Keeps}
 use Rattle.ff_pcm_cut.specs.Packets.{IsHead, IsStream}
 
@@ -107,16 +107,41 @@ unfolding format_chunk
 format_fine (Some f) at bs g = fine_skip at (number_32 4 bs) (Some f) g
 format_fine None at bs g = fine_if at (nat_lt (number_32 4 bs) 16) _ _ (fine_fault at (Damaged at)) (fine_if at (nat_lt (length bs) 24) _ _ (fine_wait at) (tagged_fine at bs))
 
-data_fine : (f : Option StreamHead) (at : ℕ) (bs : List ℕ) → IfSome f IsStream → Fine at (data_chunk f at bs)
-data_fine None at bs g le = tt
-data_fine (Some f) at bs g le = record { stream = g; start = omega (arith, le) }
+data_fine : (large : Option ℕ) (f : Option StreamHead) (at : ℕ) (bs : List ℕ) → IfSome f IsStream → Fine at (data_chunk large f at bs)
+data_fine large None at bs g le = tt
+data_fine large (Some f) at bs g le = record { stream = g; start = omega (arith, le) }
 
-chunk_fine : (f : Option StreamHead) (at : ℕ) (bs : List ℕ) → IfSome f IsStream → Fine at (chunk f at bs)
+chunk_fine : (large : Option ℕ) (f : Option StreamHead) (at : ℕ) (bs : List ℕ) → IfSome f IsStream → Fine at (chunk large f at bs)
 unfolding chunk
-chunk_fine f at bs g = fine_if at (nat_lt (length bs) 8) _ _ (fine_wait at)
-    (fine_if at (bytes_eq (take 4 bs) (codes "data")) _ _ (data_fine f at bs g)
+chunk_fine large f at bs g = fine_if at (nat_lt (length bs) 8) _ _ (fine_wait at)
+    (fine_if at (bytes_eq (take 4 bs) (codes "data")) _ _ (data_fine large f at bs g)
     (fine_if at (bytes_eq (take 4 bs) (codes "fmt ")) _ _ (format_fine f at bs g) (fine_skip at (number_32 4 bs) f g)))
 
+-- what is true of what the chunks say
+abbrev pub IsKnown : WavState → Type 0
+IsKnown None = Unit {0}
+IsKnown (Some (large, format)) = IfSome format IsStream
+
+known_fine : (large : Option ℕ) (s : ChunkStep) → IsKept (λ f. IfSome f IsStream) IsHead s → IsKept IsKnown IsHead (known large s)
+known_fine large Wait k = tt
+known_fine large (Decide (Ok head)) k = k
+known_fine large (Decide (Err fault)) k = tt
+known_fine large (Skip size format) k = k
+
+sizes_by : (a b c : Bool) (at size : ℕ) (large : Option ℕ)
+    → IsKept IsKnown IsHead (cond a Wait (cond b (Decide (Err (Damaged at))) (cond c Wait (Skip size (Some (large, None))))))
+sizes_by true b c at size large = tt
+sizes_by false true c at size large = tt
+sizes_by false false true at size large = tt
+sizes_by false false false at size large = tt
+
+sizes_fine : (at : ℕ) (bs : List ℕ) → IsKept IsKnown IsHead (sizes_chunk at bs)
+unfolding sizes_chunk
+sizes_fine at bs =
+    sizes_by (nat_lt (length bs) 8) (not (bytes_eq (take 4 bs) (codes "ds64")) || nat_lt (number_32 4 bs) 28) (nat_lt (length bs) 24) at
+    (7 + number_32 4 bs + number_32 4 bs % 2) (large_len (number_64 16 bs))
+
 -- behind what is known a chunk gives a sound head, or goes on with what is known
-pub is_kept : Keeps (λ f. IfSome f IsStream) IsHead chunk
-is_kept f at bs g le = chunk_fine f at bs g (omega (arith, le))
+pub is_kept : Keeps IsKnown IsHead unit
+is_kept None at bs g le = sizes_fine at bs
+is_kept (Some (large, format)) at bs g le = known_fine large (chunk large format at bs) (chunk_fine large format at bs g (omega (arith, le)))

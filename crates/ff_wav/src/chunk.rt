@@ -3,9 +3,10 @@ ghost use Rattle.std.specs.Prelude.{◌≡◌, ◌+◌, ◌≤◌, ◌<◌, ◌*
 ghost use Rattle.std.specs.Str.{bytes_eq};
 ghost use Rattle.ff_frame.specs.declared.head.StreamHead.{StreamHead};
 ghost use Rattle.ff_reader.specs.declared.step.Step.TheVariants.{Skip};
-ghost use Rattle.ff_wav.specs.Chunks.{number_16, number_32, format_of, codec_of, stream_of, passed, step_of, fields, tagged, format_chunk, data_chunk, chunk, body_len};
+ghost use Rattle.ff_wav.specs.Chunks.{number_16, number_32, format_of, codec_of, stream_of, passed, step_of, fields, tagged, format_chunk, data_chunk, chunk, body_len, large_len};
+ghost use Rattle.ff_wav.specs.Chunks.{WavState, number_64, known, sizes_chunk, unit};
 
-use crate::head::{ChunkStep, WavHead};
+use crate::head::{ChunkStep, WavHead, WavState, WavStep};
 use ff_frame::{Codec, StreamHead};
 use ff_reader::{HeadFault, Step};
 use ff_time::{Rational, TimeError};
@@ -22,6 +23,13 @@ fn at_32(bytes: &[u8], place: usize) -> u32
     ensures { result ≡ number_32 place bytes.now }
 {
     at_16(bytes, place) as u32 + 65536 * at_16(bytes, place + 2) as u32
+}
+
+fn at_64(bytes: &[u8], place: usize) -> u64
+    requires { place + 8 ≤ length bytes.now }
+    ensures { result ≡ number_64 place bytes.now }
+{
+    at_32(bytes, place) as u64 + 4294967296 * at_32(bytes, place + 4) as u64
 }
 
 // Whether four bytes begin the bytes.
@@ -174,47 +182,104 @@ fn format_chunk_at(format: Option<StreamHead>, at: u64, bytes: &[u8]) -> ChunkSt
     }
 }
 
-fn body_size(size: u32) -> Option<u64>
-    ensures { result ≡ body_len size }
+// How many bytes of the body a chunk of this size means.
+fn body_size(large: Option<u64>, size: u32) -> Option<u64>
+    ensures { result ≡ body_len large size }
 {
-    if size == 0 || size == 0xFFFF_FFFF {
+    if size == 0 {
         None
+    } else if size == 0xFFFF_FFFF {
+        large
     } else {
         Some(size as u64)
     }
 }
 
-fn data_chunk_at(format: Option<StreamHead>, at: u64, bytes: &[u8]) -> ChunkStep
+// How many bytes of the body a size of 64 bits means.
+fn large_size(size: u64) -> Option<u64>
+    ensures { result ≡ large_len size }
+{
+    if size == 0 || size == 0xFFFF_FFFF_FFFF_FFFF {
+        None
+    } else {
+        Some(size)
+    }
+}
+
+fn data_chunk_at(large: Option<u64>, format: Option<StreamHead>, at: u64, bytes: &[u8]) -> ChunkStep
     requires place { at < 2 ^ 32 }
     requires there { 8 ≤ length bytes.now }
-    ensures value { result ≡ data_chunk format at bytes.now }
+    ensures value { result ≡ data_chunk large format at bytes.now }
     ensures small { (size : ℕ) (next : Option StreamHead) → result ≡ Skip size next → size ≤ 2 ^ 33 }
 {
     match format {
         Some(head) => Step::Decide(Ok(WavHead {
             head,
             start: at + 8,
-            len: body_size(at_32(bytes, 4)),
+            len: body_size(large, at_32(bytes, 4)),
         })),
         None => Step::Decide(Err(HeadFault::Damaged { offset: at })),
     }
 }
 
-/// What the chunk does that begins the bytes.
+// What the chunk does that begins the bytes, where any chunk may stand.
 #[tactic(auto, unfolding(crate::specs::Chunks::chunk))]
-pub(crate) fn chunk_at(format: Option<StreamHead>, at: u64, bytes: &[u8]) -> ChunkStep
+fn chunk_at(large: Option<u64>, format: Option<StreamHead>, at: u64, bytes: &[u8]) -> ChunkStep
     requires { at < 2 ^ 32 }
-    ensures value { result ≡ chunk format at bytes.now }
+    ensures value { result ≡ chunk large format at bytes.now }
     ensures small { (size : ℕ) (next : Option StreamHead) → result ≡ Skip size next → size ≤ 2 ^ 33 }
 {
     if bytes.len() < 8 {
         return Step::Wait;
     }
     if has_id(bytes, b"data") {
-        return data_chunk_at(format, at, bytes);
+        return data_chunk_at(large, format, at, bytes);
     }
     if has_id(bytes, b"fmt ") {
         return format_chunk_at(format, at, bytes);
     }
     passed_over(at_32(bytes, 4), format)
+}
+
+// The first chunk of an RF64, with the sizes of 64 bits.
+#[tactic(auto, unfolding(crate::specs::Chunks::sizes_chunk))]
+fn sizes_at(at: u64, bytes: &[u8]) -> WavStep
+    ensures value { result ≡ sizes_chunk at bytes.now }
+    ensures small { (size : ℕ) (next : WavState) → result ≡ Skip size next → size ≤ 2 ^ 33 }
+{
+    if bytes.len() < 8 {
+        return Step::Wait;
+    }
+    let size = at_32(bytes, 4);
+    if !has_id(bytes, b"ds64") || size < 28 {
+        return Step::Decide(Err(HeadFault::Damaged { offset: at }));
+    }
+    if bytes.len() < 24 {
+        return Step::Wait;
+    }
+    let large = large_size(at_64(bytes, 16));
+    Step::Skip(7 + size as u64 + size as u64 % 2, Some((large, None)))
+}
+
+// The step of a chunk where this size was told before.
+fn knowing(large: Option<u64>, step: ChunkStep) -> WavStep
+    ensures { result ≡ known large step }
+{
+    match step {
+        Step::Wait => Step::Wait,
+        Step::Decide(found) => Step::Decide(found),
+        Step::Skip(size, format) => Step::Skip(size, Some((large, format))),
+    }
+}
+
+/// What the chunk does that begins the bytes.
+pub(crate) fn unit_at(state: WavState, at: u64, bytes: &[u8]) -> WavStep
+    requires { at < 2 ^ 32 }
+    ensures value { result ≡ unit state at bytes.now }
+    ensures small { (size : ℕ) (next : WavState) → result ≡ Skip size next → size ≤ 2 ^ 33 }
+{
+    match state {
+        None => sizes_at(at, bytes),
+        Some((large, format)) => knowing(large, chunk_at(large, format, at, bytes)),
+    }
 }

@@ -1,16 +1,17 @@
 //! Laws of WAV. Each is a function that does nothing: its clauses hold of all values.
+ghost use Rattle.ff_format.specs.declared.format.Rf64.{Rf64 as Mode};
 ghost use Rattle.ff_wav.specs.Layout.{WavsAreFiles};
 ghost use Rattle.ff_pcm_cut.specs.Written.{SamplesComeBack};
 ghost use Rattle.ff_wav.specs.Written.{HeadersAreRead, FilesAreRead, BodiesAreRead, wav_container};
 
-/// What is written around a body is read again. A header with any sizes is read as its stream and its body's size. A
-/// whole file is read as that head and the packets of that body. The file of a whole stream of audio is read as its
-/// samples, at the codec's depth.
+/// What is written around a body is read again. A header of each form with any sizes is read as its stream and its
+/// body's size. A whole file is read as that head and the packets of that body, whenever it is RF64. The file of a whole
+/// stream of audio is read as its samples, at the codec's depth.
 pub fn what_is_written_is_read_again()
     ensures headers { HeadersAreRead }
     ensures files { FilesAreRead }
     ensures bodies { BodiesAreRead }
-    ensures samples { SamplesComeBack wav_container }
+    ensures samples { (mode : Mode) → SamplesComeBack (wav_container mode) }
 {}
 
 /// The finished file is its header with both sizes, the packets' bytes, and a pad byte where they are odd.

@@ -1,58 +1,66 @@
 //! The header that is written, with the count of the body's bytes.
 ghost use Rattle.std.specs.Prelude.{◌≡◌, ◌+◌, ◌%◌, ◌<◌, ◌≤◌, ◌↔◌, IsErr, IsTrue, IfOk, OnOk, OnErr};
 ghost use Rattle.ff_wav.specs.Codecs.{IsWavCoded};
+ghost use Rattle.ff_wav.specs.Limits.{longest_of};
 ghost use Rattle.ff_wav.specs.Sound.{IsWavCoded-prop};
 
-use crate::header::{header_bytes, len_of_header};
-use ff_format::TooLarge;
+use crate::header::{HeaderForm, Sizes, first_form, header_bytes, last_form, longest, sizes_of};
+use ff_format::{Rf64, TooLarge};
 use ff_frame::StreamHead;
 use std::alloc::{AllocError, Global};
 
-/// The longest body, in bytes.
-const LONGEST: u64 = 4294967200;
-
-/// The header of a WAV that is written: with sizes 0 before its body is known, and with its sizes afterwards.
+/// The header of a WAV that is written: without sizes before its body is known, and with its sizes afterwards.
 #[derive(Drop)]
 pub struct WavPut {
     alloc: Global,
     head: StreamHead,
+    mode: Rf64,
     /// The body's bytes so far.
     size: u64,
-    ghost small: { size ≤ 4294967200 },
+    ghost small: { size ≤ longest_of mode },
     ghost coded: { IsWavCoded head } by { IsWavCoded-prop head },
 }
 
 impl WavPut {
-    ghost use Rattle.ff_wav.specs.Header.{header, header_of, longest, written_head, body_size};
+    ghost use Rattle.ff_wav.specs.Header.{first_header, header_of, written_head, written_mode, body_size};
 
     /// For a stream of linear PCM as WAV has it, with no byte of its body counted.
-    pub fn new(alloc: Global, head: &StreamHead) -> WavPut
+    pub fn new(alloc: Global, head: &StreamHead, mode: Rf64) -> WavPut
         requires { IsWavCoded head.now }
         ensures head { written_head result ≡ head.now }
+        ensures mode { written_mode result ≡ mode }
         ensures size { body_size result ≡ 0 }
     {
         WavPut {
             alloc,
             head: *head,
+            mode,
             size: 0,
         }
     }
 
-    /// The header with sizes 0.
+    /// The header without sizes: of 32 bits they are 0, or all ones where it is RF64 always, and of 64 bits they are 0.
     pub fn first(&self) -> Result<Vec<u8>, AllocError>
-        ensures { IfOk result (λ bytes. bytes.items ≡ header (written_head self.now) 0 0) }
+        ensures { IfOk result (λ bytes. bytes.items ≡ first_header (written_mode self.now) (written_head self.now)) }
     {
-        header_bytes(self.alloc, &self.head, 0, 0)
+        let sizes = Sizes {
+            file: 0,
+            body: 0,
+            frames: 0,
+        };
+        header_bytes(self.alloc, &self.head, first_form(self.mode), sizes)
     }
 
-    /// Counts bytes of the body. TooLarge where it would be longer than 4,294,967,200 bytes; then nothing was counted.
+    /// Counts bytes of the body. TooLarge where it would be longer than 4,294,967,200 bytes and it is never RF64, or
+    /// longer than 2^63 - 1 bytes, the longest file; then nothing was counted.
     pub fn add(&mut self, len: u64) -> Result<(), TooLarge>
-        ensures too_large { IsErr result ↔ (longest < body_size self.old + len) }
+        ensures too_large { IsErr result ↔ (longest_of (written_mode self.old) < body_size self.old + len) }
         ensures ok { OnOk result (body_size self.new ≡ body_size self.old + len) }
         ensures err { OnErr result (body_size self.new ≡ body_size self.old) }
         ensures head { written_head self.new ≡ written_head self.old }
+        ensures mode { written_mode self.new ≡ written_mode self.old }
     {
-        if len > LONGEST - self.size {
+        if len > longest(self.mode) - self.size {
             return Err(TooLarge);
         }
         self.size += len;
@@ -66,12 +74,12 @@ impl WavPut {
         self.size % 2 == 1
     }
 
-    /// The header with the sizes of the file and of the body.
+    /// The header with the sizes of the file and of the body, and with the number of sample frames where it is RF64.
     pub fn last(&self) -> Result<Vec<u8>, AllocError>
-        ensures { IfOk result (λ bytes. bytes.items ≡ header_of (written_head self.now) (body_size self.now)) }
+        ensures { IfOk result (λ bytes. bytes.items ≡ header_of (written_mode self.now) (written_head self.now) (body_size self.now)) }
     {
-        let size = self.size as u32;
-        let riff = len_of_header(&self.head) - 8 + size + size % 2;
-        header_bytes(self.alloc, &self.head, riff, size)
+        let form = last_form(self.mode, &self.head, self.size);
+        let sizes = sizes_of(form, &self.head, self.size);
+        header_bytes(self.alloc, &self.head, form, sizes)
     }
 }

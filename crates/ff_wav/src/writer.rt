@@ -1,6 +1,6 @@
 //! The writer of WAV files.
 ghost use Rattle.std.specs.Prelude.{◌≡◌};
-ghost use Rattle.ff_wav.specs.Header.{written_head, body_size};
+ghost use Rattle.ff_wav.specs.Header.{written_head, written_mode, body_size};
 ghost use Rattle.ff_wav.specs.Layout.{wav_layout, wav_inside};
 
 use crate::put::WavPut;
@@ -9,7 +9,7 @@ use ff_frame::{Pkt, Totals};
 use std::alloc::AllocError;
 
 impl Writer for WavPut {
-    ghost layout = { λ put. wav_layout (written_head put) };
+    ghost layout = { λ put. wav_layout (written_mode put) (written_head put) };
 
     ghost counts = { λ put n. body_size put ≡ n };
 
@@ -37,5 +37,5 @@ impl Writer for WavPut {
         Ok(Some(Patch { at: 0, bytes }))
     }
 
-    ghost inside = { λ put n totals. wav_inside (written_head put) n };
+    ghost inside = { λ put n totals. wav_inside (written_mode put) (written_head put) n };
 }

@@ -3,6 +3,7 @@ use Rattle.std.proofs.Common.{◌≡◌, ℕ, ◌+◌, ◌≤◌, Bool, true, fa
 use Rattle.std.specs.Prelude.{codes}
 use Rattle.std.specs.Prelude.{if◌then◌else◌, not, is_some, nat_le, unwrap_or, ◌==◌}
 use Rattle.std.specs.List.{AllByRecursion}
+use Rattle.std.specs.Str.{bytes_eq}
 use Rattle.ff_lang.specs.declared.graph.Graph.{Graph}
 use Rattle.ff_map.specs.declared.map.MapSpec.{MapSpec}
 use Rattle.ff_frame.specs.declared.head.Codec.{Codec}
@@ -12,6 +13,7 @@ use Rattle.ff_words.specs.declared.error.WordKind.{WordKind}
 use Rattle.ff_words.specs.declared.error.WordKind.TheVariants.{TooMany, BadValue, NoInput, NoOutput, SameName}
 use Rattle.ff_format.specs.declared.format.FileFormat.{FileFormat}
 use Rattle.ff_format.specs.declared.format.FileFormat.TheVariants.{FrameHash}
+use Rattle.ff_format.specs.declared.format.Rf64.TheVariants.{Never, Auto, Always}
 use Rattle.ff_words.specs.declared.job.InputJob.{InputJob}
 use Rattle.ff_words.specs.declared.job.OutputJob.{OutputJob}
 use Rattle.ff_words.specs.declared.job.Job.{Job}
@@ -28,7 +30,7 @@ use Rattle.ff_words.specs.declared.value.Value.{Value}
 use Rattle.ff_words.specs.declared.value.Value.TheVariants as value
 use Rattle.ff_words.specs.Bounds.{HasFewMaps, IsBounded}
 use Rattle.ff_words.specs.Table.{option_named, format_named, audio_codec, video_codec, is_level, is_frame_mode, is_sync_mode}
-use Rattle.ff_words.specs.Values.{Reads, ReadsWhole, ReadsTime, ReadsGraph, ReadsMap, Makes, made, switched, or_bad, format_value, codec_value, mode_value, ReadsLevel, hash_value, is_spelled}
+use Rattle.ff_words.specs.Values.{Reads, ReadsWhole, ReadsTime, ReadsGraph, ReadsMap, Makes, made, switched, or_bad, format_value, codec_value, hash_value, rf64_value, is_spelled, mode_value, ReadsLevel}
 use Rattle.ff_words.specs.Table.{format_ending}
 use Rattle.ff_words.specs.Words.{Token, Entry, fault, early, option_fault, given_fault, is_full, is_too_much, is_dashed, is_file, is_output, late, misplaced, bad_at, or_else, takes, placed, IsOption, IsNamed, IsToken, TokenReads, IsEntry, AreRead, IsAnswer, tokens, command, job, last, as_solo, end_fault, end_by, stands_alone, run_fault, groups, inputs, outputs, same_name, output_format, command_by, first_place, not_before_input, not_before_output, not_at_end, unreadable, unwritable}
 use Rattle.ff_words.specs.Reading.{reader, optioned, with_input, with_output}
@@ -109,6 +111,12 @@ reads-kind kind.Hash text v h =
     (of-test (value.Hash Sha256) kind.Hash tt (is_spelled text (codes "SHA256")) (if is_spelled text (codes "MD5") then Some (value.Hash Md5) else None)
     (of-test (value.Hash Md5) kind.Hash tt (is_spelled text (codes "MD5")) None (of-none kind.Hash)))
     h
+reads-kind kind.Rf64 text v h =
+    of-named v kind.Rf64 (rf64_value text)
+    (of-test (value.Rf64 Never) kind.Rf64 tt (bytes_eq text (codes "never")) (if bytes_eq text (codes "auto") then Some (value.Rf64 Auto) else if bytes_eq text (codes "always") then Some (value.Rf64 Always) else None)
+    (of-test (value.Rf64 Auto) kind.Rf64 tt (bytes_eq text (codes "auto")) (if bytes_eq text (codes "always") then Some (value.Rf64 Always) else None)
+    (of-test (value.Rf64 Always) kind.Rf64 tt (bytes_eq text (codes "always")) None (of-none kind.Rf64))))
+    h
 
 switched-kind : (k : Kind) (w : Value) → switched k ≡ Some w → OfKind w k
 switched-kind kind.Nothing w e = (let same : value.Nothing ≡ w = cc in subst (λ x. OfKind x kind.Nothing) same tt)
@@ -137,6 +145,7 @@ switched-kind kind.VideoCodec w e = absurd cc
 switched-kind kind.VideoGraph w e = absurd cc
 switched-kind kind.AudioGraph w e = absurd cc
 switched-kind kind.Hash w e = absurd cc
+switched-kind kind.Rf64 w e = absurd cc
 
 placed-kind : (at : ℕ) (rule : Rule) (text : List ℕ) (v : Value) (read : Result Value WordKind) → Reads rule.kind text read → Ok v ≡ placed (at + 1) read → OfKind v rule.kind
 placed-kind at rule text v (Ok w) reads e = (let same : w ≡ v = cc in reads-kind rule.kind text v (subst (λ x. Reads rule.kind text (Ok x)) same reads))
@@ -238,6 +247,7 @@ small-option es token at concern (value.VideoCodec c) plain fine h s = s
 small-option es token at concern (value.VideoGraph g) plain fine h s = s
 small-option es token at concern (value.AudioGraph g) plain fine h s = s
 small-option es token at concern (value.Hash d) plain fine h s = s
+small-option es token at concern (value.Rf64 mode) plain fine h s = s
 small-option es token at concern (value.Output n x) plain fine h s = absurd cc
 
 small-input : (es : List Entry) (at : ℕ) (name : List ℕ) → late es at (value.Input name) ≡ None → Small (reader es) → Small (with_input name (reader es))
@@ -299,6 +309,7 @@ by-value P es token at concern (value.VideoCodec c) before reads fine option ins
 by-value P es token at concern (value.VideoGraph g) before reads fine option ins outs = subst P (sym (reader-snoc es (entry at concern (value.VideoGraph g)) refl)) (option refl (token-rule token (is_dashed token.word) concern (value.VideoGraph g) refl refl reads))
 by-value P es token at concern (value.AudioGraph g) before reads fine option ins outs = subst P (sym (reader-snoc es (entry at concern (value.AudioGraph g)) refl)) (option refl (token-rule token (is_dashed token.word) concern (value.AudioGraph g) refl refl reads))
 by-value P es token at concern (value.Hash h) before reads fine option ins outs = subst P (sym (reader-snoc es (entry at concern (value.Hash h)) refl)) (option refl (token-rule token (is_dashed token.word) concern (value.Hash h) refl refl reads))
+by-value P es token at concern (value.Rf64 mode) before reads fine option ins outs = subst P (sym (reader-snoc es (entry at concern (value.Rf64 mode)) refl)) (option refl (token-rule token (is_dashed token.word) concern (value.Rf64 mode) refl refl reads))
 by-value P es token at concern (value.Output n x) before reads fine option ins outs = subst P (sym (filed-is es (entry at concern (value.Output n x)) refl ∙ output-filed n x es)) (outs n x (unwrap_or (output_format (groups es).behind x) FrameHash) fine)
 
 small-step : (es : List Entry) (token : Token) (e : Entry) → IsEntry es token e → Small (reader es) → Small (reader (es ++ e ∷ []))

@@ -14,6 +14,8 @@ use Rattle.ff_frame.specs.declared.head.Codec.TheVariants as codec
 use Rattle.ff_frame.specs.declared.hash.HashKind.{HashKind}
 use Rattle.ff_frame.specs.declared.hash.HashKind.TheVariants.{Sha256, Md5}
 use Rattle.ff_format.specs.declared.format.FileFormat.{FileFormat}
+use Rattle.ff_format.specs.declared.format.Rf64.{Rf64}
+use Rattle.ff_format.specs.declared.format.Rf64.TheVariants.{Never, Auto, Always}
 use Rattle.ff_words.specs.declared.table.Concern.{Concern}
 use Rattle.ff_words.specs.declared.table.Concern.TheVariants.{All, Alone, File, Output, Itself}
 use Rattle.ff_words.specs.declared.table.Kind.{Kind}
@@ -24,9 +26,9 @@ use Rattle.ff_words.specs.declared.value.Micros.{Micros}
 use Rattle.ff_words.specs.declared.value.Value.TheVariants as value
 use Rattle.ff_format.specs.Formats.{file_formats, format_name, found, is_read, line_named}
 use Rattle.ff_words.specs.Table.{rule_in, option_named, format_in, format_named, named, audio_codec, video_codec}
-use Rattle.ff_words.specs.Values.{Reads, or_bad, format_value, codec_value, hash_value}
+use Rattle.ff_words.specs.Values.{Reads, or_bad, format_value, codec_value, hash_value, rf64_value}
 use Rattle.ff_words.specs.Words.{is_dashed}
-use Rattle.ff_words.specs.Options.{options, hash_name}
+use Rattle.ff_words.specs.Options.{options, hash_name, rf64_name}
 use Rattle.ff_words.specs.Writing.{micros_text, map_text, IsFineMap, IsFineGraph, IsSoundCodec}
 use Rattle.ff_words.proofs.Spellings.{is-duration, is-map}
 
@@ -114,6 +116,10 @@ pub line-hash : IsLine (codes "-hash") Output kind.Hash
 unfolding option_named
 line-hash = refl
 
+pub line-rf64 : IsLine (codes "-rf64") Output kind.Rf64
+unfolding option_named
+line-rf64 = refl
+
 -- ---- names of outputs are no options
 
 other-word : (name word : List ℕ) → is_dashed name ≡ true → is_dashed word ≡ false → bytes_eq name word ≡ false
@@ -192,6 +198,14 @@ hash-is Md5 = refl
 
 pub reads-hash : (h : HashKind) → Reads kind.Hash (hash_name h) (Ok (value.Hash h))
 reads-hash h = sym (ap or_bad (hash-is h))
+
+rf64-is : (mode : Rf64) → rf64_value (rf64_name mode) ≡ Some (value.Rf64 mode)
+rf64-is Never = refl
+rf64-is Auto = refl
+rf64-is Always = refl
+
+pub reads-rf64 : (mode : Rf64) → Reads kind.Rf64 (rf64_name mode) (Ok (value.Rf64 mode))
+reads-rf64 mode = sym (ap or_bad (rf64-is mode))
 
 pub reads-map : (m : MapSpec) → IsFineMap m → Reads kind.Map (map_text m) (Ok (value.Map m))
 reads-map m h = (Ok m, is-map m h, refl)

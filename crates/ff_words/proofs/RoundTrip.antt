@@ -1,6 +1,6 @@
 -- The words of a command are read as that command.
 use Rattle.std.proofs.Common.{zero, suc, ◌≡◌, ℕ, ◌+◌, ◌<◌, ◌≤◌, ◌^◌, Bool, true, false, ◌&&◌, Option, Some, None, Ok, List, [], ◌∷◌, ◌++◌, length, refl, sym, ap, subst, ◌∙◌, append_assoc, length-append, arith}
-use Rattle.std.specs.Prelude.{if◌then◌else◌, drop, not, nat_le, ◌==◌, flat_map, codes}
+use Rattle.std.specs.Prelude.{if◌then◌else◌, unwrap_or, drop, not, nat_le, ◌==◌, flat_map, codes}
 use Rattle.std.specs.List.{AllByRecursion}
 use Rattle.std.specs.Option.{ForSome}
 use Rattle.std.specs.Fmt.{decimal}
@@ -18,6 +18,8 @@ use Rattle.ff_frame.specs.declared.hash.HashKind.{HashKind}
 use Rattle.ff_frame.specs.declared.hash.HashKind.TheVariants.{Sha256, Md5}
 use Rattle.ff_words.specs.declared.error.WordKind.TheVariants.{TooMany, BadValue, NoInput, NoOutput, SameName}
 use Rattle.ff_format.specs.declared.format.FileFormat.{FileFormat}
+use Rattle.ff_format.specs.declared.format.Rf64.{Rf64}
+use Rattle.ff_format.specs.declared.format.Rf64.TheVariants.{Never, Auto, Always}
 use Rattle.ff_words.specs.declared.job.InputJob.{InputJob}
 use Rattle.ff_words.specs.declared.job.OutputJob.{OutputJob}
 use Rattle.ff_words.specs.declared.job.Job.{Job}
@@ -34,13 +36,12 @@ use Rattle.ff_words.specs.declared.value.Value.TheVariants as value
 use Rattle.ff_words.specs.Reading.{pending, reader, place_unless, end_wrong}
 use Rattle.ff_words.specs.Words.{IsAnswer, or_else, cut_of, length_of, fault, bad_at, same_name}
 use Rattle.ff_format.specs.Formats.{format_name, is_read, short_name}
-use Rattle.ff_words.specs.Options.{hash_name}
-use Rattle.ff_words.specs.Writing.{given, micros_text, map_text, format_words, start_words, length_words, input_words, map_words, audio_words, video_words, vf_words, af_words, hash_words, where_some, where_true, output_words, graph_words, trace_words, queue_words, job_words, IsFineText, IsFineGraph, IsFineMap, IsReadFormat, IsSoundCodec, WhereSome, IsFineInput, IsFineOutput, IsFineJob, IsFineSolo, IsFineCommand, solo_words, command_words}
+use Rattle.ff_words.specs.Options.{hash_name, rf64_name}
+use Rattle.ff_words.specs.Writing.{given, micros_text, map_text, format_words, start_words, length_words, input_words, map_words, audio_words, video_words, vf_words, af_words, hash_words, rf64_words, where_some, where_true, output_words, graph_words, trace_words, queue_words, job_words, IsFineText, IsFineGraph, IsFineMap, IsReadFormat, IsSoundCodec, WhereSome, IsFineInput, IsFineOutput, IsFineJob, IsFineSolo, IsFineCommand, solo_words, command_words}
 use Rattle.ff_words.proofs.Spellings.{is-number, number-short, micros-short, map-short}
-use Rattle.ff_words.proofs.Known.{line-queue, line-help, line-version, line-self_run, line-trace, line-complex, line-format, line-start, line-length, line-input, line-map, line-audio, line-video, line-vf, line-af, line-no_audio, line-no_video, line-shortest, line-hash, reads-format, reads-audio, reads-video, reads-hash, reads-map, reads-complex, reads-vf, reads-af, reads-start, reads-length}
+use Rattle.ff_words.proofs.Known.{line-queue, line-help, line-version, line-self_run, line-trace, line-complex, line-format, line-start, line-length, line-input, line-map, line-audio, line-video, line-vf, line-af, line-no_audio, line-no_video, line-shortest, line-hash, line-rf64, reads-format, reads-audio, reads-video, reads-hash, reads-rf64, reads-map, reads-complex, reads-vf, reads-af, reads-start, reads-length}
 use Rattle.ff_words.proofs.Goes.{Goes, goes-start, goes-by, goes-option, goes-input, goes-switch, goes-output}
 use Rattle.ff_words.proofs.Tokens.{ended}
-use Rattle.ff_words.proofs.Few.{few}
 
 abbrev Text : Type 0
 Text = List ℕ
@@ -59,11 +60,12 @@ pub record Own : Type 0 where
   pub length : Option Micros
   pub shortest : Bool
   pub hash : Option HashKind
+  pub rf64 : Option Rf64
   pub format : Option FileFormat
 
-abbrev own : List MapSpec → Option Codec → Option Codec → Option Graph → Option Graph → Bool → Bool → Option Micros → Option Micros → Bool → Option HashKind → Option FileFormat → Own
-own ms a v x y na nv s l sh h f =
-    record { maps = ms; audio = a; video = v; vf = x; af = y; no_audio = na; no_video = nv; start = s; length = l; shortest = sh; hash = h; format = f }
+abbrev own : List MapSpec → Option Codec → Option Codec → Option Graph → Option Graph → Bool → Bool → Option Micros → Option Micros → Bool → Option HashKind → Option Rf64 → Option FileFormat → Own
+own ms a v x y na nv s l sh h m f =
+    record { maps = ms; audio = a; video = v; vf = x; af = y; no_audio = na; no_video = nv; start = s; length = l; shortest = sh; hash = h; rf64 = m; format = f }
 
 abbrev held : Option ℕ → Option ℕ → Option ℕ → Own → Pending
 held b u e w =
@@ -85,6 +87,7 @@ held b u e w =
       no_video = w.no_video;
       shortest = w.shortest;
       hash = w.hash;
+      rf64 = w.rf64;
     }
 
 abbrev in_hand : Reader → Pending → Reader
@@ -114,6 +117,23 @@ format-short f = let short = short_name f in omega (arith, short)
 hash-short : (h : HashKind) → IsFineText (hash_name h)
 hash-short Sha256 = omega arith
 hash-short Md5 = omega arith
+
+rf64-short : (mode : Rf64) → IsFineText (rf64_name mode)
+rf64-short Never = omega arith
+rf64-short Auto = omega arith
+rf64-short Always = omega arith
+
+-- what is said of the mode
+mode_in : Rf64 → Option Rf64
+mode_in Never = None
+mode_in Auto = Some Auto
+mode_in Always = Some Always
+
+mode-is : (mode : Rf64) → unwrap_or (mode_in mode) Never ≡ mode
+unfolding mode_in
+mode-is Never = refl
+mode-is Auto = refl
+mode-is Always = refl
 
 -- ---- cuts
 
@@ -276,6 +296,22 @@ hash-read ws few y rest r w o h = (
   goes-option ws few (codes "-hash") (hash_name o) (y ++ rest) (in_hand r (held h.0 h.1 h.2 w)) Output kind.Hash (value.Hash o) h.3 refl line-hash refl (omega arith) (hash-short o) refl refl (reads-hash o),
 )
 
+rf64-said : (ws : List Text) (few : length ws ≤ 1024) (rest : List Text) (r : Reader) (w : Own) (mode : Rf64)
+    → Out ws (given (codes "-rf64") (rf64_name mode) ++ rest) r w → Out ws rest r (record w { rf64 = Some mode })
+rf64-said ws few rest r w mode h = (
+  or_else h.0 (Some h.3.at),
+  h.1,
+  or_else h.2 (Some h.3.at),
+  goes-option ws few (codes "-rf64") (rf64_name mode) rest (in_hand r (held h.0 h.1 h.2 w)) Output kind.Rf64 (value.Rf64 mode) h.3 refl line-rf64 refl (omega arith) (rf64-short mode) refl refl (reads-rf64 mode),
+)
+
+rf64-read : (ws : List Text) (few : length ws ≤ 1024) (y rest : List Text) (r : Reader) (w : Own) (mode : Rf64)
+    → Out ws ((rf64_words mode ++ y) ++ rest) r (record w { rf64 = None }) → Out ws (y ++ rest) r (record w { rf64 = mode_in mode })
+unfolding mode_in
+rf64-read ws few y rest r w Never h = h
+rf64-read ws few y rest r w Auto h = rf64-said ws few (y ++ rest) r (record w { rf64 = None }) Auto h
+rf64-read ws few y rest r w Always h = rf64-said ws few (y ++ rest) r (record w { rf64 = None }) Always h
+
 format-read : (ws : List Text) (few : length ws ≤ 1024) (y rest : List Text) (r : Reader) (w : Own) (o : FileFormat)
     → Out ws ((format_words o ++ y) ++ rest) r w → Out ws (y ++ rest) r (record w { format = Some o })
 format-read ws few y rest r w o h = (
@@ -290,13 +326,14 @@ format-read ws few y rest r w o h = (
 
 abbrev made_output : OutputJob → Own
 made_output o =
-    own o.maps o.audio o.video o.vf o.af o.no_audio o.no_video (Some (start_in o.cut)) (micros_in o.cut.length o.cut.length_bound) o.shortest (Some o.hash) (Some o.format)
+    own o.maps o.audio o.video o.vf o.af o.no_audio o.no_video (Some (start_in o.cut)) (micros_in o.cut.length o.cut.length_bound) o.shortest (Some o.hash) (mode_in o.rf64) (Some o.format)
 
 output-options : (ws : List Text) (few : length ws ≤ 1024) (rest : List Text) (r : Reader) (o : OutputJob) → IsFineOutput o → Goes ws (output_words o ++ rest) (in_hand r (pending []))
     → Out ws (o.name ∷ rest) r (made_output o)
 output-options ws few rest r o fine g =
-    let y12 : List Text = o.name ∷ [] in
-    let y11 : List Text = format_words o.format ++ y12 in
+    let y13 : List Text = o.name ∷ [] in
+    let y12 : List Text = format_words o.format ++ y13 in
+    let y11 : List Text = rf64_words o.rf64 ++ y12 in
     let y10 : List Text = hash_words o.hash ++ y11 in
     let y9 : List Text = where_true (codes "-shortest") o.shortest ++ y10 in
     let y8 : List Text = length_words o.cut.length ++ y9 in
@@ -309,20 +346,21 @@ output-options ws few rest r o fine g =
     let y1 : List Text = audio_words o.audio ++ y2 in
     let s : Option Micros = Some (start_in o.cut) in
     let l : Option Micros = micros_in o.cut.length o.cut.length_bound in
-    let w0 : Own = own [] None None None None false false None None false None None in
+    let w0 : Own = own [] None None None None false false None None false None None None in
     let h0 : Out ws (flat_map map_words o.maps ++ (y1 ++ rest)) r w0 = out-split ws r w0 (flat_map map_words o.maps) y1 rest (None, None, None, g) in
-    let h1 : Out ws (y1 ++ rest) r (own o.maps None None None None false false None None false None None) = maps-read ws few (y1 ++ rest) r w0 o.maps [] fine.maps (omega (arith, fine.few_maps)) h0 in
-    let h2 : Out ws (y2 ++ rest) r (own o.maps o.audio None None None false false None None false None None) = audio-read ws few y2 rest r (own o.maps None None None None false false None None false None None) o.audio fine.audio h1 in
-    let h3 : Out ws (y3 ++ rest) r (own o.maps o.audio o.video None None false false None None false None None) = video-read ws few y3 rest r (own o.maps o.audio None None None false false None None false None None) o.video fine.video h2 in
-    let h4 : Out ws (y4 ++ rest) r (own o.maps o.audio o.video o.vf None false false None None false None None) = vf-read ws few y4 rest r (own o.maps o.audio o.video None None false false None None false None None) o.vf fine.vf h3 in
-    let h5 : Out ws (y5 ++ rest) r (own o.maps o.audio o.video o.vf o.af false false None None false None None) = af-read ws few y5 rest r (own o.maps o.audio o.video o.vf None false false None None false None None) o.af fine.af h4 in
-    let h6 : Out ws (y6 ++ rest) r (own o.maps o.audio o.video o.vf o.af o.no_audio false None None false None None) = no_audio-read ws few y6 rest r (own o.maps o.audio o.video o.vf o.af false false None None false None None) o.no_audio h5 in
-    let h7 : Out ws (y7 ++ rest) r (own o.maps o.audio o.video o.vf o.af o.no_audio o.no_video None None false None None) = no_video-read ws few y7 rest r (own o.maps o.audio o.video o.vf o.af o.no_audio false None None false None None) o.no_video h6 in
-    let h8 : Out ws (y8 ++ rest) r (own o.maps o.audio o.video o.vf o.af o.no_audio o.no_video s None false None None) = start-read ws few y8 rest r (own o.maps o.audio o.video o.vf o.af o.no_audio o.no_video None None false None None) (start_in o.cut) h7 in
-    let h9 : Out ws (y9 ++ rest) r (own o.maps o.audio o.video o.vf o.af o.no_audio o.no_video s l false None None) = length-read ws few y9 rest r (own o.maps o.audio o.video o.vf o.af o.no_audio o.no_video s None false None None) o.cut.length o.cut.length_bound h8 in
-    let h10 : Out ws (y10 ++ rest) r (own o.maps o.audio o.video o.vf o.af o.no_audio o.no_video s l o.shortest None None) = shortest-read ws few y10 rest r (own o.maps o.audio o.video o.vf o.af o.no_audio o.no_video s l false None None) o.shortest h9 in
-    let h11 : Out ws (y11 ++ rest) r (own o.maps o.audio o.video o.vf o.af o.no_audio o.no_video s l o.shortest (Some o.hash) None) = hash-read ws few y11 rest r (own o.maps o.audio o.video o.vf o.af o.no_audio o.no_video s l o.shortest None None) o.hash h10 in
-    format-read ws few y12 rest r (own o.maps o.audio o.video o.vf o.af o.no_audio o.no_video s l o.shortest (Some o.hash) None) o.format h11
+    let h1 : Out ws (y1 ++ rest) r (own o.maps None None None None false false None None false None None None) = maps-read ws few (y1 ++ rest) r w0 o.maps [] fine.maps (omega (arith, fine.few_maps)) h0 in
+    let h2 : Out ws (y2 ++ rest) r (own o.maps o.audio None None None false false None None false None None None) = audio-read ws few y2 rest r (own o.maps None None None None false false None None false None None None) o.audio fine.audio h1 in
+    let h3 : Out ws (y3 ++ rest) r (own o.maps o.audio o.video None None false false None None false None None None) = video-read ws few y3 rest r (own o.maps o.audio None None None false false None None false None None None) o.video fine.video h2 in
+    let h4 : Out ws (y4 ++ rest) r (own o.maps o.audio o.video o.vf None false false None None false None None None) = vf-read ws few y4 rest r (own o.maps o.audio o.video None None false false None None false None None None) o.vf fine.vf h3 in
+    let h5 : Out ws (y5 ++ rest) r (own o.maps o.audio o.video o.vf o.af false false None None false None None None) = af-read ws few y5 rest r (own o.maps o.audio o.video o.vf None false false None None false None None None) o.af fine.af h4 in
+    let h6 : Out ws (y6 ++ rest) r (own o.maps o.audio o.video o.vf o.af o.no_audio false None None false None None None) = no_audio-read ws few y6 rest r (own o.maps o.audio o.video o.vf o.af false false None None false None None None) o.no_audio h5 in
+    let h7 : Out ws (y7 ++ rest) r (own o.maps o.audio o.video o.vf o.af o.no_audio o.no_video None None false None None None) = no_video-read ws few y7 rest r (own o.maps o.audio o.video o.vf o.af o.no_audio false None None false None None None) o.no_video h6 in
+    let h8 : Out ws (y8 ++ rest) r (own o.maps o.audio o.video o.vf o.af o.no_audio o.no_video s None false None None None) = start-read ws few y8 rest r (own o.maps o.audio o.video o.vf o.af o.no_audio o.no_video None None false None None None) (start_in o.cut) h7 in
+    let h9 : Out ws (y9 ++ rest) r (own o.maps o.audio o.video o.vf o.af o.no_audio o.no_video s l false None None None) = length-read ws few y9 rest r (own o.maps o.audio o.video o.vf o.af o.no_audio o.no_video s None false None None None) o.cut.length o.cut.length_bound h8 in
+    let h10 : Out ws (y10 ++ rest) r (own o.maps o.audio o.video o.vf o.af o.no_audio o.no_video s l o.shortest None None None) = shortest-read ws few y10 rest r (own o.maps o.audio o.video o.vf o.af o.no_audio o.no_video s l false None None None) o.shortest h9 in
+    let h11 : Out ws (y11 ++ rest) r (own o.maps o.audio o.video o.vf o.af o.no_audio o.no_video s l o.shortest (Some o.hash) None None) = hash-read ws few y11 rest r (own o.maps o.audio o.video o.vf o.af o.no_audio o.no_video s l o.shortest None None None) o.hash h10 in
+    let h12 : Out ws (y12 ++ rest) r (own o.maps o.audio o.video o.vf o.af o.no_audio o.no_video s l o.shortest (Some o.hash) (mode_in o.rf64) None) = rf64-read ws few y12 rest r (own o.maps o.audio o.video o.vf o.af o.no_audio o.no_video s l o.shortest (Some o.hash) None None) o.rf64 h11 in
+    format-read ws few y13 rest r (own o.maps o.audio o.video o.vf o.af o.no_audio o.no_video s l o.shortest (Some o.hash) (mode_in o.rf64) None) o.format h12
 
 in_bounds : (full empty : Bool) (at : ℕ) → full ≡ false → empty ≡ false
     → None ≡ (if full then Some (fault at TooMany) else or_else (bad_at None) (if not empty && true then None else Some (fault at BadValue)))
@@ -330,8 +368,8 @@ in_bounds false false at h k = refl
 in_bounds false true at h k = cc
 in_bounds true b at h k = cc
 
-output-same : (o : OutputJob) (c : TimeCut) → c ≡ o.cut → record o { cut = c } ≡ o
-output-same o c e = ap (λ x. record o { cut = x }) e
+output-same : (o : OutputJob) (c : TimeCut) (mode : Rf64) → c ≡ o.cut → mode ≡ o.rf64 → record o { cut = c; rf64 = mode } ≡ o
+output-same o c mode e f = ap (λ x. record o { cut = x; rf64 = mode }) e ∙ ap (λ x. record o { rf64 = x }) f
 
 output-read : (ws : List Text) (few : length ws ≤ 1024) (rest : List Text) (r : Reader) (o : OutputJob) → IsFineOutput o → length r.outputs < 16 → Goes ws (output_words o ++ rest) (in_hand r (pending []))
     → Goes ws rest (record r { outputs = r.outputs ++ o ∷ []; pending = pending [] })
@@ -341,7 +379,7 @@ output-read ws few rest r o fine room g =
     let empty : (length o.name == 0) ≡ false = ne_eqb (length o.name) 0 (λ e. omega (arith, e, fine.some_name)) in
     let old : Reader = in_hand r (held h.0 h.1 h.2 (made_output o)) in
     subst (λ x. Goes ws rest (record r { outputs = r.outputs ++ x ∷ []; pending = pending [] }))
-    (output-same o (cut_of (Some (start_in o.cut)) (micros_in o.cut.length o.cut.length_bound)) (cut-same o.cut))
+    (output-same o (cut_of (Some (start_in o.cut)) (micros_in o.cut.length o.cut.length_bound)) (unwrap_or (mode_in o.rf64) Never) (cut-same o.cut) (mode-is o.rf64))
     (goes-output ws few o.name rest old o.format h.3 fine.plain_name fine.name (λ ending. in_bounds (nat_le 16 (length r.outputs)) (length o.name == 0) h.3.at full empty) refl)
 
 outputs-read : (ws : List Text) (few : length ws ≤ 1024) (rest : List Text) (os : List OutputJob) (r : Reader) → AllByRecursion IsFineOutput os → length r.outputs + length os ≤ 16
@@ -400,11 +438,11 @@ input-read ws few rest r i fine room g =
     let y1 : List Text = start_words i.cut.start ++ y2 in
     let s : Option Micros = Some (start_in i.cut) in
     let l : Option Micros = micros_in i.cut.length i.cut.length_bound in
-    let w0 : Own = own [] None None None None false false None None false None None in
-    let h1 : In ws (y1 ++ rest) r (own [] None None None None false false None None false None i.format) = in-format ws few y1 rest r w0 i.format fine.format (None, g) in
-    let h2 : In ws (y2 ++ rest) r (own [] None None None None false false s None false None i.format) = in-start ws few y2 rest r (own [] None None None None false false None None false None i.format) (start_in i.cut) h1 in
-    let h3 : In ws (y3 ++ rest) r (own [] None None None None false false s l false None i.format) = in-length ws few y3 rest r (own [] None None None None false false s None false None i.format) i.cut.length i.cut.length_bound h2 in
-    let old : Reader = in_hand r (held None None h3.0 (own [] None None None None false false s l false None i.format)) in
+    let w0 : Own = own [] None None None None false false None None false None None None in
+    let h1 : In ws (y1 ++ rest) r (own [] None None None None false false None None false None None i.format) = in-format ws few y1 rest r w0 i.format fine.format (None, g) in
+    let h2 : In ws (y2 ++ rest) r (own [] None None None None false false s None false None None i.format) = in-start ws few y2 rest r (own [] None None None None false false None None false None None i.format) (start_in i.cut) h1 in
+    let h3 : In ws (y3 ++ rest) r (own [] None None None None false false s l false None None i.format) = in-length ws few y3 rest r (own [] None None None None false false s None false None None i.format) i.cut.length i.cut.length_bound h2 in
+    let old : Reader = in_hand r (held None None h3.0 (own [] None None None None false false s l false None None i.format)) in
     let full : nat_le 16 (length r.inputs) ≡ false = lt-leb 16 (length r.inputs) room in
     subst (λ x. Goes ws rest (record r { inputs = r.inputs ++ x ∷ []; pending = pending [] })) (input-same i (cut_of s l) (cut-same i.cut))
     (goes-input ws few (codes "-i") i.name rest old h3.1 refl line-input (omega arith) fine.name (in_room (nat_le 16 (length r.inputs)) (h3.1.at + 1) full))
@@ -479,9 +517,9 @@ fine_end true b c count h k l = cc
 fine_end false true c count h k l = cc
 fine_end false false true count h k l = cc
 
-job-read : (j : Job) → IsFineJob j → IsAnswer (job_words j) (Ok (asked.Run j))
-job-read j fine =
-    let g : Goes (job_words j) [] (done j) = all-read j fine (few j fine) in
+job-read : (j : Job) → IsFineJob j → length (job_words j) ≤ 1024 → IsAnswer (job_words j) (Ok (asked.Run j))
+job-read j fine few =
+    let g : Goes (job_words j) [] (done j) = all-read j fine few in
     let no_input : (length j.inputs == 0) ≡ false = ne_eqb (length j.inputs) 0 (λ e. omega (arith, e, fine.some_inputs)) in
     let no_output : (length j.outputs == 0) ≡ false = ne_eqb (length j.outputs) 0 (λ e. omega (arith, e, fine.some_outputs)) in
     let right : end_wrong (length (job_words j)) (done j) ≡ None =
@@ -523,6 +561,6 @@ solo-read Help fine = help-read
 solo-read Version fine = version-read
 solo-read (SelfRun n) fine = self_run-read n fine
 
-pub written-read : (c : Command) → IsFineCommand c → IsAnswer (command_words c) (Ok c)
-written-read (asked.Run j) fine = job-read j fine
-written-read (asked.Solo s) fine = solo-read s fine
+pub written-read : (c : Command) → IsFineCommand c → length (command_words c) ≤ 1024 → IsAnswer (command_words c) (Ok c)
+written-read (asked.Run j) fine few = job-read j fine few
+written-read (asked.Solo s) fine few = solo-read s fine

@@ -9,7 +9,7 @@ use Rattle.ff_words.specs.declared.reader.Pending.{Pending}
 use Rattle.ff_words.specs.declared.reader.Reader.{Reader}
 use Rattle.ff_format.specs.declared.format.FileFormat.{FileFormat}
 use Rattle.ff_format.specs.declared.format.FileFormat.TheVariants.{FrameHash}
-use Rattle.ff_words.specs.Words.{not_before_input, not_before_output, not_at_end, as_format, as_start, as_length, as_map, as_audio, as_video, as_vf, as_af, as_no_audio, as_no_video, as_shortest, as_hash, as_queue, as_trace, as_graph, as_solo, Entry, Group, Groups, groups, led, is_file, or_else, last, each, first_place, last_place, unread_place, unwritten_place, inputs, outputs, group_input, group_output}
+use Rattle.ff_words.specs.Words.{not_before_input, not_before_output, not_at_end, as_format, as_start, as_length, as_map, as_audio, as_video, as_vf, as_af, as_no_audio, as_no_video, as_shortest, as_hash, as_rf64, as_queue, as_trace, as_graph, as_solo, Entry, Group, Groups, groups, led, is_file, or_else, last, each, first_place, last_place, unread_place, unwritten_place, inputs, outputs, group_input, group_output}
 use Rattle.std.specs.Prelude.{flat_map}
 use Rattle.ff_words.specs.Words.{output_format, late}
 use Rattle.ff_words.specs.Reading.{with_input, with_output, input_wrong, output_wrong, pending_format, valued, noted, whole, pending, reader, waiting, optioned, kept}
@@ -116,6 +116,7 @@ merged at concern v own =
       no_video = unwrap_or (or_else (as_no_video v) (last as_no_video own)) false;
       shortest = unwrap_or (or_else (as_shortest v) (last as_shortest own)) false;
       hash = or_else (as_hash v) (last as_hash own);
+      rf64 = or_else (as_rf64 v) (last as_rf64 own);
     }
 
 merged-is : (own : List Entry) (e : Entry) → pending (own ++ e ∷ []) ≡ merged e.at e.concern e.value own
@@ -138,6 +139,7 @@ merged-is own e =
       last-snoc as_no_video own e,
       last-snoc as_shortest own e,
       last-snoc as_hash own e,
+      last-snoc as_rf64 own e,
     ) refl
 
 waits : (at : ℕ) (concern : Concern) (v : Value) (own : List Entry) → merged at concern v own ≡ valued at v (noted at concern (pending own))
@@ -159,6 +161,7 @@ waits at concern (value.VideoCodec c) own = refl
 waits at concern (value.VideoGraph g) own = refl
 waits at concern (value.AudioGraph g) own = refl
 waits at concern (value.Hash h) own = refl
+waits at concern (value.Rf64 mode) own = refl
 waits at concern (value.Output n x) own = refl
 
 pub pending-snoc : (own : List Entry) (e : Entry) → pending (own ++ e ∷ []) ≡ waiting e (pending own)
@@ -204,6 +207,7 @@ joins e (value.VideoCodec c) es p plain = refl
 joins e (value.VideoGraph g) es p plain = refl
 joins e (value.AudioGraph g) es p plain = refl
 joins e (value.Hash h) es p plain = refl
+joins e (value.Rf64 mode) es p plain = refl
 joins e (value.Output n x) es p plain = cc
 
 -- an option behind the entries
@@ -291,6 +295,7 @@ plain_late es at (value.VideoCodec c) plain = refl
 plain_late es at (value.VideoGraph g) plain = refl
 plain_late es at (value.AudioGraph g) plain = refl
 plain_late es at (value.Hash h) plain = refl
+plain_late es at (value.Rf64 mode) plain = refl
 plain_late es at (value.Output n x) plain = cc
 
 pub taken-option : (es : List Entry) (at : ℕ) (concern : Concern) (v : Value) (old new : Reader) → is_file v ≡ false → old ≡ reader es
@@ -317,6 +322,7 @@ not_file (value.VideoCodec c) i o = refl
 not_file (value.VideoGraph g) i o = refl
 not_file (value.AudioGraph g) i o = refl
 not_file (value.Hash h) i o = refl
+not_file (value.Rf64 mode) i o = refl
 not_file (value.Output n x) i o = absurd (o n x refl)
 
 pub taken-output : (es : List Entry) (at : ℕ) (concern : Concern) (v : Value) (name : List ℕ) (ending : Option FileFormat) (format : FileFormat) (old new : Reader) → v ≡ value.Output name ending

@@ -116,6 +116,7 @@ full-is es kind.VideoCodec = refl
 full-is es kind.VideoGraph = refl
 full-is es kind.AudioGraph = refl
 full-is es kind.Hash = refl
+full-is es kind.Rf64 = refl
 
 pub given-fine : (es : List Entry) (t : Token) (rule : Rule) (text : List ℕ) (at : ℕ) (old : Reader) → t.at ≡ at → old ≡ reader es → is_too_much t.at t.word ≡ false → is_dashed t.word ≡ true
     → option_named t.word ≡ Some rule → switched rule.kind ≡ None → t.value ≡ Some text → full rule.kind old ≡ false → is_too_much (at + 1) text ≡ false → early es t ≡ None

@@ -114,6 +114,7 @@ reads-one kind.VideoCodec text r s h j = h ∙ sym j
 reads-one kind.VideoGraph text r s h j = makes-one value.VideoGraph (ReadsGraph text) r s (graph-one text) h j
 reads-one kind.AudioGraph text r s h j = makes-one value.AudioGraph (ReadsGraph text) r s (graph-one text) h j
 reads-one kind.Hash text r s h j = h ∙ sym j
+reads-one kind.Rf64 text r s h j = h ∙ sym j
 
 -- ---- tokens
 

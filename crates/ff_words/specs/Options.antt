@@ -4,6 +4,8 @@ use Rattle.ff_frame.specs.declared.head.Codec.{Codec}
 use Rattle.ff_frame.specs.declared.head.Codec.TheVariants as codec
 use Rattle.ff_frame.specs.declared.hash.HashKind.{HashKind}
 use Rattle.ff_frame.specs.declared.hash.HashKind.TheVariants.{Sha256, Md5}
+use Rattle.ff_format.specs.declared.format.Rf64.{Rf64}
+use Rattle.ff_format.specs.declared.format.Rf64.TheVariants.{Never, Auto, Always}
 use Rattle.ff_words.specs.declared.table.Concern.{Concern}
 use Rattle.ff_words.specs.declared.table.Concern.TheVariants.{All, Alone, File, Output, Itself}
 use Rattle.ff_words.specs.declared.table.Kind.{Kind}
@@ -63,6 +65,7 @@ options =
     (codes "-an", Output, kind.NoAudio) ∷
     (codes "-shortest", Output, kind.Shortest) ∷
     (codes "-hash", Output, kind.Hash) ∷
+    (codes "-rf64", Output, kind.Rf64) ∷
     []
 
 -- the codecs of sound, in the order in which `-h` tells them
@@ -76,6 +79,11 @@ video_codecs = codec.RawVideo ∷ []
 abbrev pub hash_name : HashKind → List ℕ
 hash_name Sha256 = codes "SHA256"
 hash_name Md5 = codes "MD5"
+
+abbrev pub rf64_name : Rf64 → List ℕ
+rf64_name Never = codes "never"
+rf64_name Auto = codes "auto"
+rf64_name Always = codes "always"
 
 -- how much is logged
 abbrev pub log_levels : List (List ℕ)

@@ -16,6 +16,7 @@ use Rattle.ff_words.specs.declared.error.Fault.{Fault}
 use Rattle.ff_words.specs.declared.error.WordError.{WordError}
 use Rattle.ff_words.specs.declared.error.WordError.TheVariants.{At, NoMemory}
 use Rattle.ff_words.specs.declared.error.WordKind.TheVariants.{TooMany, BadValue}
+use Rattle.ff_format.specs.declared.format.Rf64.TheVariants.{Never}
 use Rattle.ff_format.specs.Formats.{default_hash}
 use Rattle.ff_words.specs.Table.{option_named}
 use Rattle.ff_words.specs.Values.{switched}
@@ -26,7 +27,7 @@ use Rattle.ff_words.specs.Words.{AreRead, is_too_much, is_dashed}
 use Rattle.ff_words.specs.Words.{IsAnswer, end_by, is_output, takes_value, tokens, Token, written, fault, misplaced, bad_at, late, unwritable, cut_of}
 use Rattle.ff_words.specs.Words.{IsEntry, IsFaultAt, Entry, groups, last, each, first_place, not_before_input, not_before_output, not_at_end, or_else}
 use Rattle.ff_words.specs.Words.{unreadable, as_format, as_start, as_length, as_map, as_audio, as_video, as_vf, as_af, as_no_audio, as_no_video}
-use Rattle.ff_words.specs.Words.{as_shortest, as_hash, as_queue, as_trace, as_graph, as_solo, stands_alone, inputs, outputs}
+use Rattle.ff_words.specs.Words.{as_shortest, as_hash, as_rf64, as_queue, as_trace, as_graph, as_solo, stands_alone, inputs, outputs}
 
 -- the options that wait for their file
 abbrev pub pending : List Entry → Pending
@@ -49,6 +50,7 @@ pending own =
       no_video = unwrap_or (last as_no_video own) false;
       shortest = unwrap_or (last as_shortest own) false;
       hash = last as_hash own;
+      rf64 = last as_rf64 own;
     }
 
 -- all that was read
@@ -94,6 +96,7 @@ valued at value.NoAudio p = record p { no_audio = true }
 valued at value.NoVideo p = record p { no_video = true }
 valued at value.Shortest p = record p { shortest = true }
 valued at (value.Hash h) p = record p { hash = Some h }
+valued at (value.Rf64 mode) p = record p { rf64 = Some mode }
 valued at _ p = p
 
 abbrev pub waiting : Entry → Pending → Pending
@@ -141,6 +144,7 @@ with_output name format r =
         cut = cut_of r.pending.start r.pending.length;
         shortest = r.pending.shortest;
         hash = unwrap_or r.pending.hash (default_hash format);
+        rf64 = unwrap_or r.pending.rf64 Never;
       }) ∷ [];
       pending = pending [];
     }

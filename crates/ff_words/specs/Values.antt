@@ -4,6 +4,7 @@ use Rattle.std.specs.Str.{bytes_eq}
 use Rattle.std.specs.Char.{to_ascii_lowercase}
 use Rattle.ff_frame.specs.declared.head.Codec.{Codec}
 use Rattle.ff_frame.specs.declared.hash.HashKind.TheVariants.{Sha256, Md5}
+use Rattle.ff_format.specs.declared.format.Rf64.TheVariants.{Never, Auto, Always}
 use Rattle.ff_lang.specs.declared.graph.Graph.{Graph}
 use Rattle.ff_lang.specs.Grammar.{IsGraph}
 use Rattle.ff_lang.specs.Grammar as graph
@@ -21,7 +22,7 @@ use Rattle.ff_words.specs.declared.table.Kind.TheVariants as kind
 use Rattle.ff_words.specs.declared.value.Micros.{Micros}
 use Rattle.ff_words.specs.declared.value.Value.{Value}
 use Rattle.ff_words.specs.declared.value.Value.TheVariants as value
-use Rattle.ff_words.specs.Options.{hash_name}
+use Rattle.ff_words.specs.Options.{hash_name, rf64_name}
 use Rattle.ff_words.specs.Table.{format_named, audio_codec, video_codec, is_level, is_frame_mode, is_sync_mode}
 
 -- a value, or that it is outside its set
@@ -49,6 +50,12 @@ abbrev pub hash_value : List ℕ → Option Value
 hash_value text =
     if is_spelled text (hash_name Sha256) then Some (value.Hash Sha256) else
     (if is_spelled text (hash_name Md5) then Some (value.Hash Md5) else None)
+
+abbrev pub rf64_value : List ℕ → Option Value
+rf64_value text =
+    if bytes_eq text (rf64_name Never) then Some (value.Rf64 Never) else
+    (if bytes_eq text (rf64_name Auto) then Some (value.Rf64 Auto) else
+    (if bytes_eq text (rf64_name Always) then Some (value.Rf64 Always) else None))
 
 -- a whole number of 1 to 9 digits in its range
 abbrev pub ReadsWhole : ℕ → ℕ → List ℕ → Result ℕ WordKind → Type 0
@@ -106,6 +113,7 @@ value_named kind.Format text = format_value (format_named text)
 value_named kind.AudioCodec text = codec_value value.AudioCodec (audio_codec text)
 value_named kind.VideoCodec text = codec_value value.VideoCodec (video_codec text)
 value_named kind.Hash text = hash_value text
+value_named kind.Rf64 text = rf64_value text
 value_named _ text = None
 
 -- kinds whose values are numbers, times or names of a list
@@ -123,6 +131,7 @@ IsSmall kind.Length = Unit {0}
 IsSmall kind.AudioCodec = Unit {0}
 IsSmall kind.VideoCodec = Unit {0}
 IsSmall kind.Hash = Unit {0}
+IsSmall kind.Rf64 = Unit {0}
 IsSmall _ = ⊥
 
 -- the text, as the value of an option of this kind, reads so
@@ -153,3 +162,4 @@ Reads kind.VideoCodec text r = r ≡ or_bad (value_named kind.VideoCodec text)
 Reads kind.VideoGraph text r = Makes value.VideoGraph (ReadsGraph text) r
 Reads kind.AudioGraph text r = Makes value.AudioGraph (ReadsGraph text) r
 Reads kind.Hash text r = r ≡ or_bad (value_named kind.Hash text)
+Reads kind.Rf64 text r = r ≡ or_bad (value_named kind.Rf64 text)

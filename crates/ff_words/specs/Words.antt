@@ -16,6 +16,8 @@ use Rattle.ff_words.specs.declared.error.WordKind.TheVariants.{UnknownOption, Mi
 use Rattle.ff_frame.specs.declared.hash.HashKind.{HashKind}
 use Rattle.ff_format.specs.declared.format.FileFormat.{FileFormat}
 use Rattle.ff_format.specs.declared.format.FileFormat.TheVariants.{FrameHash}
+use Rattle.ff_format.specs.declared.format.Rf64.{Rf64}
+use Rattle.ff_format.specs.declared.format.Rf64.TheVariants.{Never}
 use Rattle.ff_format.specs.Formats.{default_hash}
 use Rattle.ff_words.specs.declared.job.InputJob.{InputJob}
 use Rattle.ff_words.specs.declared.job.OutputJob.{OutputJob}
@@ -170,6 +172,10 @@ abbrev pub as_hash : Value → Option HashKind
 as_hash (value.Hash h) = Some h
 as_hash _ = None
 
+abbrev pub as_rf64 : Value → Option Rf64
+as_rf64 (value.Rf64 mode) = Some mode
+as_rf64 _ = None
+
 abbrev pub as_queue : Value → Option ℕ
 as_queue (value.Queue n) = Some n
 as_queue _ = None
@@ -240,6 +246,7 @@ output_job own name ending =
       cut = cut_of (last as_start own) (last as_length own);
       shortest = unwrap_or (last as_shortest own) false;
       hash = unwrap_or (last as_hash own) (default_hash (unwrap_or (output_format own ending) FrameHash));
+      rf64 = unwrap_or (last as_rf64 own) Never;
     }
 
 abbrev pub group_input : List Entry → Value → List InputJob

@@ -18,6 +18,8 @@ use Rattle.ff_map.specs.declared.map.MapFrom.TheVariants.{Input, Label}
 use Rattle.ff_map.specs.declared.map.MapSpec.{MapSpec}
 use Rattle.ff_map.specs.Grammar.{letter, mark}
 use Rattle.ff_format.specs.declared.format.FileFormat.{FileFormat}
+use Rattle.ff_format.specs.declared.format.Rf64.{Rf64}
+use Rattle.ff_format.specs.declared.format.Rf64.TheVariants.{Never, Auto, Always}
 use Rattle.ff_words.specs.declared.job.InputJob.{InputJob}
 use Rattle.ff_words.specs.declared.job.OutputJob.{OutputJob}
 use Rattle.ff_words.specs.declared.job.Job.{Job}
@@ -26,7 +28,7 @@ use Rattle.ff_words.specs.declared.job.Command.TheVariants as asked
 use Rattle.ff_words.specs.declared.job.Solo.{Solo}
 use Rattle.ff_words.specs.declared.job.Solo.TheVariants.{Help, Version, SelfRun}
 use Rattle.ff_format.specs.Formats.{format_name, is_read}
-use Rattle.ff_words.specs.Options.{hash_name}
+use Rattle.ff_words.specs.Options.{hash_name, rf64_name}
 use Rattle.ff_words.specs.Words.{is_dashed, same_name}
 
 -- ---- values
@@ -97,6 +99,12 @@ af_words o = where_some (λ g. given (codes "-af") (printed g)) o
 abbrev pub hash_words : HashKind → List (List ℕ)
 hash_words h = given (codes "-hash") (hash_name h)
 
+-- what is so without the option isn't said
+abbrev pub rf64_words : Rf64 → List (List ℕ)
+rf64_words Never = []
+rf64_words Auto = given (codes "-rf64") (rf64_name Auto)
+rf64_words Always = given (codes "-rf64") (rf64_name Always)
+
 abbrev pub output_words : OutputJob → List (List ℕ)
 output_words o =
     all_of (
@@ -111,6 +119,7 @@ output_words o =
     length_words o.cut.length ∷
     where_true (codes "-shortest") o.shortest ∷
     hash_words o.hash ∷
+    rf64_words o.rf64 ∷
     format_words o.format ∷
     (o.name ∷ []) ∷
     []
@@ -197,6 +206,10 @@ pub record IsFineOutput (o : OutputJob) : Type 0 where
   pub video : WhereSome (λ c. c ≡ codec.RawVideo) o.video
   pub vf : WhereSome IsFineGraph o.vf
   pub af : WhereSome IsFineGraph o.af
+
+-- an output that is no RF64
+abbrev pub IsPlainOutput : OutputJob → Type 0
+IsPlainOutput o = o.rf64 ≡ Never
 
 -- Each number is in its range, each name and text is short enough, the names of outputs are names of outputs, there are one to
 -- sixteen of what there may be sixteen of, and no written name stands twice.

@@ -1,5 +1,5 @@
 //! The command that a command line asks for.
-use ff_format::FileFormat;
+use ff_format::{FileFormat, Rf64};
 use ff_frame::{Codec, HashKind};
 use ff_lang::{Graph, Sequence, Text};
 use ff_map::MapSpec;
@@ -43,6 +43,8 @@ pub struct OutputJob {
     pub shortest: bool,
     /// The digest by `-hash`; without it that of the format.
     pub hash: HashKind,
+    /// When it is RF64, by `-rf64`.
+    pub rf64: Rf64,
 }
 
 /// What a command reads and writes.

@@ -28,6 +28,7 @@ pub use error::{WordError, WordKind};
 pub use job::{Command, InputJob, Job, OutputJob, Solo};
 pub use laws::{
     a_fault_stays, the_lists_are_as_defined, words_have_one_answer, written_commands_are_read,
+    written_jobs_are_short,
 };
 pub use read::read_words;
 pub use table::{AUDIO_CODECS, Concern, Kind, OPTIONS, VIDEO_CODECS};

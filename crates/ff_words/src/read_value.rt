@@ -2,8 +2,7 @@
 ghost use Rattle.std.specs.Prelude.{◌≡◌, ◌-◌, ◌^◌, ◌<◌, ◌≤◌, ℕ, length, IfOk, MatchOption, None};
 ghost use Rattle.ff_time.specs.Duration.{IsDigit};
 ghost use Rattle.ff_map.specs.Grammar.{IsNumber};
-ghost use Rattle.ff_words.specs.Values.{Reads, ReadsGraph, ReadsTime, ReadsMap, ReadsWhole, hash_value, is_spelled, switched, value_named, IsSmall};
-ghost use Rattle.ff_words.specs.Values.{ReadsNumber, ReadsLevel, mode_value};
+ghost use Rattle.ff_words.specs.Values.{Reads, ReadsGraph, ReadsTime, ReadsMap, ReadsWhole, hash_value, rf64_value, is_spelled, switched, value_named, IsSmall, ReadsNumber, ReadsLevel, mode_value};
 ghost use Rattle.ff_words.specs.Table.{is_level as level_named};
 
 use crate::error::WordKind;
@@ -12,6 +11,7 @@ use crate::table::{
     Kind, audio_codec, format_of, is_frame_mode, is_level, is_sync_mode, video_codec,
 };
 use crate::value::{Micros, Value};
+use ff_format::Rf64;
 use ff_frame::HashKind;
 use ff_lang::{Graph, LangError, Text, read_graph};
 use ff_map::{MapError, MapSpec, read_map};
@@ -159,6 +159,20 @@ fn hash_of(text: &str) -> Option<Value>
     }
 }
 
+fn rf64_of(text: &str) -> Option<Value>
+    ensures { result ≡ rf64_value text.now }
+{
+    if text == "never" {
+        Some(Value::Rf64(Rf64::Never))
+    } else if text == "auto" {
+        Some(Value::Rf64(Rf64::Auto))
+    } else if text == "always" {
+        Some(Value::Rf64(Rf64::Always))
+    } else {
+        None
+    }
+}
+
 /// A copy of a string.
 pub(crate) fn text_of(alloc: Global, text: &str) -> Result<Text, AllocError>
     ensures { IfOk result (λ copy. copy ≡ text.now) }
@@ -251,6 +265,7 @@ fn named_value(kind: Kind, text: &str) -> Option<Value>
         Kind::FrameMode => mode(is_frame_mode(text)),
         Kind::SyncMode => mode(is_sync_mode(text)),
         Kind::Hash => hash_of(text),
+        Kind::Rf64 => rf64_of(text),
         _ => None,
     }
 }

@@ -18,7 +18,7 @@ use crate::job::{Command, InputJob, Job, OutputJob, Solo};
 use crate::read_value::{read_value, text_of};
 use crate::table::{Concern, Kind, Rule, find_option, format_ending};
 use crate::value::{Micros, Value};
-use ff_format::FileFormat;
+use ff_format::{FileFormat, Rf64};
 use ff_frame::{Codec, HashKind};
 use ff_lang::{Graph, Sequence, Text};
 use ff_map::MapSpec;
@@ -50,6 +50,7 @@ pub(crate) struct Pending {
     no_video: bool,
     shortest: bool,
     hash: Option<HashKind>,
+    rf64: Option<Rf64>,
 }
 
 /// All that was read.
@@ -121,6 +122,7 @@ impl Pending {
             no_video: false,
             shortest: false,
             hash: None,
+            rf64: None,
         }
     }
 
@@ -165,6 +167,7 @@ impl Pending {
             Value::NoVideo => self.no_video = true,
             Value::Shortest => self.shortest = true,
             Value::Hash(hash) => self.hash = Some(hash),
+            Value::Rf64(rf64) => self.rf64 = Some(rf64),
             _value => {}
         }
         Ok(())
@@ -306,6 +309,7 @@ impl Reader {
             cut: cut(own.start, own.length),
             shortest: own.shortest,
             hash: own.hash.unwrap_or(format.default_hash()),
+            rf64: own.rf64.unwrap_or(Rf64::Never),
         })
     }
 

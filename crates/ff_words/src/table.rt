@@ -79,6 +79,8 @@ pub enum Kind {
     AudioGraph,
     /// The digest of an output.
     Hash,
+    /// When an output is RF64.
+    Rf64,
 }
 
 /// What an option is.
@@ -102,7 +104,7 @@ pub struct Named {
 }
 
 /// Each option, whom it concerns, and its kind of value.
-pub static OPTIONS: [(&'static str, Concern, Kind); 51] = [
+pub static OPTIONS: [(&'static str, Concern, Kind); 52] = [
     ("-y", Concern::All, Kind::Nothing),
     ("-hide_banner", Concern::All, Kind::Nothing),
     ("-nostdin", Concern::All, Kind::Nothing),
@@ -154,6 +156,7 @@ pub static OPTIONS: [(&'static str, Concern, Kind); 51] = [
     ("-an", Concern::Output, Kind::NoAudio),
     ("-shortest", Concern::Output, Kind::Shortest),
     ("-hash", Concern::Output, Kind::Hash),
+    ("-rf64", Concern::Output, Kind::Rf64),
 ];
 
 /// The audio codecs.

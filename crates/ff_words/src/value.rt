@@ -2,7 +2,7 @@
 ghost use Rattle.std.specs.Prelude.{◌≤◌, ◌^◌};
 
 use crate::job::Solo;
-use ff_format::FileFormat;
+use ff_format::{FileFormat, Rf64};
 use ff_frame::{Codec, HashKind};
 use ff_lang::{Graph, Text};
 use ff_map::MapSpec;
@@ -58,6 +58,8 @@ pub enum Value {
     AudioGraph(Graph),
     /// A digest.
     Hash(HashKind),
+    /// When an output is RF64.
+    Rf64(Rf64),
     /// A name of an output, and the format that its ending tells.
     Output(Text, Option<FileFormat>),
 }

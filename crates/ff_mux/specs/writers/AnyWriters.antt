@@ -17,7 +17,7 @@ use Rattle.ff_mux.specs.writers.HashFile.{hash_format, hash_layout, hash_writes,
 use Rattle.ff_mux.specs.writers.Writers.{flac_head, hash_kind, hash_heads, crc_heads}
 use Rattle.ff_au.specs.Header as au
 use Rattle.ff_au.specs.Layout.{au_format, au_inside, au_layout, au_writes}
-use Rattle.ff_wav.specs.Header.{written_head, body_size}
+use Rattle.ff_wav.specs.Header.{written_head, written_mode, body_size}
 use Rattle.ff_wav.specs.Layout.{wav_format, wav_inside, wav_layout, wav_writes}
 use Rattle.ff_y4m.specs.Layout.{y4m_format, y4m_layout, y4m_writes}
 use Rattle.ff_y4m.specs.Writers.{y4m_head}
@@ -52,7 +52,7 @@ writes_taken format.FrameCrc = crc_writes
 -- ---- a writer of any
 
 abbrev pub any_layout : AnyWriter → Layout
-any_layout (Wav put) = wav_layout (written_head put)
+any_layout (Wav put) = wav_layout (written_mode put) (written_head put)
 any_layout (Au put) = au_layout (au.written_head put)
 any_layout (Flac w) = flac_layout (flac_head w)
 any_layout (Y4m w) = y4m_layout (y4m_head w)
@@ -68,7 +68,7 @@ any_counts (Hash w) n = ⊤
 any_counts (Crc w) n = ⊤
 
 pub any_inside : (w : AnyWriter) (n : ℕ) (totals : Option Totals) → IsInside (any_layout w) n totals
-any_inside (Wav put) n totals = wav_inside (written_head put) n
+any_inside (Wav put) n totals = wav_inside (written_mode put) (written_head put) n
 any_inside (Au put) n totals = au_inside (au.written_head put) n
 any_inside (Flac w) n totals = flac_inside (flac_head w) totals
 any_inside (Y4m w) n totals = tt

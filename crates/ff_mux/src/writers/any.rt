@@ -41,7 +41,7 @@ pub fn writer_of(
     ensures counts { IfOk result (λ writer. any_counts writer 0) }
 {
     match format {
-        FileFormat::Wav => Ok(AnyWriter::Wav(WavPut::new(alloc, &heads[0]))),
+        FileFormat::Wav => Ok(AnyWriter::Wav(WavPut::new(alloc, &heads[0], options.rf64))),
         FileFormat::Au => Ok(AnyWriter::Au(AuPut::new(alloc, &heads[0]))),
         FileFormat::Flac => Ok(AnyWriter::Flac(FlacWriter::new(alloc, heads[0]))),
         FileFormat::Y4m => Ok(AnyWriter::Y4m(Y4mWriter::new(alloc, heads[0]))),

@@ -69,7 +69,7 @@ told_graph g text heads cuts = record (graph_task text heads cuts) { tells = bes
 
 -- what the options of an output say to its format
 abbrev pub options_of : OutputJob → OutputOptions
-options_of out = record { hash = out.hash }
+options_of out = record { hash = out.hash; rf64 = out.rf64 }
 
 -- a demuxer gives an input's packets, a decoder their frames, cut, a graph frames of frames, an encoder packets of frames, and a muxer writes
 -- them in the output's format

@@ -49,7 +49,10 @@ fn is_flac_coded(coded: &StreamHead) -> bool
 fn options_of(out: &OutputJob) -> OutputOptions
     ensures { result ≡ said_by out.now }
 {
-    OutputOptions { hash: out.hash }
+    OutputOptions {
+        hash: out.hash,
+        rf64: out.rf64,
+    }
 }
 
 /// How many packets are on no queue: the one that waits for room on it, and the one that is being decoded.

@@ -1,6 +1,7 @@
 -- The generated inputs: of n seconds, a WAV file and a YUV4MPEG2 file.
 use Rattle.std.specs.Prelude.{ℕ, zero, suc, ◌+◌, ◌*◌, ◌%◌, ℤ, pos, ◌-ℤ◌, List, [], ◌∷◌, ◌++◌}
 use Rattle.std.specs.Int.{w16, to_le_bytes, cast_unsigned}
+use Rattle.ff_format.specs.declared.format.Rf64.TheVariants.{Never}
 use Rattle.ff_time.specs.Fraction.{Fraction}
 use Rattle.ff_frame.specs.declared.head.Codec.TheVariants.{PcmS16le}
 use Rattle.ff_frame.specs.declared.head.StreamHead.{StreamHead}
@@ -31,7 +32,7 @@ sound zero = []
 sound (suc n) = sound n ++ (sample_bytes (sample n 0) ++ sample_bytes (sample n 1))
 
 abbrev pub generated_wav : ℕ → List ℕ
-generated_wav n = file_of sound_head (sound (8000 * n))
+generated_wav n = file_of Never sound_head (sound (8000 * n))
 
 -- 16 columns and 8 rows of 4:2:0, 25 pictures a second
 abbrev pub picture_head : StreamHead

@@ -3,6 +3,7 @@ ghost use Rattle.std.specs.Prelude.{◌≡◌, ◌≤◌, ◌<◌, ◌++◌, ◌
 ghost use Rattle.ff_selfrun.specs.generated.Generated.{generated_wav, sample, sample_bytes, sound, sound_head};
 
 use crate::generated::base::part_of_second;
+use ff_format::Rf64;
 use ff_frame::{Codec, StreamHead};
 use ff_wav::WavPut;
 use std::alloc::{AllocError, Global};
@@ -58,7 +59,7 @@ pub fn gen_wav(alloc: Global, seconds: u32) -> Result<Vec<u8>, AllocError>
     ensures { IfOk result (λ bytes. bytes.items ≡ generated_wav seconds) }
 {
     let frames = RATE * seconds;
-    let mut put = WavPut::new(alloc, &head());
+    let mut put = WavPut::new(alloc, &head(), Rf64::Never);
     let Ok(()) = put.add(u64::from(frames) * 4) else {
         unreachable!();
     };

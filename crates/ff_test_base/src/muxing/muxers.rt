@@ -4,7 +4,7 @@ ghost use Rattle.ff_wav.specs.Codecs.{IsWavCoded};
 ghost use Rattle.ff_mux.specs.FlacHead.{CanHold};
 ghost use Rattle.ff_y4m.specs.Header.{IsVideoHead};
 
-use ff_format::{FileFormat, OutputOptions, Writer};
+use ff_format::{FileFormat, OutputOptions, Rf64, Writer};
 use ff_frame::{Bytes, Codec, Event, Format, HashKind, Pkt, StreamHead, Ticket, Totals};
 use ff_host::{FailAt, Host, HostCall, MemHost, MemSink, Sink};
 use ff_mux::{AnyWriter, writer_of};
@@ -110,7 +110,10 @@ fn made(mux: Result<OutMux, MemSink>) -> Result<OutMux, AllocError> {
 fn with(hash: HashKind) -> OutputOptions
     ensures { result.hash ≡ hash }
 {
-    OutputOptions { hash }
+    OutputOptions {
+        hash,
+        rf64: Rf64::Never,
+    }
 }
 
 fn wav(alloc: Global, snk: MemSink) -> Result<OutMux, AllocError> {
