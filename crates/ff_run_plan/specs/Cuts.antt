@@ -10,9 +10,9 @@ use Rattle.ff_stream.specs.edges.Ports.{edges_from, shape_of}
 use Rattle.ff_plan.specs.declared.planned.PlanNode.{PlanNode}
 use Rattle.ff_plan.specs.declared.planned.PlanNode.TheVariants as node
 
--- without a start and a length all is kept
+-- without a start, a length and an end all is kept
 abbrev pub uncut : TimeCut
-uncut = cut_of None None
+uncut = cut_of None None None
 
 abbrev pub input_cut : Option InputJob → TimeCut
 input_cut None = uncut

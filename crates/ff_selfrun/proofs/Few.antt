@@ -1,5 +1,5 @@
 -- Words that ask for the run over generated input ask for 3,600 seconds at most.
-use Rattle.std.proofs.Common.{◌≡◌, ℕ, ◌+◌, ◌≤◌, Bool, true, false, Option, Some, None, Result, Ok, Err, List, [], ◌∷◌, ◌++◌, refl, sym, subst}
+use Rattle.std.proofs.Common.{◌≡◌, ℕ, ◌+◌, ◌≤◌, Bool, true, false, Option, Some, None, Result, Ok, Err, List, [], ◌∷◌, ◌++◌, length, refl, sym, subst}
 use Rattle.std.specs.Prelude.{if◌then◌else◌, codes}
 use Rattle.std.specs.Str.{bytes_eq}
 use Rattle.ff_format.specs.declared.format.Rf64.TheVariants.{Never, Auto, Always}
@@ -83,6 +83,7 @@ reads-few kind.SelfRun text v h = makes-few (λ n. value.Solo (SelfRun n)) (Read
 reads-few kind.Format text v h = named-few v (format_value (format_named text)) (format-few (format_named text)) h
 reads-few kind.Start text v h = makes-few value.Start (ReadsTime text) v (λ x is. tt) h
 reads-few kind.Length text v h = makes-few value.Length (ReadsTime text) v (λ x is. tt) h
+reads-few kind.End text v h = makes-few (λ us. value.End us (length text)) (ReadsTime text) v (λ x is. tt) h
 reads-few kind.Input text v h = (let same : value.Input text ≡ v = cc in subst Few same tt)
 reads-few kind.Map text v h = makes-few value.Map (ReadsMap text) v (λ x is. tt) h
 reads-few kind.AudioCodec text v h = named-few v (codec_value value.AudioCodec (audio_codec text)) (codec-few value.AudioCodec (λ c. tt) (audio_codec text)) h
@@ -121,6 +122,7 @@ switched-few kind.SelfRun w e = absurd cc
 switched-few kind.Format w e = absurd cc
 switched-few kind.Start w e = absurd cc
 switched-few kind.Length w e = absurd cc
+switched-few kind.End w e = absurd cc
 switched-few kind.Input w e = absurd cc
 switched-few kind.Map w e = absurd cc
 switched-few kind.AudioCodec w e = absurd cc
@@ -178,6 +180,7 @@ asked-few (value.Trace n) h = tt
 asked-few (value.Format f read written) h = tt
 asked-few (value.Start m) h = tt
 asked-few (value.Length m) h = tt
+asked-few (value.End us n) h = tt
 asked-few (value.Input n) h = tt
 asked-few (value.Map m) h = tt
 asked-few (value.AudioCodec c) h = tt

@@ -32,7 +32,7 @@ use Rattle.ff_words.specs.Bounds.{HasFewMaps, IsBounded}
 use Rattle.ff_words.specs.Table.{option_named, format_named, audio_codec, video_codec, is_level, is_frame_mode, is_sync_mode}
 use Rattle.ff_words.specs.Values.{Reads, ReadsWhole, ReadsTime, ReadsGraph, ReadsMap, Makes, made, switched, or_bad, format_value, codec_value, hash_value, rf64_value, is_spelled, mode_value, ReadsLevel}
 use Rattle.ff_words.specs.Table.{format_ending}
-use Rattle.ff_words.specs.Words.{Token, Entry, fault, early, option_fault, given_fault, is_full, is_too_much, is_dashed, is_file, is_output, late, misplaced, bad_at, or_else, takes, placed, IsOption, IsNamed, IsToken, TokenReads, IsEntry, AreRead, IsAnswer, tokens, command, job, last, as_solo, end_fault, end_by, stands_alone, run_fault, groups, inputs, outputs, same_name, output_format, command_by, first_place, not_before_input, not_before_output, not_at_end, unreadable, unwritable}
+use Rattle.ff_words.specs.Words.{Token, Entry, fault, early, option_fault, given_fault, is_full, is_too_much, is_dashed, is_file, is_output, late, misplaced, bad_at, own_early, or_else, takes, placed, IsOption, IsNamed, IsToken, TokenReads, IsEntry, AreRead, IsAnswer, tokens, command, job, last, as_solo, end_fault, end_by, stands_alone, run_fault, groups, inputs, outputs, same_name, output_format, command_by, first_place, not_before_input, not_before_output, not_at_end, unreadable, unwritable}
 use Rattle.ff_words.specs.Reading.{reader, optioned, with_input, with_output}
 use Rattle.ff_words.proofs.Snoc.{entry, filed-is, output-filed, reader-snoc, reader-input}
 use Rattle.ff_words.proofs.Steps.{early-option}
@@ -100,6 +100,7 @@ reads-kind kind.SelfRun text v h = of-made (λ n. value.Solo (SelfRun n)) (Reads
 reads-kind kind.Format text v h = of-named v kind.Format (format_value (format_named text)) (of-format kind.Format (format_named text)) h
 reads-kind kind.Start text v h = of-made value.Start (ReadsTime text) v kind.Start (λ x is. tt) h
 reads-kind kind.Length text v h = of-made value.Length (ReadsTime text) v kind.Length (λ x is. tt) h
+reads-kind kind.End text v h = of-made (λ us. value.End us (length text)) (ReadsTime text) v kind.End (λ x is. tt) h
 reads-kind kind.Input text v h = (let same : value.Input text ≡ v = cc in subst (λ x. OfKind x kind.Input) same tt)
 reads-kind kind.Map text v h = of-made value.Map (ReadsMap text) v kind.Map (λ x is. refl) h
 reads-kind kind.AudioCodec text v h = of-named v kind.AudioCodec (codec_value value.AudioCodec (audio_codec text)) (of-codec value.AudioCodec kind.AudioCodec (λ c. tt) (audio_codec text)) h
@@ -138,6 +139,7 @@ switched-kind kind.SelfRun w e = absurd cc
 switched-kind kind.Format w e = absurd cc
 switched-kind kind.Start w e = absurd cc
 switched-kind kind.Length w e = absurd cc
+switched-kind kind.End w e = absurd cc
 switched-kind kind.Input w e = absurd cc
 switched-kind kind.Map w e = absurd cc
 switched-kind kind.AudioCodec w e = absurd cc
@@ -240,6 +242,7 @@ small-option es token at concern (value.Solo n) plain fine h s = s
 small-option es token at concern (value.Format f read written) plain fine h s = s
 small-option es token at concern (value.Start m) plain fine h s = s
 small-option es token at concern (value.Length m) plain fine h s = s
+small-option es token at concern (value.End us n) plain fine h s = s
 small-option es token at concern (value.Input n) plain fine h s = absurd cc
 small-option es token at concern (value.Map m) plain fine h s = record { some_queue = s.some_queue; short_queue = s.short_queue; few_graphs = s.few_graphs; few_inputs = s.few_inputs; few_outputs = s.few_outputs; few_maps = s.few_maps; few_waiting = one-more (reader es).pending.maps m (not-full (length (reader es).pending.maps) (kind-room es token h.0 kind.Map fine h.1 h.2 h.3 refl)) }
 small-option es token at concern (value.AudioCodec c) plain fine h s = s
@@ -252,7 +255,8 @@ small-option es token at concern (value.Output n x) plain fine h s = absurd cc
 
 small-input : (es : List Entry) (at : ℕ) (name : List ℕ) → late es at (value.Input name) ≡ None → Small (reader es) → Small (with_input name (reader es))
 small-input es at name fine s =
-    let room : nat_le 16 (length (inputs es)) ≡ false = (none-of (nat_le 16 (length (inputs es))) (fault (at + 1) TooMany) (bad_at (unreadable (groups es).behind)) (none-behind (first_place not_before_input (groups es).behind) (if nat_le 16 (length (inputs es)) then Some (fault (at + 1) TooMany) else bad_at (unreadable (groups es).behind)) fine)).0 in
+    let behind : Option Fault = or_else (own_early (groups es).behind) (bad_at (unreadable (groups es).behind)) in
+    let room : nat_le 16 (length (inputs es)) ≡ false = (none-of (nat_le 16 (length (inputs es))) (fault (at + 1) TooMany) behind (none-behind (first_place not_before_input (groups es).behind) (if nat_le 16 (length (inputs es)) then Some (fault (at + 1) TooMany) else behind) fine)).0 in
     record {
       some_queue = s.some_queue;
       short_queue = s.short_queue;
@@ -265,7 +269,7 @@ small-input es at name fine s =
 
 small-output : (es : List Entry) (at : ℕ) (name : List ℕ) (ending : Option FileFormat) (format : FileFormat) → late es at (value.Output name ending) ≡ None → Small (reader es) → Small (with_output name format (reader es))
 small-output es at name ending format fine s =
-    let behind : Option Fault = or_else (bad_at (unwritable (groups es).behind)) (if is_output name (output_format (groups es).behind ending) then None else Some (fault at BadValue)) in
+    let behind : Option Fault = or_else (own_early (groups es).behind) (or_else (bad_at (unwritable (groups es).behind)) (if is_output name (output_format (groups es).behind ending) then None else Some (fault at BadValue))) in
     let room : nat_le 16 (length (outputs es)) ≡ false = (none-of (nat_le 16 (length (outputs es))) (fault at TooMany) behind (none-behind (first_place not_before_output (groups es).behind) (if nat_le 16 (length (outputs es)) then Some (fault at TooMany) else behind) fine)).0 in
     record {
       some_queue = s.some_queue;
@@ -302,6 +306,7 @@ by-value P es token at concern (value.Solo n) before reads fine option ins outs 
 by-value P es token at concern (value.Format f read written) before reads fine option ins outs = subst P (sym (reader-snoc es (entry at concern (value.Format f read written)) refl)) (option refl (token-rule token (is_dashed token.word) concern (value.Format f read written) refl refl reads))
 by-value P es token at concern (value.Start m) before reads fine option ins outs = subst P (sym (reader-snoc es (entry at concern (value.Start m)) refl)) (option refl (token-rule token (is_dashed token.word) concern (value.Start m) refl refl reads))
 by-value P es token at concern (value.Length m) before reads fine option ins outs = subst P (sym (reader-snoc es (entry at concern (value.Length m)) refl)) (option refl (token-rule token (is_dashed token.word) concern (value.Length m) refl refl reads))
+by-value P es token at concern (value.End us n) before reads fine option ins outs = subst P (sym (reader-snoc es (entry at concern (value.End us n)) refl)) (option refl (token-rule token (is_dashed token.word) concern (value.End us n) refl refl reads))
 by-value P es token at concern (value.Input n) before reads fine option ins outs = subst P (sym (reader-input es at concern n)) (ins n fine)
 by-value P es token at concern (value.Map m) before reads fine option ins outs = subst P (sym (reader-snoc es (entry at concern (value.Map m)) refl)) (option refl (token-rule token (is_dashed token.word) concern (value.Map m) refl refl reads))
 by-value P es token at concern (value.AudioCodec c) before reads fine option ins outs = subst P (sym (reader-snoc es (entry at concern (value.AudioCodec c)) refl)) (option refl (token-rule token (is_dashed token.word) concern (value.AudioCodec c) refl refl reads))

@@ -34,7 +34,8 @@ use Rattle.ff_words.specs.declared.table.Kind.TheVariants as kind
 use Rattle.ff_words.specs.declared.value.Micros.{Micros}
 use Rattle.ff_words.specs.declared.value.Value.TheVariants as value
 use Rattle.ff_words.specs.Reading.{pending, reader, place_unless, end_wrong}
-use Rattle.ff_words.specs.Words.{IsAnswer, or_else, cut_of, length_of, fault, bad_at, same_name}
+use Rattle.ff_words.specs.declared.error.Fault.{Fault}
+use Rattle.ff_words.specs.Words.{IsAnswer, or_else, cut_of, start_of, length_of, ends_early, fault, bad_at, same_name}
 use Rattle.ff_format.specs.Formats.{format_name, is_read, short_name}
 use Rattle.ff_words.specs.Options.{hash_name, rf64_name}
 use Rattle.ff_words.specs.Writing.{given, micros_text, map_text, format_words, start_words, length_words, input_words, map_words, audio_words, video_words, vf_words, af_words, hash_words, rf64_words, where_some, where_true, output_words, graph_words, trace_words, queue_words, job_words, IsFineText, IsFineGraph, IsFineMap, IsReadFormat, IsSoundCodec, WhereSome, IsFineInput, IsFineOutput, IsFineJob, IsFineSolo, IsFineCommand, solo_words, command_words}
@@ -78,6 +79,7 @@ held b u e w =
       unwritable = None;
       start = w.start;
       length = w.length;
+      end = None;
       maps = w.maps;
       audio = w.audio;
       video = w.video;
@@ -147,10 +149,10 @@ micros_in (Some n) h = Some (record { us = n; bound = h n refl })
 abbrev start_in : TimeCut → Micros
 start_in c = record { us = c.start; bound = c.start_bound }
 
-length-is : (o : Option ℕ) (h : Bounded o) → length_of (micros_in o h) ≡ o
+length-is : (start : ℕ) (o : Option ℕ) (h : Bounded o) → length_of start (micros_in o h) None ≡ o
 unfolding micros_in
-length-is None h = refl
-length-is (Some n) h = refl
+length-is start None h = refl
+length-is start (Some n) h = refl
 
 bounded-one : (o : Option ℕ) (p q : Bounded o) → p ≡ q
 bounded-one o p q = (let one : IsProp (Bounded o) = hlevel props in one p q)
@@ -166,10 +168,10 @@ cut-one s b d o q h k e =
     ap (λ (z : s ≤ 10 ^ 15). cut_at s z o h) (start-one s b d)
     ∙ subst (λ x. (y : Bounded x) → cut_at s d o h ≡ cut_at s d x y) e (λ y. ap (λ z. cut_at s d o z) (bounded-one o h y)) k
 
-cut-same : (c : TimeCut) → cut_of (Some (start_in c)) (micros_in c.length c.length_bound) ≡ c
+cut-same : (c : TimeCut) → cut_of (Some (start_in c)) (micros_in c.length c.length_bound) None ≡ c
 cut-same c =
-    let made : TimeCut = cut_of (Some (start_in c)) (micros_in c.length c.length_bound) in
-    cut-one c.start made.start_bound c.start_bound made.length c.length made.length_bound c.length_bound (length-is c.length c.length_bound)
+    let made : TimeCut = cut_of (Some (start_in c)) (micros_in c.length c.length_bound) None in
+    cut-one c.start made.start_bound c.start_bound made.length c.length made.length_bound c.length_bound (length-is c.start c.length c.length_bound)
 
 -- ---- the options of an output, one after the other
 
@@ -362,11 +364,17 @@ output-options ws few rest r o fine g =
     let h12 : Out ws (y12 ++ rest) r (own o.maps o.audio o.video o.vf o.af o.no_audio o.no_video s l o.shortest (Some o.hash) (mode_in o.rf64) None) = rf64-read ws few y12 rest r (own o.maps o.audio o.video o.vf o.af o.no_audio o.no_video s l o.shortest (Some o.hash) None None) o.rf64 h11 in
     format-read ws few y13 rest r (own o.maps o.audio o.video o.vf o.af o.no_audio o.no_video s l o.shortest (Some o.hash) (mode_in o.rf64) None) o.format h12
 
-in_bounds : (full empty : Bool) (at : ℕ) → full ≡ false → empty ≡ false
-    → None ≡ (if full then Some (fault at TooMany) else or_else (bad_at None) (if not empty && true then None else Some (fault at BadValue)))
-in_bounds false false at h k = refl
-in_bounds false true at h k = cc
-in_bounds true b at h k = cc
+-- without an end no cut ends early
+never_early : (start : ℕ) (length : Option Micros) → ends_early start length None ≡ None
+never_early start None = refl
+never_early start (Some m) = refl
+
+in_bounds : (full empty : Bool) (at : ℕ) (early : Option Fault) → full ≡ false → empty ≡ false → early ≡ None
+    → None ≡ (if full then Some (fault at TooMany) else or_else early (or_else (bad_at None) (if not empty && true then None else Some (fault at BadValue))))
+in_bounds false false at None h k e = refl
+in_bounds false false at (Some f) h k e = cc
+in_bounds false true at early h k e = cc
+in_bounds true b at early h k e = cc
 
 output-same : (o : OutputJob) (c : TimeCut) (mode : Rf64) → c ≡ o.cut → mode ≡ o.rf64 → record o { cut = c; rf64 = mode } ≡ o
 output-same o c mode e f = ap (λ x. record o { cut = x; rf64 = mode }) e ∙ ap (λ x. record o { rf64 = x }) f
@@ -378,9 +386,11 @@ output-read ws few rest r o fine room g =
     let full : nat_le 16 (length r.outputs) ≡ false = lt-leb 16 (length r.outputs) room in
     let empty : (length o.name == 0) ≡ false = ne_eqb (length o.name) 0 (λ e. omega (arith, e, fine.some_name)) in
     let old : Reader = in_hand r (held h.0 h.1 h.2 (made_output o)) in
+    let l : Option Micros = micros_in o.cut.length o.cut.length_bound in
+    let early : ends_early o.cut.start l None ≡ None = never_early o.cut.start l in
     subst (λ x. Goes ws rest (record r { outputs = r.outputs ++ x ∷ []; pending = pending [] }))
-    (output-same o (cut_of (Some (start_in o.cut)) (micros_in o.cut.length o.cut.length_bound)) (unwrap_or (mode_in o.rf64) Never) (cut-same o.cut) (mode-is o.rf64))
-    (goes-output ws few o.name rest old o.format h.3 fine.plain_name fine.name (λ ending. in_bounds (nat_le 16 (length r.outputs)) (length o.name == 0) h.3.at full empty) refl)
+    (output-same o (cut_of (Some (start_in o.cut)) (micros_in o.cut.length o.cut.length_bound) None) (unwrap_or (mode_in o.rf64) Never) (cut-same o.cut) (mode-is o.rf64))
+    (goes-output ws few o.name rest old o.format h.3 fine.plain_name fine.name (λ ending. in_bounds (nat_le 16 (length r.outputs)) (length o.name == 0) h.3.at (ends_early o.cut.start l None) full empty early) refl)
 
 outputs-read : (ws : List Text) (few : length ws ≤ 1024) (rest : List Text) (os : List OutputJob) (r : Reader) → AllByRecursion IsFineOutput os → length r.outputs + length os ≤ 16
     → Goes ws (flat_map output_words os ++ rest) (in_hand r (pending [])) → Goes ws rest (record r { outputs = r.outputs ++ os; pending = pending [] })
@@ -423,9 +433,10 @@ in-length ws few y rest r w (Some n) k h = (
       (micros-short n (k n refl)) refl refl (reads-length (record { us = n; bound = k n refl })),
 )
 
-in_room : (full : Bool) (at : ℕ) → full ≡ false → None ≡ (if full then Some (fault at TooMany) else bad_at None)
-in_room false at h = refl
-in_room true at h = cc
+in_room : (full : Bool) (at : ℕ) (early : Option Fault) → full ≡ false → early ≡ None → None ≡ (if full then Some (fault at TooMany) else or_else early (bad_at None))
+in_room false at None h e = refl
+in_room false at (Some f) h e = cc
+in_room true at early h e = cc
 
 input-same : (i : InputJob) (c : TimeCut) → c ≡ i.cut → record i { cut = c } ≡ i
 input-same i c e = ap (λ x. record i { cut = x }) e
@@ -444,8 +455,8 @@ input-read ws few rest r i fine room g =
     let h3 : In ws (y3 ++ rest) r (own [] None None None None false false s l false None None i.format) = in-length ws few y3 rest r (own [] None None None None false false s None false None None i.format) i.cut.length i.cut.length_bound h2 in
     let old : Reader = in_hand r (held None None h3.0 (own [] None None None None false false s l false None None i.format)) in
     let full : nat_le 16 (length r.inputs) ≡ false = lt-leb 16 (length r.inputs) room in
-    subst (λ x. Goes ws rest (record r { inputs = r.inputs ++ x ∷ []; pending = pending [] })) (input-same i (cut_of s l) (cut-same i.cut))
-    (goes-input ws few (codes "-i") i.name rest old h3.1 refl line-input (omega arith) fine.name (in_room (nat_le 16 (length r.inputs)) (h3.1.at + 1) full))
+    subst (λ x. Goes ws rest (record r { inputs = r.inputs ++ x ∷ []; pending = pending [] })) (input-same i (cut_of s l None) (cut-same i.cut))
+    (goes-input ws few (codes "-i") i.name rest old h3.1 refl line-input (omega arith) fine.name (in_room (nat_le 16 (length r.inputs)) (h3.1.at + 1) (ends_early i.cut.start l None) full (never_early i.cut.start l)))
 
 inputs-read : (ws : List Text) (few : length ws ≤ 1024) (rest : List Text) (is : List InputJob) (r : Reader) → AllByRecursion IsFineInput is → length r.inputs + length is ≤ 16
     → Goes ws (flat_map input_words is ++ rest) (in_hand r (pending [])) → Goes ws rest (record r { inputs = r.inputs ++ is; pending = pending [] })

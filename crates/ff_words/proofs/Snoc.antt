@@ -9,7 +9,7 @@ use Rattle.ff_words.specs.declared.reader.Pending.{Pending}
 use Rattle.ff_words.specs.declared.reader.Reader.{Reader}
 use Rattle.ff_format.specs.declared.format.FileFormat.{FileFormat}
 use Rattle.ff_format.specs.declared.format.FileFormat.TheVariants.{FrameHash}
-use Rattle.ff_words.specs.Words.{not_before_input, not_before_output, not_at_end, as_format, as_start, as_length, as_map, as_audio, as_video, as_vf, as_af, as_no_audio, as_no_video, as_shortest, as_hash, as_rf64, as_queue, as_trace, as_graph, as_solo, Entry, Group, Groups, groups, led, is_file, or_else, last, each, first_place, last_place, unread_place, unwritten_place, inputs, outputs, group_input, group_output}
+use Rattle.ff_words.specs.Words.{not_before_input, not_before_output, not_at_end, as_format, as_start, as_length, as_end, as_map, as_audio, as_video, as_vf, as_af, as_no_audio, as_no_video, as_shortest, as_hash, as_rf64, as_queue, as_trace, as_graph, as_solo, Entry, Group, Groups, groups, led, is_file, or_else, last, each, first_place, last_place, unread_place, unwritten_place, inputs, outputs, group_input, group_output}
 use Rattle.std.specs.Prelude.{flat_map}
 use Rattle.ff_words.specs.Words.{output_format, late}
 use Rattle.ff_words.specs.Reading.{with_input, with_output, input_wrong, output_wrong, pending_format, valued, noted, whole, pending, reader, waiting, optioned, kept}
@@ -26,7 +26,7 @@ pub last-snoc : {X : Type 0} (f : Value → Option X) (es : List Entry) (e : Ent
 last-snoc f [] e = sym (or_else_none (f e.value))
 last-snoc f (x ∷ es) e = ap (λ o. or_else o (f x.value)) (last-snoc f es e) ∙ or_else_assoc (f e.value) (last f es) (f x.value)
 
-pub place-snoc : (f : ℕ → Value → Option (Option ℕ)) (es : List Entry) (e : Entry) → last_place f (es ++ e ∷ []) ≡ or_else (f e.at e.value) (last_place f es)
+pub place-snoc : {X : Type 0} (f : ℕ → Value → Option X) (es : List Entry) (e : Entry) → last_place f (es ++ e ∷ []) ≡ or_else (f e.at e.value) (last_place f es)
 place-snoc f [] e = sym (or_else_none (f e.at e.value))
 place-snoc f (x ∷ es) e = ap (λ o. or_else o (f x.at x.value)) (place-snoc f es e) ∙ or_else_assoc (f e.at e.value) (last_place f es) (f x.at x.value)
 
@@ -107,6 +107,7 @@ merged at concern v own =
       unwritable = unwrap_or (or_else (unwritten_place at v) (last_place unwritten_place own)) None;
       start = or_else (as_start v) (last as_start own);
       length = or_else (as_length v) (last as_length own);
+      end = or_else (as_end at v) (last_place as_end own);
       maps = pushed (as_map v) (each as_map own);
       audio = or_else (as_audio v) (last as_audio own);
       video = or_else (as_video v) (last as_video own);
@@ -130,6 +131,7 @@ merged-is own e =
       place-snoc unwritten_place own e,
       last-snoc as_start own e,
       last-snoc as_length own e,
+      place-snoc as_end own e,
       each-pushed as_map own e,
       last-snoc as_audio own e,
       last-snoc as_video own e,
@@ -154,6 +156,7 @@ waits at concern (value.Solo n) own = refl
 waits at concern (value.Format f read written) own = refl
 waits at concern (value.Start n) own = refl
 waits at concern (value.Length n) own = refl
+waits at concern (value.End us n) own = refl
 waits at concern (value.Input n) own = refl
 waits at concern (value.Map m) own = refl
 waits at concern (value.AudioCodec c) own = refl
@@ -200,6 +203,7 @@ joins e (value.Solo n) es p plain = refl
 joins e (value.Format f read written) es p plain = refl
 joins e (value.Start n) es p plain = refl
 joins e (value.Length n) es p plain = refl
+joins e (value.End us n) es p plain = refl
 joins e (value.Input n) es p plain = cc
 joins e (value.Map m) es p plain = refl
 joins e (value.AudioCodec c) es p plain = refl
@@ -288,6 +292,7 @@ plain_late es at (value.Solo n) plain = refl
 plain_late es at (value.Format f read written) plain = refl
 plain_late es at (value.Start n) plain = refl
 plain_late es at (value.Length n) plain = refl
+plain_late es at (value.End us n) plain = refl
 plain_late es at (value.Input n) plain = cc
 plain_late es at (value.Map m) plain = refl
 plain_late es at (value.AudioCodec c) plain = refl
@@ -315,6 +320,7 @@ not_file (value.Solo n) i o = refl
 not_file (value.Format f read written) i o = refl
 not_file (value.Start n) i o = refl
 not_file (value.Length n) i o = refl
+not_file (value.End us n) i o = refl
 not_file (value.Input n) i o = absurd (i n refl)
 not_file (value.Map m) i o = refl
 not_file (value.AudioCodec c) i o = refl

@@ -109,6 +109,7 @@ full-is es kind.SelfRun = refl
 full-is es kind.Format = refl
 full-is es kind.Start = refl
 full-is es kind.Length = refl
+full-is es kind.End = refl
 full-is es kind.Input = refl
 full-is es kind.Map = refl
 full-is es kind.AudioCodec = refl

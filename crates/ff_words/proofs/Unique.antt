@@ -107,6 +107,7 @@ reads-one kind.SelfRun text r s h j = makes-one (λ n. value.Solo (SelfRun n)) (
 reads-one kind.Format text r s h j = h ∙ sym j
 reads-one kind.Start text r s h j = makes-one value.Start (ReadsTime text) r s (time-one text) h j
 reads-one kind.Length text r s h j = makes-one value.Length (ReadsTime text) r s (time-one text) h j
+reads-one kind.End text r s h j = makes-one (λ us. value.End us (length text)) (ReadsTime text) r s (time-one text) h j
 reads-one kind.Input text r s h j = h ∙ sym j
 reads-one kind.Map text r s h j = makes-one value.Map (ReadsMap text) r s (map-one text) h j
 reads-one kind.AudioCodec text r s h j = h ∙ sym j

@@ -49,6 +49,7 @@ options =
     (codes "-f", File, kind.Format) ∷
     (codes "-ss", File, kind.Start) ∷
     (codes "-t", File, kind.Length) ∷
+    (codes "-to", File, kind.End) ∷
     (codes "-i", Itself, kind.Input) ∷
     (codes "-map", Output, kind.Map) ∷
     (codes "-c:a", Output, kind.AudioCodec) ∷

@@ -9,6 +9,7 @@ use Rattle.ff_words.specs.declared.reader.Reader.{Reader}
 use Rattle.std.specs.Prelude.{drop, slice_get, ◌≤◌, nat_le, length, Result, Ok, Err}
 use Rattle.std.specs.Prelude.{map, option_to_list}
 use Rattle.ff_words.specs.declared.job.OutputJob.{OutputJob}
+use Rattle.ff_time.specs.declared.cut.TimeCut.{TimeCut}
 use Rattle.ff_words.specs.declared.job.Command.{Command}
 use Rattle.ff_words.specs.declared.job.Command.TheVariants as asked
 use Rattle.ff_words.specs.declared.job.Solo.{Solo}
@@ -24,9 +25,9 @@ use Rattle.ff_words.specs.declared.table.Rule.{Rule}
 use Rattle.ff_words.specs.declared.table.Kind.{Kind}
 use Rattle.ff_words.specs.declared.table.Kind.TheVariants as kind
 use Rattle.ff_words.specs.Words.{AreRead, is_too_much, is_dashed}
-use Rattle.ff_words.specs.Words.{IsAnswer, end_by, is_output, takes_value, tokens, Token, written, fault, misplaced, bad_at, late, unwritable, cut_of}
+use Rattle.ff_words.specs.Words.{IsAnswer, end_by, is_output, takes_value, tokens, Token, written, fault, misplaced, bad_at, late, unwritable, cut_of, start_of, ends_early, last_place}
 use Rattle.ff_words.specs.Words.{IsEntry, IsFaultAt, Entry, groups, last, each, first_place, not_before_input, not_before_output, not_at_end, or_else}
-use Rattle.ff_words.specs.Words.{unreadable, as_format, as_start, as_length, as_map, as_audio, as_video, as_vf, as_af, as_no_audio, as_no_video}
+use Rattle.ff_words.specs.Words.{unreadable, as_format, as_start, as_length, as_end, as_map, as_audio, as_video, as_vf, as_af, as_no_audio, as_no_video}
 use Rattle.ff_words.specs.Words.{as_shortest, as_hash, as_rf64, as_queue, as_trace, as_graph, as_solo, stands_alone, inputs, outputs}
 
 -- the options that wait for their file
@@ -41,6 +42,7 @@ pending own =
       unwritable = unwritable own;
       start = last as_start own;
       length = last as_length own;
+      end = last_place as_end own;
       maps = each as_map own;
       audio = last as_audio own;
       video = last as_video own;
@@ -87,6 +89,7 @@ abbrev pub valued : ℕ → Value → Pending → Pending
 valued at (value.Format f read written) p = record p { format = Some f; unreadable = place_unless read at; unwritable = place_unless written at }
 valued at (value.Start us) p = record p { start = Some us }
 valued at (value.Length us) p = record p { length = Some us }
+valued at (value.End us n) p = record p { end = Some (record { end = us; word = at + 1; len = n }) }
 valued at (value.Map m) p = record p { maps = p.maps ++ m ∷ [] }
 valued at (value.AudioCodec c) p = record p { audio = Some c }
 valued at (value.VideoCodec c) p = record p { video = Some c }
@@ -114,14 +117,21 @@ optioned e r = whole e.value (record r { pending = waiting e r.pending })
 
 -- ---- files
 
+abbrev pub early_in : Pending → Option Fault
+early_in p = ends_early (start_of p.start) p.length p.end
+
+abbrev pub cut_in : Pending → TimeCut
+cut_in p = cut_of p.start p.length p.end
+
 abbrev pub input_wrong : ℕ → Reader → Option Fault
 input_wrong at r =
-    misplaced r.pending.before_input (if nat_le 16 (length r.inputs) then Some (fault (at + 1) TooMany) else bad_at r.pending.unreadable)
+    misplaced r.pending.before_input
+    (if nat_le 16 (length r.inputs) then Some (fault (at + 1) TooMany) else or_else (early_in r.pending) (bad_at r.pending.unreadable))
 
 abbrev pub with_input : List ℕ → Reader → Reader
 with_input name r =
     record r {
-      inputs = r.inputs ++ (record { name = name; format = r.pending.format; cut = cut_of r.pending.start r.pending.length }) ∷ [];
+      inputs = r.inputs ++ (record { name = name; format = r.pending.format; cut = cut_in r.pending }) ∷ [];
       pending = pending [];
     }
 
@@ -141,7 +151,7 @@ with_output name format r =
         af = r.pending.af;
         no_audio = r.pending.no_audio;
         no_video = r.pending.no_video;
-        cut = cut_of r.pending.start r.pending.length;
+        cut = cut_in r.pending;
         shortest = r.pending.shortest;
         hash = unwrap_or r.pending.hash (default_hash format);
         rf64 = unwrap_or r.pending.rf64 Never;
@@ -153,8 +163,9 @@ abbrev pub output_wrong : ℕ → List ℕ → Option FileFormat → Reader → 
 output_wrong at name ending r =
     misplaced r.pending.before_output
     (if nat_le 16 (length r.outputs) then Some (fault at TooMany) else
-    or_else (bad_at r.pending.unwritable)
-    (if is_output name (pending_format r.pending ending) then None else Some (fault at BadValue)))
+    or_else (early_in r.pending)
+    (or_else (bad_at r.pending.unwritable)
+    (if is_output name (pending_format r.pending ending) then None else Some (fault at BadValue))))
 
 -- ---- answers of the pass
 

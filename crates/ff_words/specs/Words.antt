@@ -1,9 +1,9 @@
 -- What the words of a command line mean, over the whole list.
-use Rattle.std.specs.Prelude.{◌≡◌, ℕ, ◌+◌, ◌≤◌, ◌⊎◌, Bool, true, false, ◌&&◌, ◌||◌, not, ◌==◌, nat_le, nat_lt, if◌then◌else◌, Option, Some, None}
+use Rattle.std.specs.Prelude.{◌≡◌, ℕ, ◌+◌, ◌-◌, ◌≤◌, ◌⊎◌, Bool, true, false, ◌&&◌, ◌||◌, not, ◌==◌, nat_le, nat_lt, if◌then◌else◌, Option, Some, None}
 use Rattle.std.specs.Prelude.{unwrap_or, Result, Ok, Err, List, ◌∷◌, [], ◌++◌, length, is_some, flat_map, option_to_list, String, string_bytes, map}
 use Rattle.std.specs.Prelude.{◌^◌}
 use Rattle.std.specs.Option.{ForSome}
-use Rattle.std.proofs.Common.{lit≤, ap, subst}
+use Rattle.std.proofs.Common.{lit≤, ap, subst, arith}
 use Rattle.std.specs.List.{list_any}
 use Rattle.std.specs.Str.{bytes_eq}
 use Rattle.std.specs.declared.alloc.Global.{Global}
@@ -12,7 +12,7 @@ use Rattle.ff_lang.specs.declared.graph.Graph.{Graph}
 use Rattle.ff_map.specs.declared.map.MapSpec.{MapSpec}
 use Rattle.ff_words.specs.declared.error.Fault.{Fault}
 use Rattle.ff_words.specs.declared.error.WordKind.{WordKind}
-use Rattle.ff_words.specs.declared.error.WordKind.TheVariants.{UnknownOption, MissingValue, BadValue, Misplaced, TooMany, NoInput, NoOutput, SameName}
+use Rattle.ff_words.specs.declared.error.WordKind.TheVariants.{UnknownOption, MissingValue, BadValue, BadTime, Misplaced, TooMany, NoInput, NoOutput, SameName}
 use Rattle.ff_frame.specs.declared.hash.HashKind.{HashKind}
 use Rattle.ff_format.specs.declared.format.FileFormat.{FileFormat}
 use Rattle.ff_format.specs.declared.format.FileFormat.TheVariants.{FrameHash}
@@ -27,6 +27,7 @@ use Rattle.ff_words.specs.declared.job.Command.TheVariants as asked
 use Rattle.ff_words.specs.declared.job.Solo.{Solo}
 use Rattle.ff_words.specs.declared.job.Solo.TheVariants.{Help, Version, SelfRun}
 use Rattle.ff_time.specs.declared.cut.TimeCut.{TimeCut}
+use Rattle.ff_words.specs.declared.cuts.CutEnd.{CutEnd}
 use Rattle.ff_words.specs.declared.value.Micros.{Micros}
 use Rattle.ff_words.specs.declared.table.Rule.{Rule}
 use Rattle.ff_words.specs.declared.table.Kind.{Kind}
@@ -120,6 +121,11 @@ abbrev pub last : {X : Type 0} → (Value → Option X) → List Entry → Optio
 last f [] = None
 last f (e ∷ es) = or_else (last f es) (f e.value)
 
+-- the same, by their places too
+abbrev pub last_place : {X : Type 0} → (ℕ → Value → Option X) → List Entry → Option X
+last_place f [] = None
+last_place f (e ∷ es) = or_else (last_place f es) (f e.at e.value)
+
 -- what all of them give, in their order
 abbrev pub each : {X : Type 0} → (Value → Option X) → List Entry → List X
 each f es = flat_map (λ (e : Entry). option_to_list (f e.value)) es
@@ -135,6 +141,11 @@ as_start _ = None
 abbrev pub as_length : Value → Option Micros
 as_length (value.Length m) = Some m
 as_length _ = None
+
+-- with the place of the value and its length
+abbrev pub as_end : ℕ → Value → Option CutEnd
+as_end at (value.End us n) = Some (record { end = us; word = at + 1; len = n })
+as_end at _ = None
 
 abbrev pub as_map : Value → Option MapSpec
 as_map (value.Map m) = Some m
@@ -192,14 +203,15 @@ abbrev pub as_solo : Value → Option Solo
 as_solo (value.Solo s) = Some s
 as_solo _ = None
 
--- the cut from a start on, 0 where none is given, and of a length, where one is
+-- the cut from a start on, 0 where none is given, of the length that is given, or else up to the end that is
 abbrev pub start_of : Option Micros → ℕ
 start_of None = 0
 start_of (Some m) = m.us
 
-abbrev pub length_of : Option Micros → Option ℕ
-length_of None = None
-length_of (Some m) = Some m.us
+abbrev pub length_of : ℕ → Option Micros → Option CutEnd → Option ℕ
+length_of start (Some m) end = Some m.us
+length_of start None (Some e) = Some (e.end.us - start)
+length_of start None None = None
 
 pub start_of_bound : (o : Option Micros) → start_of o ≤ 10 ^ 15
 start_of_bound None = lit≤ tt
@@ -216,16 +228,26 @@ none_some n e = subst AtNone e tt
 same_some : (m n : ℕ) → Some m ≡ Some n → m ≡ n
 same_some m n e = ap (λ o. unwrap_or o m) e
 
-pub length_of_bound : (o : Option Micros) → ForSome (length_of o) (λ n. n ≤ 10 ^ 15)
-length_of_bound None = λ n e. absurd (none_some n e)
-length_of_bound (Some m) = λ n e. subst (λ k. k ≤ 10 ^ 15) (same_some m.us n e) m.bound
+pub length_of_bound : (start : ℕ) (o : Option Micros) (end : Option CutEnd) → ForSome (length_of start o end) (λ n. n ≤ 10 ^ 15)
+length_of_bound start (Some m) end = λ n e. subst (λ k. k ≤ 10 ^ 15) (same_some m.us n e) m.bound
+length_of_bound start None (Some t) = λ n e. subst (λ k. k ≤ 10 ^ 15) (same_some (t.end.us - start) n e) (omega (arith, t.end.bound))
+length_of_bound start None None = λ n e. absurd (none_some n e)
 
-abbrev pub cut_of : Option Micros → Option Micros → TimeCut
-cut_of start length =
-    record { start = start_of start; length = length_of length; start_bound = start_of_bound start; length_bound = length_of_bound length }
+abbrev pub cut_of : Option Micros → Option Micros → Option CutEnd → TimeCut
+cut_of start length end =
+    record {
+      start = start_of start;
+      length = length_of (start_of start) length end;
+      start_bound = start_of_bound start;
+      length_bound = length_of_bound (start_of start) length end;
+    }
+
+-- that of these options
+abbrev pub own_cut : List Entry → TimeCut
+own_cut own = cut_of (last as_start own) (last as_length own) (last_place as_end own)
 
 abbrev pub input_job : List Entry → List ℕ → InputJob
-input_job own name = record { name = name; format = last as_format own; cut = cut_of (last as_start own) (last as_length own) }
+input_job own name = record { name = name; format = last as_format own; cut = own_cut own }
 
 -- the format that is given, else the one that the name's ending tells
 abbrev pub output_format : List Entry → Option FileFormat → Option FileFormat
@@ -243,7 +265,7 @@ output_job own name ending =
       af = last as_af own;
       no_audio = unwrap_or (last as_no_audio own) false;
       no_video = unwrap_or (last as_no_video own) false;
-      cut = cut_of (last as_start own) (last as_length own);
+      cut = own_cut own;
       shortest = unwrap_or (last as_shortest own) false;
       hash = unwrap_or (last as_hash own) (default_hash (unwrap_or (output_format own ending) FrameHash));
       rf64 = unwrap_or (last as_rf64 own) Never;
@@ -367,11 +389,6 @@ abbrev pub unwritten_place : ℕ → Value → Option (Option ℕ)
 unwritten_place at (value.Format f read written) = Some (if written then None else Some (at + 1))
 unwritten_place at _ = None
 
--- that of the last format
-abbrev pub last_place : (ℕ → Value → Option (Option ℕ)) → List Entry → Option (Option ℕ)
-last_place f [] = None
-last_place f (e ∷ es) = or_else (last_place f es) (f e.at e.value)
-
 abbrev pub unreadable : List Entry → Option ℕ
 unreadable own = unwrap_or (last_place unread_place own) None
 
@@ -386,19 +403,30 @@ bad_at (Some at) = Some (fault at BadValue)
 abbrev pub is_output : List ℕ → Option FileFormat → Bool
 is_output name format = not (length name == 0) && is_some format
 
--- What is wrong at a file behind those that were read: an option that doesn't concern it, one file too many, a format or a name
--- that it can't have.
+-- an end that isn't after the start, where no length is given
+abbrev pub ends_early : ℕ → Option Micros → Option CutEnd → Option Fault
+ends_early start (Some m) end = None
+ends_early start None (Some e) = if nat_lt start e.end.us then None else Some (fault e.word (BadTime e.len))
+ends_early start None None = None
+
+abbrev pub own_early : List Entry → Option Fault
+own_early own = ends_early (start_of (last as_start own)) (last as_length own) (last_place as_end own)
+
+-- What is wrong at a file behind those that were read: an option that doesn't concern it, one file too many, a cut that ends before
+-- it starts, a format or a name that it can't have.
 abbrev pub input_fault : List Entry → ℕ → Option Fault
 input_fault es at =
     misplaced (first_place not_before_input (groups es).behind)
-    (if nat_le 16 (length (inputs es)) then Some (fault (at + 1) TooMany) else bad_at (unreadable (groups es).behind))
+    (if nat_le 16 (length (inputs es)) then Some (fault (at + 1) TooMany) else
+    or_else (own_early (groups es).behind) (bad_at (unreadable (groups es).behind)))
 
 abbrev pub output_fault : List Entry → ℕ → List ℕ → Option FileFormat → Option Fault
 output_fault es at name ending =
     misplaced (first_place not_before_output (groups es).behind)
     (if nat_le 16 (length (outputs es)) then Some (fault at TooMany) else
-    or_else (bad_at (unwritable (groups es).behind))
-    (if is_output name (output_format (groups es).behind ending) then None else Some (fault at BadValue)))
+    or_else (own_early (groups es).behind)
+    (or_else (bad_at (unwritable (groups es).behind))
+    (if is_output name (output_format (groups es).behind ending) then None else Some (fault at BadValue))))
 
 abbrev pub late : List Entry → ℕ → Value → Option Fault
 late es at (value.Input name) = input_fault es at

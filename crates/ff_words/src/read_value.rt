@@ -229,6 +229,13 @@ fn read_small(kind: Kind, text: &str) -> Result<Value, WordKind>
             Ok(micros) => Ok(Value::Length(micros)),
             Err(kind) => Err(kind),
         },
+        Kind::End => match time_of(text) {
+            Ok(end) => Ok(Value::End {
+                end,
+                len: text.len(),
+            }),
+            Err(kind) => Err(kind),
+        },
         Kind::Queue => match whole_of(text, 1, 1024) {
             Ok(size) => Ok(Value::Queue(size)),
             Err(kind) => Err(kind),

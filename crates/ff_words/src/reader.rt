@@ -2,7 +2,7 @@
 ghost use Rattle.std.specs.Prelude.{◌≡◌, ◌<◌, ◌≤◌, ◌+◌, OnOk, None, [], List, length};
 ghost use Rattle.ff_words.specs.Reading.{Ended, written_names, word_at, Steps, token_at, width, full, Given, pending_format, with_output};
 ghost use Rattle.ff_words.specs.Reading.{output_wrong as wrong_output, input_wrong as wrong_input, with_input, Taken, pending, reader, noted, valued};
-ghost use Rattle.ff_words.specs.Reading.{optioned, place_unless};
+ghost use Rattle.ff_words.specs.Reading.{optioned, place_unless, early_in};
 ghost use Rattle.ff_words.specs.Words.{repeats, texts, is_too_much as never_too_much, is_dashed as dashed, Entry};
 ghost use Rattle.ff_words.specs.Words.{not_before_input as never_before_input, not_before_output as never_before_output, not_at_end as never_at_end, word_count};
 ghost use Rattle.ff_words.specs.Values.{switched};
@@ -12,7 +12,7 @@ ghost use Rattle.std.specs.Str.{bytes_eq};
 ghost use Rattle.ff_words.specs.declared.job.InputJob.{InputJob};
 ghost use Rattle.ff_words.specs.declared.job.OutputJob.{OutputJob};
 
-use crate::cuts::cut;
+use crate::cuts::{CutEnd, cut, early_end};
 use crate::error::{Fault, WordError, WordKind};
 use crate::job::{Command, InputJob, Job, OutputJob, Solo};
 use crate::read_value::{read_value, text_of};
@@ -41,6 +41,7 @@ pub(crate) struct Pending {
     unwritable: Option<u32>,
     start: Option<Micros>,
     length: Option<Micros>,
+    end: Option<CutEnd>,
     maps: Sequence<MapSpec>,
     audio: Option<Codec>,
     video: Option<Codec>,
@@ -113,6 +114,7 @@ impl Pending {
             unwritable: None,
             start: None,
             length: None,
+            end: None,
             maps: Sequence::new(alloc),
             audio: None,
             video: None,
@@ -141,6 +143,13 @@ impl Pending {
         }
     }
 
+    // What is wrong with the end of the cut.
+    fn early_end(&self) -> Option<Fault>
+        ensures { result ≡ early_in self.now }
+    {
+        early_end(self.start, self.length, self.end)
+    }
+
     // An option by its value; one that doesn't concern a file changes nothing.
     fn set(&mut self, at: u32, value: Value) -> Result<(), AllocError>
         requires { at < 1024 }
@@ -158,6 +167,10 @@ impl Pending {
             }
             Value::Start(us) => self.start = Some(us),
             Value::Length(us) => self.length = Some(us),
+            Value::End { end, len } => {
+                let word = at + 1;
+                self.end = Some(CutEnd { end, word, len });
+            }
             Value::Map(map) => self.maps.push(map)?,
             Value::AudioCodec(codec) => self.audio = Some(codec),
             Value::VideoCodec(codec) => self.video = Some(codec),
@@ -223,6 +236,9 @@ impl Reader {
                 kind: WordKind::TooMany,
             });
         }
+        if let Some(fault) = self.pending.early_end() {
+            return Some(fault);
+        }
         match self.pending.unreadable {
             Some(word) => Some(Fault {
                 word,
@@ -240,7 +256,7 @@ impl Reader {
         self.inputs.push(InputJob {
             name,
             format: own.format,
-            cut: cut(own.start, own.length),
+            cut: cut(own.start, own.length, own.end),
         })
     }
 
@@ -269,6 +285,9 @@ impl Reader {
                 word: at,
                 kind: WordKind::TooMany,
             });
+        }
+        if let Some(fault) = self.pending.early_end() {
+            return Some(fault);
         }
         if let Some(word) = self.pending.unwritable {
             return Some(Fault {
@@ -306,7 +325,7 @@ impl Reader {
             af: own.af,
             no_audio: own.no_audio,
             no_video: own.no_video,
-            cut: cut(own.start, own.length),
+            cut: cut(own.start, own.length, own.end),
             shortest: own.shortest,
             hash: own.hash.unwrap_or(format.default_hash()),
             rf64: own.rf64.unwrap_or(Rf64::Never),

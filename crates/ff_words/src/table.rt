@@ -65,6 +65,8 @@ pub enum Kind {
     Start,
     /// The length of the cut of a file.
     Length,
+    /// The time at which it ends.
+    End,
     /// The name of an input.
     Input,
     /// A map.
@@ -104,7 +106,7 @@ pub struct Named {
 }
 
 /// Each option, whom it concerns, and its kind of value.
-pub static OPTIONS: [(&'static str, Concern, Kind); 52] = [
+pub static OPTIONS: [(&'static str, Concern, Kind); 53] = [
     ("-y", Concern::All, Kind::Nothing),
     ("-hide_banner", Concern::All, Kind::Nothing),
     ("-nostdin", Concern::All, Kind::Nothing),
@@ -140,6 +142,7 @@ pub static OPTIONS: [(&'static str, Concern, Kind); 52] = [
     ("-f", Concern::File, Kind::Format),
     ("-ss", Concern::File, Kind::Start),
     ("-t", Concern::File, Kind::Length),
+    ("-to", Concern::File, Kind::End),
     ("-i", Concern::Itself, Kind::Input),
     ("-map", Concern::Output, Kind::Map),
     ("-c:a", Concern::Output, Kind::AudioCodec),

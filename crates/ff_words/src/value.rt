@@ -44,6 +44,11 @@ pub enum Value {
     Start(Micros),
     /// The length of a cut.
     Length(Micros),
+    /// The end of a cut, and how many bytes its argument has.
+    End {
+        end: Micros,
+        len: usize,
+    },
     /// The name of an input.
     Input(Text),
     /// A map.
