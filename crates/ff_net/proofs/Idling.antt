@@ -12,7 +12,7 @@ use Rattle.ff_net.specs.declared.wires.Wires.{Wires}
 use Rattle.ff_net.specs.Ways.{Flow}
 use Rattle.ff_net.specs.Pasts.{Past, due}
 use Rattle.ff_net.specs.Laws.{OutputsClose, NoMatter, Laws}
-use Rattle.ff_net.specs.Ports.{in_at, out_at, AreDone, SomeHeld, NoneHeld}
+use Rattle.ff_net.specs.Ports.{in_at, out_at, AreDone, AreFinished, SomeHeld, NoneHeld}
 use Rattle.ff_net.specs.Worlds.{Wire, IsFull, IsEmpty}
 use Rattle.ff_net.specs.Nodes.{HeldIs, IsSound, IsSame, IsDone, NodeStands}
 use Rattle.ff_net.specs.Steps.{IsDue, Rests}
@@ -69,7 +69,7 @@ waits_told view may_take node node' wires outs ins was ok (held_back old n kept)
 module _ {M : Type 0} (view : M → View) (laws : (m : M) → Laws (view m))
     (before node : Node M) (wires : Wires) (world : ℕ → Wire) (past : Past) (was : NodeStands view node world past) (may_take : Bool) (rests : Rests view may_take before node world past)
     (ins_count : length node.ins.items ≡ length (view node.machine).in_lanes) (outs_count : length node.outs.items ≡ length (view node.machine).out_lanes)
-    (faulty : (IsSound view node → ⊥) → (p : ℕ) → p < length node.ins.items → (in_at node.ins.items p).done ≡ true) (told : (node.quiet ≡ true) ⊎ (node.refused ≡ true)) (not_done : IsDone node → ⊥) where
+    (faulty : (IsSound view node → ⊥) → (p : ℕ) → p < length node.ins.items → (in_at node.ins.items p).done ≡ true) (told : AreFinished node.ins.items → (node.quiet ≡ true) ⊎ (node.refused ≡ true)) (not_done : IsDone node → ⊥) where
   -- an output that holds an item has one due
   held_due : (q : ℕ) → q < length node.outs.items → (out_at node.outs.items q).done ≡ false → is_some (out_at node.outs.items q).held ≡ true → IsDue view node world past q
   held_due q lt busy some = record {
@@ -123,14 +123,14 @@ module _ {M : Type 0} (view : M → View) (laws : (m : M) → Laws (view m))
 
   refusal : Waits view may_take node wires → may_take ≡ true → IsRefused view before node wires
   refusal (with_fault f h) may = elim (find_busy node.outs.items) [
-    | inl all ↦ absurd (not_done (record { ins = faulty f; outs = all; told = told }))
+    | inl all ↦ absurd (not_done (record { ins = faulty f; outs = all; told = told (faulty f) }))
     | inr b ↦ full b.0 b.1 (h b.0 b.1 b.2)
   ]
   refusal (with_items ok s h) may = full s.place s.there (h s.place s.there s.goes_on s.held)
   refusal (held_back ok n kept) may = absurd (true_not_false (sym may ∙ kept))
   refusal (for_items ok n h) may = elim (find_busy_in node.ins.items) [
     | inl ins ↦ elim (find_busy node.outs.items) [
-      | inl all ↦ absurd (not_done (record { ins = ins; outs = all; told = told }))
+      | inl all ↦ absurd (not_done (record { ins = ins; outs = all; told = told ins }))
       | inr b ↦ elim (rests.ungranted may ok n b.0 b.1 b.2) [ inl none ↦ absurd (stuck ok n ins none b.0 b.1 b.2) | inr c ↦ choked c.0 c.1 c.2 ]
     ]
     | inr b ↦ empty b.0 b.1 (h b.0 b.1 b.2)

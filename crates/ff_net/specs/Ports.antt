@@ -10,6 +10,10 @@ in_at ports p = slice_index_or ports p (record { wire = 0; done = true })
 abbrev pub out_at : List OutPort → ℕ → OutPort
 out_at ports p = slice_index_or ports p (record { wire = 0; held = None; done = true })
 
+-- each input was finished
+abbrev pub AreFinished : List InPort → Type 0
+AreFinished ports = (p : ℕ) → p < length ports → (in_at ports p).done ≡ true
+
 -- nothing more goes on any output
 abbrev pub AreDone : List OutPort → Type 0
 AreDone ports = (q : ℕ) → q < length ports → (out_at ports q).done ≡ true

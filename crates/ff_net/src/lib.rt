@@ -21,8 +21,9 @@
 //!
 //! Each node has a *pass* of the scheduler's cell (`ff_sched`). A source gives one unit for each grant that its node
 //! took with the pass. A node tells the cell, with its pass, the events of its machine that are due by what it was
-//! fed. So the log of a pass is what its node was granted, and then what its machine told (`LogStands`). A node whose
-//! source may not be read has nothing to do until others have told more.
+//! fed. So the log of a pass is what its node was granted, and then what its machine told (`LogStands`). Before a node
+//! is done it has told each, but a machine may defer one (`Machine::defers`). A node whose source may not be read has
+//! nothing to do until others have told more.
 //!
 //! The *solution* of a network is the streams that the machines' definitions give, node after node, from whole
 //! inputs. No turn and no wire's size is in it. Whatever the turns were, what a node took is a prefix of its

@@ -92,6 +92,16 @@ pub trait Machine {
         ensures waits { IsNone result → (past : Past) → (view self.old).stands past → (view self.new).stands past }
         ensures none_due { IsNone result → (past : Past) → (view self.old).stands past → (past.told ≡ past.task.tells past.feeds) ⊎ IsReading (view self.old) past };
 
+    /// Whether it makes its next items of this input. A hint, of which no clause speaks.
+    fn lacks(&self, _port: usize) -> bool {
+        true
+    }
+
+    /// Whether its next event may wait, as long as an input goes on. A hint, of which no clause speaks.
+    fn defers(&self) -> bool {
+        false
+    }
+
     /// What it owes, for each past that can lie before it.
     ghost laws: { (m : Self) → Laws (view m) };
 }

@@ -7,6 +7,7 @@ ghost use Rattle.ff_net.specs.Logs.{PassStep, tickets_in};
 ghost use Rattle.ff_net.specs.Pasts.{Past, was_told};
 ghost use Rattle.ff_net.specs.Views.{IsSameShape};
 ghost use Rattle.ff_net.specs.Nodes.{IsOf, IsSound};
+ghost use Rattle.ff_net.specs.Ports.{AreFinished};
 ghost use Rattle.ff_net.specs.Steps.{Stepped, Tells};
 ghost use Rattle.ff_sched.specs.Events.{IsInRange, IsTold};
 
@@ -53,7 +54,15 @@ fn next_event<M: Machine>(machine: &mut M) -> Option<Event>
 }
 
 impl<M: Machine> Node<M> {
-    /// Tells the next event, and says whether there was one. An event that the cell doesn't take is like memory that is refused.
+    // Whether the next event may wait: the machine defers it, and an input goes on.
+    fn may_wait(&self) -> bool
+        ensures goes_on { result ≡ true → AreFinished self.now.ins.items → ⊥ }
+    {
+        self.machine.defers() && !self.ins_done()
+    }
+
+    /// Tells the next event, and says whether it did. One that the machine defers waits while an input goes on. One that
+    /// the cell doesn't take is like memory that is refused.
     pub(crate) fn tell_one<R: Wait>(&mut self, rt: &R, cell: &SchedCell) -> bool
         requires cell { IsOf M.view cell.now self.old }
         ensures stepped { (wires : Wires) → Stepped M.view Tells self.old wires self.new wires }
@@ -65,9 +74,12 @@ impl<M: Machine> Node<M> {
         ensures tickets { tickets_in self.new.pass.log ≡ tickets_in self.old.pass.log }
         ensures longer { result ≡ true → length self.old.pass.log < length self.new.pass.log }
         ensures still { result ≡ false → self.new.pass ≡ record self.old.pass { spare = self.new.pass.spare } }
-        ensures told { result ≡ false → (self.new.quiet ≡ true) ⊎ (self.new.refused ≡ true) }
+        ensures told { result ≡ false → AreFinished self.new.ins.items → (self.new.quiet ≡ true) ⊎ (self.new.refused ≡ true) }
     {
         if self.quiet | self.refused {
+            return false;
+        }
+        if self.may_wait() {
             return false;
         }
         if !self.make_room() {
@@ -89,7 +101,8 @@ impl<M: Machine> Node<M> {
         }
     }
 
-    /// Tells the events that are due, no more than two beside one for each input, and says whether there were any.
+    /// Tells the events that are due, as far as the machine doesn't defer one, no more than two beside one for each
+    /// input. It says whether there were any.
     pub(crate) fn tell_all<R: Wait>(&mut self, rt: &R, cell: &SchedCell) -> bool
         requires cell { IsOf M.view cell.now self.old }
         ensures stepped { (wires : Wires) → Stepped M.view Tells self.old wires self.new wires }
@@ -101,7 +114,7 @@ impl<M: Machine> Node<M> {
         ensures tickets { tickets_in self.new.pass.log ≡ tickets_in self.old.pass.log }
         ensures longer { result ≡ true → length self.old.pass.log < length self.new.pass.log }
         ensures still { result ≡ false → self.new.pass ≡ record self.old.pass { spare = self.new.pass.spare } }
-        ensures told { result ≡ false → (self.new.quiet ≡ true) ⊎ (self.new.refused ≡ true) }
+        ensures told { result ≡ false → AreFinished self.new.ins.items → (self.new.quiet ≡ true) ⊎ (self.new.refused ≡ true) }
     {
         let mut told = self.tell_one(rt, cell);
         let count = self.ins.len();

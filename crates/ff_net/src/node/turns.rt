@@ -3,7 +3,7 @@ ghost use Rattle.std.specs.Prelude.{◌≡◌, ◌<◌, ◌≤◌, ◌+◌, ◌�
 ghost use Rattle.ff_stream.specs.Ports.{IsClosed};
 ghost use Rattle.ff_net.specs.declared.wires.Wires.{Wires};
 ghost use Rattle.ff_net.specs.Pasts.{Past};
-ghost use Rattle.ff_net.specs.Ports.{in_at, out_at, SomeHeld, NoneHeld};
+ghost use Rattle.ff_net.specs.Ports.{in_at, out_at, AreFinished, SomeHeld, NoneHeld};
 ghost use Rattle.ff_net.specs.Nodes.{IsOf, IsShaped, IsSame, IsSound, IsDone, NodeStands, HasFinished, IsOver};
 ghost use Rattle.ff_net.specs.Nodes.{machine_of, inputs_of, outputs_of, in_wire_of, out_wire_of};
 ghost use Rattle.ff_net.specs.Logs.{tickets_in};
@@ -125,7 +125,7 @@ impl<M: Machine> Node<M> {
         ensures once { length (tickets_in self.new.pass.log) ≤ length (tickets_in self.old.pass.log) + 1 }
         ensures held_back { may_take ≡ false → tickets_in self.new.pass.log ≡ tickets_in self.old.pass.log }
         ensures waits { result ≡ false → Waits M.view may_take self.new wires.new }
-        ensures told { result ≡ false → (self.new.quiet ≡ true) ⊎ (self.new.refused ≡ true) }
+        ensures told { result ≡ false → AreFinished self.new.ins.items → (self.new.quiet ≡ true) ⊎ (self.new.refused ≡ true) }
     {
         let acted = self.act(rt, cell, wires, may_take);
         let told = self.tell_all(rt, cell);
@@ -148,9 +148,9 @@ impl<M: Machine> Node<M> {
     }
 
     /// One turn. It is at most one grant, one item taken from each input and one put on each output. The events that
-    /// are due are told. Nothing is granted or taken where an item is due, or where the node may not take: an item
-    /// waits beyond its wires. A node with a fault sends Broken down each output that goes on, finishes its inputs,
-    /// and is done.
+    /// are due are told, but for one that the machine defers while an input goes on, and those after it. Nothing is
+    /// granted or taken where an item is due, or where the node may not take: an item waits beyond its wires. A node
+    /// with a fault sends Broken down each output that goes on, finishes its inputs, and is done.
     pub fn turn<R: Wait>(
         &mut self,
         rt: &R,

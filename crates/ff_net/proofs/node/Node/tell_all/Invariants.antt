@@ -2,6 +2,7 @@ use Rattle.std.proofs.Common.{◌≡◌, ◌<◌, ◌⊎◌, length, true, false
 use Rattle.ff_net.specs.declared.wires.Wires.{Wires}
 use Rattle.ff_net.specs.Logs.{PassStep, tickets_in}
 use Rattle.ff_net.specs.Nodes.{IsOf, IsSound}
+use Rattle.ff_net.specs.Ports.{AreFinished}
 use Rattle.ff_net.specs.Steps.{Stepped, Tells}
 use Rattle.ff_net.proofs.node.Node.tell_all.Given as goal
 
@@ -18,5 +19,5 @@ invariant-loop-passed g l =
       tickets : tickets_in l.self.pass.log ≡ tickets_in l.fn.self.pass.log;
       longer : l.told ≡ true → length l.fn.self.pass.log < length l.self.pass.log;
       still : l.told ≡ false → l.self.pass ≡ record l.fn.self.pass { spare = l.self.pass.spare };
-      ended : l.told ≡ false → (l.self.quiet ≡ true) ⊎ (l.self.refused ≡ true);
+      ended : l.told ≡ false → AreFinished l.self.ins.items → (l.self.quiet ≡ true) ⊎ (l.self.refused ≡ true);
     }

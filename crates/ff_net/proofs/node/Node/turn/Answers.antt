@@ -1,7 +1,9 @@
-use Rattle.std.proofs.Common.{refl, ◌≡◌, ◌⊎◌, ◌<◌, ℕ, length, inl, inr, true, ◌||◌, sym, ◌∙◌, subst}
+use Rattle.std.proofs.Common.{List, refl, ◌≡◌, ◌⊎◌, ◌<◌, ℕ, length, inl, inr, true, ◌||◌, sym, ◌∙◌, subst}
 use Rattle.ff_net.specs.declared.wires.Wires.{Wires}
 use Rattle.ff_net.specs.Worlds.{lanes_of}
+use Rattle.ff_net.specs.declared.ports.InPort.{InPort}
 use Rattle.ff_net.specs.Nodes.{IsDone}
+use Rattle.ff_net.specs.Ports.{AreFinished}
 use Rattle.ff_net.specs.Steps.{Turns}
 use Rattle.ff_net.specs.Turns.{Waits}
 use Rattle.ff_net.proofs.Acting.{turn_after}
@@ -39,7 +41,7 @@ returns-clause-stepped g c =
     let no = or_false worked closed t.0 in
     let same = e.same no.1 in
     let waits : Waits view c.args.may_take last wires'' = subst (λ (v : Wires). Waits view c.args.may_take last v) (sym same.1) (waits_same view c.args.may_take mid last wires' same.0 (w.waits no.0)) in
-    let told : (last.quiet ≡ true) ⊎ (last.refused ≡ true) = elim (w.told no.0) [ inl q ↦ inl (same.0.quiet ∙ q) | inr r ↦ inr (same.0.refused ∙ r) ] in
+    let told : AreFinished last.ins.items → (last.quiet ≡ true) ⊎ (last.refused ≡ true) = λ all. elim (w.told no.0 (subst (λ (is : List InPort). AreFinished is) same.0.ins all)) [ inl q ↦ inl (same.0.quiet ∙ q) | inr r ↦ inr (same.0.refused ∙ r) ] in
     let not_done : IsDone last → ⊥ = λ d. true_not_false (sym (c.is_done.ensures.exact d) ∙ t.1) in
     idle_of view laws before last wires'' world past was c.args.may_take rests (in_ports_count last.ins.items _ (lanes_of wires'') shaped.ins) (out_ports_count last.outs.items _ (lanes_of wires'') shaped.outs) e.faulty told not_done waits)
     all

@@ -1,6 +1,8 @@
-use Rattle.std.proofs.Common.{refl, inl, inr, ◌||◌, sym, ◌∙◌, ap, subst}
+use Rattle.std.proofs.Common.{List, refl, inl, inr, ◌||◌, sym, ◌∙◌, ap, subst}
 use Rattle.ff_net.specs.declared.wires.Wires.{Wires}
+use Rattle.ff_net.specs.declared.ports.InPort.{InPort}
 use Rattle.ff_net.specs.Nodes.{IsSound}
+use Rattle.ff_net.specs.Ports.{AreFinished}
 use Rattle.ff_net.specs.Steps.{Turns}
 use Rattle.ff_net.specs.Turns.{Waits}
 use Rattle.ff_net.proofs.Acting.{turn_after}
@@ -55,11 +57,11 @@ returns-clause-waits g c still =
     ]
 
 pub returns-clause-told : goal.returns-clause-told
-returns-clause-told g c still =
+returns-clause-told g c still all =
     let n = or_false (c.act-acted.result || c.tell_all-told.result) c.break_faulty-broke.result still in
     let m = or_false c.act-acted.result c.tell_all-told.result n.0 in
     let same = (c.break_faulty-broke.ensures.same n.1).0 in
-    elim (c.tell_all-told.ensures.told m.1) [ inl q ↦ inl (same.quiet ∙ q) | inr r ↦ inr (same.refused ∙ r) ]
+    elim (c.tell_all-told.ensures.told m.1 (subst (λ (is : List InPort). AreFinished is) same.ins all)) [ inl q ↦ inl (same.quiet ∙ q) | inr r ↦ inr (same.refused ∙ r) ]
 
 pub returns-clause-once : goal.returns-clause-once
 returns-clause-once g c =
