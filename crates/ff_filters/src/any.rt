@@ -160,6 +160,18 @@ impl Filter for AnyFilter {
         }
     }
 
+    fn lacks(&self, port: usize) -> bool {
+        match self {
+            AnyFilter::Step(filter) => filter.lacks(port),
+            AnyFilter::Rate(filter) => filter.lacks(port),
+            AnyFilter::Copies(filter) => filter.lacks(port),
+            AnyFilter::Channels(filter) => filter.lacks(port),
+            AnyFilter::Stacked(filter) => filter.lacks(port),
+            AnyFilter::Concat(filter) => filter.lacks(port),
+            AnyFilter::Join(filter) => filter.lacks(port),
+        }
+    }
+
     ghost grows = { elim [
       | any.Step m ↦ single-grows below-law m
       | any.Rate m ↦ rate-grows m.head m.given m.showing m.input.queue.items m.input.after m.ended m.stopped

@@ -118,6 +118,10 @@ impl<F: Filter> Filter for Dag<F> {
         shut | are_over(&self.over)
     }
 
+    fn lacks(&self, port: usize) -> bool {
+        self.graph.lacks(port)
+    }
+
     ghost grows = { λ m. graph_grows F.view F.grows m.graph.plan m.graph.places.items };
 
     ghost hides = { λ m. graph_hides F.view F.grows F.hides m.graph.plan m.graph.places.items };

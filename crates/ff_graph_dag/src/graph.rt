@@ -258,6 +258,39 @@ impl<F: Filter> Graph<F> {
         }
     }
 
+    // The edge at the only output of the filter to which an edge leads. None where it has several.
+    fn on_from(&self, wire: Wire) -> Option<usize> {
+        let outs = self.plan.nodes.get(wire.to.filter)?.outs.as_slice();
+        if outs.len() == 1 { Some(outs[0]) } else { None }
+    }
+
+    // Whether the filter to which an edge leads makes its next items of it.
+    fn is_lacked(&self, wire: Wire) -> bool {
+        match self.places.get(wire.to.filter) {
+            Some(place) => place.filter.lacks(wire.to.port),
+            None => true,
+        }
+    }
+
+    /// Whether each filter on the way from an input makes its next items of what comes that way, as far as the first
+    /// one with several outputs. A hint, of which no clause speaks.
+    pub fn lacks(&self, port: usize) -> bool {
+        let mut edge = port;
+        'way: for passed in 0..self.plan.wires.len() {
+            let Some(wire) = self.plan.wires.get(edge) else {
+                return true;
+            };
+            if !self.is_lacked(*wire) {
+                return false;
+            }
+            let Some(next) = self.on_from(*wire) else {
+                return true;
+            };
+            edge = next;
+        }
+        true
+    }
+
     /// The next item of an output that is wanted. None where nothing is due there.
     pub fn pull(&mut self, port: usize) -> Result<Option<Item>, AllocError>
         requires there { port < length self.old.plan.pads.items }

@@ -70,6 +70,10 @@ impl Filter for Concat {
         self.is_spent(port)
     }
 
+    fn lacks(&self, port: usize) -> bool {
+        port == self.segments.current
+    }
+
     ghost grows = { λ m. segments-grows m.segments };
 
     ghost hides = { λ m. segments-hides m.segments };

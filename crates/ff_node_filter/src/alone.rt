@@ -123,5 +123,9 @@ impl<F: Filter + Drop> Machine for Alone<F> {
         None
     }
 
+    fn lacks(&self, port: usize) -> bool {
+        self.filter.lacks(port)
+    }
+
     ghost laws = { λ m. alone_laws (F.view m.filter) (λ p. F.spends m.filter p) m.hurt m.long (F.spent_only m.filter) (F.shut_spent m.filter) (F.done_spent m.filter) };
 }

@@ -159,6 +159,10 @@ impl<F: Filter> Filter for Cutting<F> {
         self.filter.spent(port)
     }
 
+    fn lacks(&self, port: usize) -> bool {
+        self.filter.lacks(port)
+    }
+
     ghost grows = { λ m. cutting-grows (F.view m.filter) m.taps.items (F.grows m.filter) };
 
     ghost hides = { λ m. cutting-hides (F.view m.filter) m.taps.items (F.hides m.filter) };

@@ -65,6 +65,19 @@ impl Lead {
         self.best
     }
 
+    /// Whether an event waits to be told.
+    pub(crate) fn waits(&self) -> bool {
+        !self.waiting.is_empty()
+    }
+
+    /// Whether this input goes on.
+    pub(crate) fn goes_on(&self, port: usize) -> bool {
+        match self.inputs.get(port) {
+            Some(input) => !input.closed,
+            None => false,
+        }
+    }
+
     /// Makes room for one event more.
     pub(crate) fn reserve(&mut self) -> Result<(), AllocError>
         ensures same { IsSame self.old self.new }

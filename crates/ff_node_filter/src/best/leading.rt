@@ -21,7 +21,17 @@ pub struct Leading<M: Machine> {
     /// The machine.
     pub machine: M,
     lead: Lead,
+    /// The best input as it was told last.
+    told: u32,
     ghost lanes: { length (M.view machine).in_lanes ≡ length lead.inputs.items },
+}
+
+// The best input that was told last, after this event.
+fn told_after(told: u32, event: Option<Event>) -> u32 {
+    match event {
+        Some(Event::Best(_, best)) => best,
+        _ => told,
+    }
 }
 
 impl<M: Machine + Drop> Leading<M> {
@@ -42,7 +52,11 @@ impl<M: Machine + Drop> Leading<M> {
         ensures back { IfErr result (λ back. back ≡ machine) }
     {
         match Lead::new(alloc, graph, heads) {
-            Ok(lead) => Ok(Leading { machine, lead }),
+            Ok(lead) => Ok(Leading {
+                machine,
+                lead,
+                told: 0,
+            }),
             Err(_) => Err(machine),
         }
     }
@@ -52,6 +66,16 @@ impl<M: Machine + Drop> Leading<M> {
         ensures { (past : Past) → (leading_shown self.now).stands past → result ≡ last_named 0 (past.task.tells past.feeds) }
     {
         self.lead.best()
+    }
+
+    // Whether the machine makes its next items of no input but this one, which goes on.
+    fn lacks_no_other(&self, port: usize) -> bool {
+        for p in 0..self.machine.inputs() {
+            if p != port && self.lead.goes_on(p) && self.machine.lacks(p) {
+                return false;
+            }
+        }
+        self.lead.goes_on(port)
     }
 }
 
@@ -108,7 +132,18 @@ impl<M: Machine + Drop> Machine for Leading<M> {
     }
 
     fn next_event(&mut self) -> Option<Event> {
-        self.lead.next()
+        let event = self.lead.next();
+        self.told = told_after(self.told, event);
+        event
+    }
+
+    fn lacks(&self, port: usize) -> bool {
+        self.machine.lacks(port)
+    }
+
+    // As long as the next items are made of no input but the one that was told as the best, its source goes on.
+    fn defers(&self) -> bool {
+        self.lead.waits() && self.lacks_no_other(self.told as usize)
     }
 
     ghost laws = { λ m. leading_laws (M.view m.machine) m.lead (M.laws m.machine) };

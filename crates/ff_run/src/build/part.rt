@@ -170,6 +170,30 @@ impl<Src: Source + Drop, Snk: Sink + Drop> Machine for Part<Src, Snk> {
         }
     }
 
+    fn lacks(&self, port: usize) -> bool {
+        match self {
+            Part::Demux(m) => m.lacks(port),
+            Part::Dec(m) => m.lacks(port),
+            Part::Graph(m) => m.lacks(port),
+            Part::Joint(m) => m.lacks(port),
+            Part::Enc(m) => m.lacks(port),
+            Part::FlacEnc(m) => m.lacks(port),
+            Part::Mux(m) => m.lacks(port),
+        }
+    }
+
+    fn defers(&self) -> bool {
+        match self {
+            Part::Demux(m) => m.defers(),
+            Part::Dec(m) => m.defers(),
+            Part::Graph(m) => m.defers(),
+            Part::Joint(m) => m.defers(),
+            Part::Enc(m) => m.defers(),
+            Part::FlacEnc(m) => m.defers(),
+            Part::Mux(m) => m.defers(),
+        }
+    }
+
     ghost laws = { elim [
       | part.Demux m ↦ demux_laws Src.left Src.name Src.faults any_owes.shaped m m.same_head
       | part.Dec m ↦ dec_laws any_head any_frame m

@@ -73,5 +73,13 @@ impl<M: Machine + Drop> Machine for Through<M> {
         self.machine.next_event()
     }
 
+    fn lacks(&self, port: usize) -> bool {
+        self.machine.lacks(port)
+    }
+
+    fn defers(&self) -> bool {
+        self.machine.defers()
+    }
+
     ghost laws = { λ m. M.laws m.machine };
 }

@@ -11,7 +11,7 @@ returns-clause-gives g c = λ e is past s.
         bases = s.bases;
         count = s.count;
         tells_is = s.tells_is;
-        tells = c.next.ensures.gives s.graph s.bases past.told past.feeds e is s.tells;
+        tells = c.next-event.ensures.gives s.graph s.bases past.told past.feeds e is s.tells;
       },
       reads_nothing (g.M.Machine.view c.args.self.now.machine) lead (g.met.M.Machine.laws c.args.self.now.machine) past s,
     )
