@@ -1,10 +1,10 @@
 -- A format among others: what its own cut leaves open, the cut of any format does.
-use Rattle.std.proofs.Common.{◌≡◌, ℕ, ◌++◌, ◌≤◌, List, sym, ap, ◌∙◌, subst}
+use Rattle.std.proofs.Common.{◌≡◌, ℕ, ◌++◌, List, sym, ap, ◌∙◌, subst}
 use Rattle.std.specs.Prelude.{slice_get}
 use Rattle.ff_frame.specs.declared.packet.Pkt.{Pkt}
 use Rattle.ff_reader.specs.Cutters.{Cutter}
 use Rattle.ff_input.proofs.Among.{IsAmong}
-use Rattle.ff_input.specs.Reading.{IsUndecided, LeavesOpen, AsksWithin}
+use Rattle.ff_input.specs.Reading.{IsUndecided, LeavesOpen}
 
 module _ {H C K D : Type 0} {own : Cutter H C} {all : Cutter K D} {head_in : H → K} {cut_in : C → D} (a : IsAmong own all head_in cut_in) where
   undecided_among : (h : H) (fed : List ℕ) (n : ℕ) → IsUndecided own h fed n → IsUndecided all (head_in h) fed n
@@ -17,10 +17,3 @@ module _ {H C K D : Type 0} {own : Cutter H C} {all : Cutter K D} {head_in : H �
   open_among is cut undecided k fed n good c =
       let r = a.only cut k fed n c in
       subst (λ (x : K). IsUndecided all x fed n) (sym r.1) (undecided_among r.0 fed n (undecided r.0 fed n (is r.0 (subst (λ (x : K). all.IsHead x) r.1 good)) r.2))
-
-  pub asks_among : (asks : C → ℕ) (ahead : H → ℕ) (every : D → ℕ) (most : K → ℕ) → ((c : C) → every (cut_in c) ≡ asks c) → ((h : H) → most (head_in h) ≡ ahead h)
-      → (cut : C) → AsksWithin own asks ahead cut → AsksWithin all every most (cut_in cut)
-  asks_among asks ahead every most ea eh cut within k fed n c =
-      let r = a.only cut k fed n c in
-      subst (λ (x : K). every (cut_in cut) ≤ most x) (sym r.1)
-      (subst (λ (i : ℕ). i ≤ most (head_in r.0)) (sym (ea cut)) (subst (λ (i : ℕ). asks cut ≤ i) (sym (eh r.0)) (within r.0 fed n r.2)))

@@ -1,5 +1,5 @@
 -- What a cut wants of its input: more only where what it was fed leaves its next packet undecided.
-use Rattle.std.specs.Prelude.{◌≢◌, ℕ, ◌≤◌, List, ◌++◌, slice_get}
+use Rattle.std.specs.Prelude.{◌≢◌, ℕ, List, ◌++◌, slice_get}
 use Rattle.ff_reader.specs.Cutters.{Cutter}
 
 -- the bytes of a piece, where the rest of a packet is no reason for more
@@ -15,7 +15,3 @@ module _ {H C : Type 0} (cutter : Cutter H C) where
   -- whatever a cut was fed and gave, that leaves its next packet undecided
   abbrev pub LeavesOpen : C → Type 0
   LeavesOpen cut = (head : H) (fed : List ℕ) (n : ℕ) → cutter.IsHead head → cutter.cuts cut head fed n → IsUndecided head fed n
-
-  -- at most so many bytes are asked for a cut of an input with a head
-  abbrev pub AsksWithin : (C → ℕ) → (H → ℕ) → C → Type 0
-  AsksWithin asks ahead cut = (head : H) (fed : List ℕ) (n : ℕ) → cutter.cuts cut head fed n → asks cut ≤ ahead head

@@ -18,13 +18,10 @@ pub const PIECE: usize = 65536;
 /// what was read leaves the next packet undecided.
 pub trait Demuxable: PacketCut {
     ghost use Rattle.ff_input.specs.Owed.{Owes};
-    ghost use Rattle.ff_input.specs.Reading.{LeavesOpen, AsksWithin};
+    ghost use Rattle.ff_input.specs.Reading.{LeavesOpen};
 
-    /// How many bytes are asked for where more are wanted,
+    /// How many bytes are asked for where more are wanted.
     ghost asks: { Self → ℕ };
-
-    /// and how many at most, of an input with a head.
-    ghost ahead: { Self.Head → ℕ };
 
     /// How many bytes of its input to ask for where more are wanted.
     fn piece(&self) -> usize
@@ -34,10 +31,8 @@ pub trait Demuxable: PacketCut {
     /// The next packet, as `pull` gives it. What was given so far ends at or before byte 2^50.
     fn next_cut(&mut self) -> Result<Cut, AllocError>
         requires { Self.is.place self.old ≤ 2 ^ 50 }
-        // NotYet comes only where what was fed leaves the next packet undecided,
+        // NotYet comes only where what was fed leaves the next packet undecided.
         ensures undecided { result ≡ Ok Cut.NotYet → LeavesOpen Self.is self.old }
-        // and there no more is asked for than the format allows.
-        ensures asks { result ≡ Ok Cut.NotYet → AsksWithin Self.is asks ahead self.old }
         ensures gives { (p : Pkt) → result ≡ Ok (Cut.Pkt p) → GivesPacket Self.is self.old self.new p }
         ensures ends { result ≡ Ok Cut.End → GaveAll Self.is self.old None }
         ensures breaks { (offset : ℕ) → result ≡ Ok (Cut.Broken offset) → GaveAll Self.is self.old (Some offset) }
@@ -68,8 +63,6 @@ impl Demuxable for PcmCut {
 
     ghost asks = { λ cut. piece_size };
 
-    ghost ahead = { λ head. piece_size };
-
     fn piece(&self) -> usize {
         PIECE
     }
@@ -93,8 +86,6 @@ impl Demuxable for Y4mCut {
 
     ghost asks = { λ cut. piece_size };
 
-    ghost ahead = { λ head. piece_size };
-
     fn piece(&self) -> usize {
         PIECE
     }
@@ -113,12 +104,9 @@ impl Demuxable for Y4mCut {
 }
 
 impl Demuxable for FlacCut {
-    ghost use Rattle.ff_flac_dec.specs.Cuts.{longest_frame};
     ghost use Rattle.ff_input.specs.FlacShapes.{flac_asks, flac_owes};
 
     ghost asks = { flac_asks };
-
-    ghost ahead = { λ head. longest_frame };
 
     /// As many bytes as wait, where these are more than a piece. So a frame that isn't whole yet is read anew only
     /// once it has doubled, and not once for each piece.
@@ -146,8 +134,6 @@ impl<A: Demuxable, B: Demuxable> Demuxable for OneOf<A, B> {
     ghost use Rattle.ff_input.specs.Owed.{either_owes};
 
     ghost asks = { either A.asks B.asks };
-
-    ghost ahead = { either A.ahead B.ahead };
 
     fn piece(&self) -> usize {
         match self {

@@ -3,7 +3,7 @@ use Rattle.std.proofs.Common.{◌≡◌, ℕ, ◌+◌, ◌-◌, ◌≤◌, inl, 
 use Rattle.std.specs.Io.KnownBytes.{Consumes, Keeps}
 use Rattle.ff_frame.specs.declared.packet.Pkt.{Pkt}
 use Rattle.ff_reader.specs.Cutters.{Cutter, Feeds, KeepsCut, GivesPacket}
-use Rattle.ff_input.specs.Reading.{IsUndecided, LeavesOpen, AsksWithin}
+use Rattle.ff_input.specs.Reading.{IsUndecided, LeavesOpen}
 use Rattle.ff_node_demux.specs.Reading.{IsFed, IsNear, HasRead, FeedsOn, Reads}
 use Rattle.ff_node_demux.proofs.DemuxSteps.{drop-append}
 
@@ -43,24 +43,24 @@ module _ {H C : Type 0} (cutter : Cutter H C) where
       subst (λ (xs : List ℕ). IsFed cutter new skip head xs n) (sym (append-nil read))
       (record { cuts = keeps head (drop (cutter.start head) read) n f.cuts; skipped = f.skipped })
 
-  near_later : (most : ℕ) (head : H) (read : List ℕ) (n : ℕ) → IsNear cutter most head read n → IsNear cutter most head read (n + 1)
-  near_later most head read n (inl e) = inl e
-  near_later most head read n (inr e) =
+  near_later : (asks : C → ℕ) (head : H) (read : List ℕ) (n : ℕ) → IsNear cutter asks head read n → IsNear cutter asks head read (n + 1)
+  near_later asks head read n (inl e) = inl e
+  near_later asks head read n (inr e) =
       let b = e.before in
-      inr (record { front = e.front; piece = e.piece; parts = e.parts; few = e.few; number = e.number; before = omega (arith, b); undecided = e.undecided })
+      inr (record { front = e.front; piece = e.piece; parts = e.parts; number = e.number; before = omega (arith, b); wanted = e.wanted })
 
-  module _ (asks : C → ℕ) (ahead : H → ℕ) where
+  module _ (asks : C → ℕ) where
     -- nothing was read
     pub reads_nothing : (left : Option (List ℕ)) (cut : C) (skip given : ℕ) (ended : Bool)
-        → Reads cutter asks ahead left cut skip given ended left cut skip given ended
+        → Reads cutter asks left cut skip given ended left cut skip given ended
     reads_nothing left cut skip given ended head read h =
         let same : read ≡ read ++ [] = sym (append-nil read) in (
           [],
           record {
             taken = consumes_none left;
             wanted = inl refl;
-            near = subst (λ (xs : List ℕ). IsNear cutter (ahead head) head xs given) same h.near;
-            now = subst (λ (xs : List ℕ). HasRead cutter ahead cut skip given ended head xs) same h;
+            near = subst (λ (xs : List ℕ). IsNear cutter asks head xs given) same h.near;
+            now = subst (λ (xs : List ℕ). HasRead cutter asks cut skip given ended head xs) same h;
           },
         )
 
@@ -68,8 +68,8 @@ module _ {H C : Type 0} (cutter : Cutter H C) where
       -- a read failed, or only room was made in the cut
       pub reads_kept : (left left' : Option (List ℕ)) (cut cut' : C) (skip skip' given : ℕ) (ended : Bool)
           → Keeps left left' → KeepsCut cutter cut cut' → skip' ≡ skip
-          → Reads cutter asks ahead old was skipped n over left cut skip given ended
-          → Reads cutter asks ahead old was skipped n over left' cut' skip' given ended
+          → Reads cutter asks old was skipped n over left cut skip given ended
+          → Reads cutter asks old was skipped n over left' cut' skip' given ended
       reads_kept left left' cut cut' skip skip' given ended k keeps e r head read h =
           let more = (r head read h).0 in
           let s = (r head read h).1 in (
@@ -88,11 +88,11 @@ module _ {H C : Type 0} (cutter : Cutter H C) where
 
       -- a piece was read
       pub reads_piece : (left left' : Option (List ℕ)) (cut cut' : C) (skip skip' given size : ℕ) (ended : Bool)
-          → ended ≡ false → given ≡ n → LeavesOpen cutter cut → AsksWithin cutter asks ahead cut → size ≤ asks cut
+          → ended ≡ false → given ≡ n → LeavesOpen cutter cut → size ≤ asks cut
           → FeedsOn cutter size left cut skip left' cut' skip'
-          → Reads cutter asks ahead old was skipped n over left cut skip given ended
-          → Reads cutter asks ahead old was skipped n over left' cut' skip' given ended
-      reads_piece left left' cut cut' skip skip' given size ended going same undecided within few feeds r head read h =
+          → Reads cutter asks old was skipped n over left cut skip given ended
+          → Reads cutter asks old was skipped n over left' cut' skip' given ended
+      reads_piece left left' cut cut' skip skip' given size ended going same undecided few feeds r head read h =
           let more = (r head read h).0 in
           let s = (r head read h).1 in
           let front = read ++ more in
@@ -102,15 +102,14 @@ module _ {H C : Type 0} (cutter : Cutter H C) where
           let b = feeds head front given f in
           let bytes = b.0 in
           let parts : front ++ bytes ≡ read ++ (more ++ bytes) = append_assoc read more bytes in
-          let near : (i : ℕ) → given ≡ i → IsNear cutter (ahead head) head (read ++ (more ++ bytes)) i =
+          let near : (i : ℕ) → given ≡ i → IsNear cutter asks head (read ++ (more ++ bytes)) i =
           λ i e. inr (record {
             front = front;
             piece = bytes;
             parts = sym parts;
-            few = let w = within head behind given f.cuts in omega (arith, b.2, few, w);
             number = given;
             before = omega (arith, e);
-            undecided = u;
+            wanted = record { undecided = u; cut = cut; cuts = f.cuts; few = omega (arith, b.2, few) };
           }) in (
             more ++ bytes,
             record {
@@ -137,8 +136,8 @@ module _ {H C : Type 0} (cutter : Cutter H C) where
 
       -- a packet was given of what was read
       pub reads_packet : (left : Option (List ℕ)) (cut cut' : C) (skip given : ℕ) (ended : Bool) (p : Pkt) → GivesPacket cutter cut cut' p
-          → Reads cutter asks ahead old was skipped n over left cut skip given ended
-          → Reads cutter asks ahead old was skipped n over left cut' skip (given + 1) ended
+          → Reads cutter asks old was skipped n over left cut skip given ended
+          → Reads cutter asks old was skipped n over left cut' skip (given + 1) ended
       reads_packet left cut cut' skip given ended p gives r head read h =
           let more = (r head read h).0 in
           let s = (r head read h).1 in (
@@ -150,15 +149,15 @@ module _ {H C : Type 0} (cutter : Cutter H C) where
               now = record {
                 is_head = s.now.is_head;
                 fed = λ b. let f = s.now.fed b in record { cuts = (gives head (drop (cutter.start head) (read ++ more)) given f.cuts).0; skipped = f.skipped };
-                near = near_later (ahead head) head (read ++ more) given s.now.near;
+                near = near_later asks head (read ++ more) given s.now.near;
               };
             },
           )
 
       -- nothing more is given
       pub reads_over : (left : Option (List ℕ)) (cut cut' : C) (skip given : ℕ) (ended : Bool)
-          → Reads cutter asks ahead old was skipped n over left cut skip given ended
-          → Reads cutter asks ahead old was skipped n over left cut' skip given true
+          → Reads cutter asks old was skipped n over left cut skip given ended
+          → Reads cutter asks old was skipped n over left cut' skip given true
       reads_over left cut cut' skip given ended r head read h =
           let more = (r head read h).0 in
           let s = (r head read h).1 in

@@ -32,14 +32,14 @@ module _ {S C H : Type 0} {G : Ghosts C H} where
   abbrev pub demux_device : (S → Option (List ℕ)) → Demux S C H G → Option (List ℕ)
   demux_device name m = name m.src
 
-  -- Of an input with this head it has read these bytes. How many are read ahead at most is passed in.
-  abbrev pub demux_has_read : (H → ℕ) → Demux S C H G → H → List ℕ → Type 0
-  demux_has_read ahead m head read = HasRead G.is ahead m.cut m.skip m.given m.ended head read
+  -- Of an input with this head it has read these bytes. How many are asked for is passed in.
+  abbrev pub demux_has_read : (C → ℕ) → Demux S C H G → H → List ℕ → Type 0
+  demux_has_read asks m head read = HasRead G.is asks m.cut m.skip m.given m.ended head read
 
   -- what a call reads that leaves it so
-  abbrev pub demux_reads_on : (S → Option (List ℕ)) → (C → ℕ) → (H → ℕ) → Demux S C H G → Demux S C H G → Type 0
-  demux_reads_on left asks ahead m m' =
-      Reads G.is asks ahead (left m.src) m.cut m.skip m.given m.ended (left m'.src) m'.cut m'.skip m'.given m'.ended
+  abbrev pub demux_reads_on : (S → Option (List ℕ)) → (C → ℕ) → Demux S C H G → Demux S C H G → Type 0
+  demux_reads_on left asks m m' =
+      Reads G.is asks (left m.src) m.cut m.skip m.given m.ended (left m'.src) m'.cut m'.skip m'.given m'.ended
 
   -- it has read what it had read, and given as many packets
   abbrev pub demux_reads_nothing : Demux S C H G → Demux S C H G → Type 0

@@ -79,7 +79,7 @@ impl<S: Source + Drop, C: Demuxable + Drop> Demux<S, C> {
         ensures device { IfOk result (λ m. demux_device S.name m ≡ S.name src) }
         ensures failures { IfOk result (λ m. demux_failures S.faults m ≡ S.faults src) }
         ensures stands { IfOk result (λ m. (file : List ℕ) → S.left src ≡ Some file → demux_stands S.left m (start (demux_task C.is input head.now file))) }
-        ensures unread { IfOk result (λ m. demux_has_read C.ahead m head.now []) }
+        ensures unread { IfOk result (λ m. demux_has_read C.asks m head.now []) }
         ensures refused { IfErr result (λ s. s ≡ src) }
     {
         let Ok(piece) = piece_of(alloc, PIECE) else {
@@ -207,12 +207,13 @@ impl<S: Source + Drop, C: Demuxable + Drop> Machine for Demux<S, C> {
     }
 
     /// It reads only where what was read leaves the next packet undecided, and there a piece at a time. So after the last packet that
-    /// it gave it has read fewer bytes than a piece: of WAV and YUV4MPEG2 fewer than 65,536.
+    /// it gave it has read fewer bytes than the last piece: of any format but FLAC fewer than 65,536. Of FLAC a piece has as many
+    /// bytes as waited before it, where these are more.
     fn pull(&mut self, _port: usize) -> Result<Option<Item>, AllocError>
         requires { _port < 1 }
         ensures shape { IsSameShape (demux_view S.left S.name S.faults self.old) (demux_view S.left S.name S.faults self.new) }
         ensures fares { FaultStep (demux_view S.left S.name S.faults self.old) (demux_view S.left S.name S.faults self.new) }
-        ensures reads { demux_reads_on S.left C.asks C.ahead self.old self.new }
+        ensures reads { demux_reads_on S.left C.asks self.old self.new }
         ensures gives { (x : Item) → result ≡ Ok (Some x) → (past : Past) → demux_stands S.left self.old past → (IsIn _port past.stopped → ⊥)
             → demux_stands S.left self.new (gave_item past _port x) × ((stream_at past.gave _port).mark ≡ still_open)
             × LiesBelow (with_item (stream_at past.gave _port) x) (stream_at (due past) _port) }

@@ -5,7 +5,7 @@ ghost use Rattle.ff_stream.specs.declared.item.Lane.TheVariants.{Packets};
 ghost use Rattle.ff_frame.specs.declared.packet.Pkt.{Pkt};
 ghost use Rattle.ff_reader.specs.Cutters.{GivesPacket, GaveAll};
 ghost use Rattle.ff_node_demux.specs.Demuxing.{passes_in_demux};
-ghost use Rattle.ff_input.specs.Reading.{LeavesOpen, AsksWithin};
+ghost use Rattle.ff_input.specs.Reading.{LeavesOpen};
 
 use crate::limits::is_long;
 use ff_frame::{Cut, Pkt, StreamHead};
@@ -44,7 +44,6 @@ pub(crate) fn next_unit<C: Demuxable>(
     ensures broken { (offset : ℕ) → result ≡ Ok (Unit.Broken offset) → (cut.new ≡ cut.old) × GaveAll C.is cut.old (Some offset) }
     ensures wait { result ≡ Ok Unit.Wait → (cut.new ≡ cut.old) × (C.is.has_ended cut.old ≡ false) × (length (C.is.waiting cut.old) < C.is.longest) }
     ensures undecided { result ≡ Ok Unit.Wait → LeavesOpen C.is cut.old }
-    ensures asks { result ≡ Ok Unit.Wait → AsksWithin C.is C.asks C.ahead cut.old }
     ensures err { OnErr result (cut.new ≡ cut.old) }
     ensures head { C.is.head_of cut.new ≡ C.is.head_of cut.old }
     ensures ended { C.is.has_ended cut.new ≡ C.is.has_ended cut.old }

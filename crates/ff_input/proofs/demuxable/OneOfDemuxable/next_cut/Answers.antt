@@ -1,20 +1,12 @@
-use Rattle.std.proofs.Common.{None, Some, refl}
-use Rattle.ff_input.specs.Either.{either}
+use Rattle.std.proofs.Common.{None, Some}
 use Rattle.ff_input.proofs.Among.{gives_among, gave_among}
 use Rattle.ff_input.proofs.Either.{first_among, other_among}
-use Rattle.ff_input.proofs.OpenAmong.{open_among, asks_among}
+use Rattle.ff_input.proofs.OpenAmong.{open_among}
 use Rattle.ff_input.proofs.demuxable.OneOfDemuxable.next_cut.Goals as goal
 
 pub returns-in-First-clause-undecided : goal.returns-in-First-clause-undecided
 returns-in-First-clause-undecided g c = λ e.
     rw c.in-First.is (open_among (first_among g.A.PacketCut.is g.B.PacketCut.is) (λ h is. is) c.in-First.cut (c.next_cut.ensures.undecided e))
-
-pub returns-in-First-clause-asks : goal.returns-in-First-clause-asks
-returns-in-First-clause-asks g c = λ e.
-    let A = g.A.Demuxable in
-    let B = g.B.Demuxable in
-    rw c.in-First.is
-    (asks_among (first_among g.A.PacketCut.is g.B.PacketCut.is) A.asks A.ahead (either A.asks B.asks) (either A.ahead B.ahead) (λ cut. refl) (λ h. refl) c.in-First.cut (c.next_cut.ensures.asks e))
 
 pub returns-in-First-clause-gives : goal.returns-in-First-clause-gives
 returns-in-First-clause-gives g c = λ p e.
@@ -31,13 +23,6 @@ returns-in-First-clause-breaks g c = λ offset e.
 pub returns-in-Other-clause-undecided : goal.returns-in-Other-clause-undecided
 returns-in-Other-clause-undecided g c = λ e.
     rw c.in-Other.is (open_among (other_among g.A.PacketCut.is g.B.PacketCut.is) (λ h is. is) c.in-Other.cut (c.next_cut-in-Other.ensures.undecided e))
-
-pub returns-in-Other-clause-asks : goal.returns-in-Other-clause-asks
-returns-in-Other-clause-asks g c = λ e.
-    let A = g.A.Demuxable in
-    let B = g.B.Demuxable in
-    rw c.in-Other.is
-    (asks_among (other_among g.A.PacketCut.is g.B.PacketCut.is) B.asks B.ahead (either A.asks B.asks) (either A.ahead B.ahead) (λ cut. refl) (λ h. refl) c.in-Other.cut (c.next_cut-in-Other.ensures.asks e))
 
 pub returns-in-Other-clause-gives : goal.returns-in-Other-clause-gives
 returns-in-Other-clause-gives g c = λ p e.

@@ -115,15 +115,14 @@ units-preserved g c =
     let a = c.args.self.now in
     let A = g.C.Demuxable.asks in
     let few : c.piece-wanted.result ≤ A m.cut = subst (λ k. c.piece-wanted.result ≤ A k) w.0 (omega (arith, c.piece-wanted.ensures.value)) in
-    let H = g.C.Demuxable.ahead in
     record {
       stands = λ past d.
           let one = subst (λ k. DemuxStands K (S.left m.src) k m.skip m.given m.ticket m.ended m.fault past) (sym w.0) (inv.stands past d) in
           let two = flags K (S.left m.src) c.next_unit.new.cut m.skip m.given m.ticket m.ended m.fault past m.ticket false m.fault refl inv.going refl one in
           flags K (S.left c.read_more.new.src) c.read_more.new.cut c.read_more.new.skip m.given m.ticket false m.fault past m.ticket m.ended m.fault refl (sym inv.going) refl
           (c.in-Ok.ensures.read m.given m.ticket m.fault past two);
-      reads = reads_piece K A H (S.left a.src) a.cut a.skip a.given a.ended (S.left m.src) (S.left c.read_more.new.src) m.cut c.read_more.new.cut m.skip c.read_more.new.skip m.given
-          c.piece-wanted.result m.ended inv.going inv.number (c.in_ok-packet.ensures.undecided (ap Ok c.in-Wait.is)) (c.in_ok-packet.ensures.asks (ap Ok c.in-Wait.is)) few
+      reads = reads_piece K A (S.left a.src) a.cut a.skip a.given a.ended (S.left m.src) (S.left c.read_more.new.src) m.cut c.read_more.new.cut m.skip c.read_more.new.skip m.given
+          c.piece-wanted.result m.ended inv.going inv.number (c.in_ok-packet.ensures.undecided (ap Ok c.in-Wait.is)) few
           (subst (λ k. FeedsOn K c.piece-wanted.result (S.left m.src) k m.skip (S.left c.read_more.new.src) c.read_more.new.cut c.read_more.new.skip) w.0 c.in-Ok.ensures.fed) inv.reads;
       number = inv.number;
       going = inv.going;
@@ -176,14 +175,14 @@ returns-in-Err-NoMemory-clause-unchanged g c = λ past d.
     )
 
 pub returns-then-self-clause-reads : goal.returns-then-self-clause-reads
-returns-then-self-clause-reads g c = let a = c.args.self.now in reads_nothing g.C.PacketCut.is g.C.Demuxable.asks g.C.Demuxable.ahead (g.S.Source.left a.src) a.cut a.skip a.given a.ended
+returns-then-self-clause-reads g c = let a = c.args.self.now in reads_nothing g.C.PacketCut.is g.C.Demuxable.asks (g.S.Source.left a.src) a.cut a.skip a.given a.ended
 
 pub returns-in_err-packet-clause-reads : goal.returns-in_err-packet-clause-reads
 returns-in_err-packet-clause-reads g c =
     let a = c.args.self.now in
     let m = c.units.self in
     let left = g.S.Source.left in
-    subst (λ k. Reads g.C.PacketCut.is g.C.Demuxable.asks g.C.Demuxable.ahead (left a.src) a.cut a.skip a.given a.ended (left m.src) k m.skip m.given m.ended) (sym c.in_err-packet.ensures.err)
+    subst (λ k. Reads g.C.PacketCut.is g.C.Demuxable.asks (left a.src) a.cut a.skip a.given a.ended (left m.src) k m.skip m.given m.ended) (sym c.in_err-packet.ensures.err)
     c.units.invariant.reads
 
 pub returns-in-Packet-clause-reads : goal.returns-in-Packet-clause-reads
@@ -192,7 +191,7 @@ returns-in-Packet-clause-reads g c =
     let m = c.units.self in
     let left = g.S.Source.left in
     let p = c.in-Packet.packet in
-    reads_packet g.C.PacketCut.is g.C.Demuxable.asks g.C.Demuxable.ahead (left a.src) a.cut a.skip a.given a.ended (left m.src) m.cut c.next_unit.new.cut m.skip m.given m.ended p
+    reads_packet g.C.PacketCut.is g.C.Demuxable.asks (left a.src) a.cut a.skip a.given a.ended (left m.src) m.cut c.next_unit.new.cut m.skip m.given m.ended p
     (c.in_ok-packet.ensures.packet p (ap Ok c.in-Packet.is)).0 c.units.invariant.reads
 
 pub returns-in-Long-clause-reads : goal.returns-in-Long-clause-reads
@@ -200,7 +199,7 @@ returns-in-Long-clause-reads g c =
     let a = c.args.self.now in
     let m = c.units.self in
     let left = g.S.Source.left in
-    reads_over g.C.PacketCut.is g.C.Demuxable.asks g.C.Demuxable.ahead (left a.src) a.cut a.skip a.given a.ended (left m.src) m.cut c.next_unit.new.cut m.skip m.given m.ended
+    reads_over g.C.PacketCut.is g.C.Demuxable.asks (left a.src) a.cut a.skip a.given a.ended (left m.src) m.cut c.next_unit.new.cut m.skip m.given m.ended
     c.units.invariant.reads
 
 pub returns-in-End-clause-reads : goal.returns-in-End-clause-reads
@@ -208,7 +207,7 @@ returns-in-End-clause-reads g c =
     let a = c.args.self.now in
     let m = c.units.self in
     let left = g.S.Source.left in
-    reads_over g.C.PacketCut.is g.C.Demuxable.asks g.C.Demuxable.ahead (left a.src) a.cut a.skip a.given a.ended (left m.src) m.cut c.next_unit.new.cut m.skip m.given m.ended
+    reads_over g.C.PacketCut.is g.C.Demuxable.asks (left a.src) a.cut a.skip a.given a.ended (left m.src) m.cut c.next_unit.new.cut m.skip m.given m.ended
     c.units.invariant.reads
 
 pub returns-in-Broken-clause-reads : goal.returns-in-Broken-clause-reads
@@ -216,7 +215,7 @@ returns-in-Broken-clause-reads g c =
     let a = c.args.self.now in
     let m = c.units.self in
     let left = g.S.Source.left in
-    reads_over g.C.PacketCut.is g.C.Demuxable.asks g.C.Demuxable.ahead (left a.src) a.cut a.skip a.given a.ended (left m.src) m.cut c.next_unit.new.cut m.skip m.given m.ended
+    reads_over g.C.PacketCut.is g.C.Demuxable.asks (left a.src) a.cut a.skip a.given a.ended (left m.src) m.cut c.next_unit.new.cut m.skip m.given m.ended
     c.units.invariant.reads
 
 pub returns-in-Err-Failed-clause-reads : goal.returns-in-Err-Failed-clause-reads
@@ -226,7 +225,7 @@ returns-in-Err-Failed-clause-reads g c =
     let left = g.S.Source.left in
     let f = c.in-Err-Failed.ensures in
     let w = c.in_ok-packet.ensures.wait (ap Ok c.in-Wait.is) in
-    reads_kept g.C.PacketCut.is g.C.Demuxable.asks g.C.Demuxable.ahead (left a.src) a.cut a.skip a.given a.ended (left m.src) (left c.read_more.new.src) m.cut c.read_more.new.cut m.skip c.read_more.new.skip
+    reads_kept g.C.PacketCut.is g.C.Demuxable.asks (left a.src) a.cut a.skip a.given a.ended (left m.src) (left c.read_more.new.src) m.cut c.read_more.new.cut m.skip c.read_more.new.skip
     m.given m.ended f.left (subst (λ k. KeepsCut g.C.PacketCut.is k c.read_more.new.cut) w.0 f.cuts) f.skip c.units.invariant.reads
 
 pub returns-in-Err-NoMemory-clause-reads : goal.returns-in-Err-NoMemory-clause-reads
@@ -236,14 +235,14 @@ returns-in-Err-NoMemory-clause-reads g c =
     let left = g.S.Source.left in
     let f = c.in-Err-NoMemory.ensures in
     let w = c.in_ok-packet.ensures.wait (ap Ok c.in-Wait.is) in
-    reads_kept g.C.PacketCut.is g.C.Demuxable.asks g.C.Demuxable.ahead (left a.src) a.cut a.skip a.given a.ended (left m.src) (left c.read_more.new.src) m.cut c.read_more.new.cut m.skip c.read_more.new.skip
+    reads_kept g.C.PacketCut.is g.C.Demuxable.asks (left a.src) a.cut a.skip a.given a.ended (left m.src) (left c.read_more.new.src) m.cut c.read_more.new.cut m.skip c.read_more.new.skip
     m.given m.ended f.left (subst (λ k. KeepsCut g.C.PacketCut.is k c.read_more.new.cut) w.0 f.cuts) f.skip c.units.invariant.reads
 
 pub returns-then-is_some-clause-reads : goal.returns-then-is_some-clause-reads
-returns-then-is_some-clause-reads g c = let a = c.args.self.now in reads_nothing g.C.PacketCut.is g.C.Demuxable.asks g.C.Demuxable.ahead (g.S.Source.left a.src) a.cut a.skip a.given a.ended
+returns-then-is_some-clause-reads g c = let a = c.args.self.now in reads_nothing g.C.PacketCut.is g.C.Demuxable.asks (g.S.Source.left a.src) a.cut a.skip a.given a.ended
 
 pub returns-then-not-self-clause-reads : goal.returns-then-not-self-clause-reads
-returns-then-not-self-clause-reads g c = let a = c.args.self.now in reads_nothing g.C.PacketCut.is g.C.Demuxable.asks g.C.Demuxable.ahead (g.S.Source.left a.src) a.cut a.skip a.given a.ended
+returns-then-not-self-clause-reads g c = let a = c.args.self.now in reads_nothing g.C.PacketCut.is g.C.Demuxable.asks (g.S.Source.left a.src) a.cut a.skip a.given a.ended
 
 pub units-init : goal.units-init
 units-init g c =
@@ -251,7 +250,7 @@ units-init g c =
     let none = no_fault a.fault (sym c.is_some.ensures ∙ c.if-is_some.false) in
     record {
       stands = λ past d. d;
-      reads = reads_nothing g.C.PacketCut.is g.C.Demuxable.asks g.C.Demuxable.ahead (g.S.Source.left a.src) a.cut a.skip a.given a.ended;
+      reads = reads_nothing g.C.PacketCut.is g.C.Demuxable.asks (g.S.Source.left a.src) a.cut a.skip a.given a.ended;
       number = refl;
       going = search;
       sound = none;

@@ -11,7 +11,7 @@ invariant-units g l =
     record {
       stands : (past : Past) → DemuxStands K (S.left l.initial.self.src) l.initial.self.cut l.initial.self.skip l.initial.self.given l.initial.self.ticket l.initial.self.ended l.initial.self.fault past
           → DemuxStands K (S.left l.self.src) l.self.cut l.self.skip l.self.given l.self.ticket l.self.ended l.self.fault past;
-      reads : Reads K g.C.Demuxable.asks g.C.Demuxable.ahead (S.left l.initial.self.src) l.initial.self.cut l.initial.self.skip l.initial.self.given l.initial.self.ended
+      reads : Reads K g.C.Demuxable.asks (S.left l.initial.self.src) l.initial.self.cut l.initial.self.skip l.initial.self.given l.initial.self.ended
           (S.left l.self.src) l.self.cut l.self.skip l.self.given l.self.ended;
       number : l.self.given ≡ l.initial.self.given;
       going : l.self.ended ≡ false;
