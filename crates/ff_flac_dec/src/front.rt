@@ -56,7 +56,7 @@ pub(crate) fn front_sent(
         Ok(frame) => {
             let whole = Front::Whole(frame.len, frame.block);
             let own = front(bytes, frame.len);
-            sender.send(alloc, stream, pos, own, frame)?;
+            sender.send(alloc, stream, pos, own, frame);
             Ok(whole)
         }
         Err(FrameEnd::NotYet) => Ok(Front::Wait),

@@ -89,7 +89,7 @@ impl FrameSender {
         }
     }
 
-    /// Sends a frame with its bytes, which stand at this offset. Where there is no room it goes nowhere.
+    /// Sends a frame with its bytes, which stand at this offset. Without room or memory it goes nowhere.
     pub(crate) fn send(
         &mut self,
         alloc: Global,
@@ -97,20 +97,21 @@ impl FrameSender {
         pos: u64,
         bytes: &[u8],
         frame: FlacFrame,
-    ) -> Result<(), AllocError>
+    )
         requires { (number : ℕ) × Begins stream.now bytes.now (frame_of number frame) (length bytes.now) }
     {
         let Some(ring) = &mut self.ring else {
-            return Ok(());
+            return;
         };
-        let bytes = Bytes::new(bytes.to_vec(alloc)?);
+        let Ok(bytes) = bytes.to_vec(alloc) else {
+            return;
+        };
         let _full = ring.push(ReadFrame {
             stream: *stream,
             pos,
-            bytes,
+            bytes: Bytes::new(bytes),
             frame,
         });
-        Ok(())
     }
 }
 

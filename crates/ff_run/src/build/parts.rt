@@ -59,22 +59,24 @@ fn options_of(out: &OutputJob) -> OutputOptions
 const IN_HAND: usize = 2;
 
 // Has a demuxer of FLAC send each frame that it has read to the decoder of its packets, which reads the others itself.
+// Without memory for a channel it reads all.
 fn share_frames<Src: Source + Drop>(
     alloc: Global,
     queue: usize,
     demux: &mut Demux<Src, AnyCut>,
     dec: &mut Dec<AnyDecoder>,
-) -> Result<(), AllocError>
+)
     ensures demux { demux.new ≡ demux.old }
     ensures dec { dec.new ≡ dec.old }
 {
     if !demux.sends_frames() {
-        return Ok(());
+        return;
     }
-    let (sender, receiver) = frame_channel(alloc, queue.saturating_add(IN_HAND))?;
+    let Ok((sender, receiver)) = frame_channel(alloc, queue.saturating_add(IN_HAND)) else {
+        return;
+    };
     demux.send_frames_to(sender);
     dec.take_frames_from(receiver);
-    Ok(())
 }
 
 /// The kinds of node of a plan, over any format and codec that is read or written.
@@ -195,7 +197,8 @@ impl<Src: Source + Send + Drop, Snk: Sink + Send + Drop> Kinds<Src, Snk, Part<Sr
         let Part::Dec(dec) = taker else {
             return Ok(());
         };
-        share_frames(alloc, queue, demux, dec)
+        share_frames(alloc, queue, demux, dec);
+        Ok(())
     }
 
     fn tried(part: &Part<Src, Snk>) -> u64 {

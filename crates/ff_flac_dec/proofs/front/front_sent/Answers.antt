@@ -20,13 +20,13 @@ send-requires c =
           (subst (λ (n : ℕ). Begins s (take frame.len bytes) (frame_of f.0 frame) n) len own),
     )
 
-pub returns-in_ok-send-in-Ok-clause-exact : goal.returns-in_ok-send-in-Ok-clause-exact
-returns-in_ok-send-in-Ok-clause-exact c =
+pub returns-in-Ok-clause-exact : goal.returns-in-Ok-clause-exact
+returns-in-Ok-clause-exact c =
     let f = c.in-Ok.ensures.ok in
     sym (unit_begins c.args.stream.now c.args.bytes.now (frame_of f.0 c.in-Ok.frame) c.in-Ok.frame.len f.1)
 
-pub returns-in_ok-send-in-Ok-clause-bounds : goal.returns-in_ok-send-in-Ok-clause-bounds
-returns-in_ok-send-in-Ok-clause-bounds c = λ len block is.
+pub returns-in-Ok-clause-bounds : goal.returns-in-Ok-clause-bounds
+returns-in-Ok-clause-bounds c = λ len block is.
     let frame = c.in-Ok.frame in
     let f = c.in-Ok.ensures.ok in
     let l : frame.len ≡ len = cc in
