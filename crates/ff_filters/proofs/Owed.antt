@@ -1,5 +1,5 @@
 -- Each filter owes what every filter owes.
-use Rattle.std.proofs.Common.{◌≡◌, false, true, Result, Ok, Err, List, refl, subst}
+use Rattle.std.proofs.Common.{◌≡◌, ◌↔◌, false, true, Result, Ok, Err, List, refl, subst}
 use Rattle.std.specs.List.{AllByRecursion}
 use Rattle.ff_frame.specs.declared.config.ConfigError.{ConfigError}
 use Rattle.ff_frame.specs.declared.config.ConfigError.TheVariants.{NoMemory}
@@ -11,12 +11,15 @@ use Rattle.ff_filters.specs.declared.name.FilterName.{FilterName}
 use Rattle.ff_filters.specs.declared.name.FilterName.TheVariants as filter
 use Rattle.ff_filters.specs.Configured.{Filtered}
 use Rattle.ff_filters.specs.Definitions.{definition_of, relation_of}
+use Rattle.ff_stream.specs.Ports.{stream_at}
+use Rattle.ff_net.specs.Ways.{AreValid}
+use Rattle.ff_filter.specs.Joins.{Flow, Ports, all_opened}
 use Rattle.ff_node_filter.specs.Limiting.{IsLimited}
-use Rattle.ff_filters.specs.limited.Cuts.{cuts_in, AreTimed}
+use Rattle.ff_filters.specs.limited.Cuts.{cuts_in, IsWithin, PassesLimit, AreTimed}
 use Rattle.ff_filters.specs.Makes.{configured_as}
 use Rattle.ff_filters.proofs.Refusing.{HasReason}
 use Rattle.ff_filters.proofs.Owing.{Gives, Owed, IsKept, kept_by}
-use Rattle.ff_filters.proofs.LimitedLemmas.Opening.{opened_limited}
+use Rattle.ff_filters.proofs.LimitedLemmas.Opening.{opened_limited, cuts_exactly}
 use Rattle.ff_filters.proofs.OneOwed.{null_owed, trim_owed, setpts_owed, crop_owed, pad_owed, hflip_owed, vflip_owed, fps_owed, atrim_owed}
 use Rattle.ff_filters.proofs.ManyOwed.{split_owed, channelsplit_owed, stack_owed, concat_owed, join_owed}
 
@@ -50,6 +53,14 @@ gives name args heads f e = (owed name).gives args heads f e
 pub limited : (name : FilterName) (args : List Arg) (heads : List StreamHead) (f : Filtered) → AreTimed heads → configured_as name args heads ≡ Ok f
     → IsLimited f.view.ins f.view.outs f.view.rest (cuts_in f.view)
 limited name args heads f timed e = opened_limited f.view.ins f.view.outs f.view.rest ((gives name args heads f e).owes timed)
+
+-- what it would give without limits, and that exactly what passes a limit is cut
+pub limits_cut : (name : FilterName) (args : List Arg) (heads : List StreamHead) (f : Filtered) → AreTimed heads → configured_as name args heads ≡ Ok f
+    → (free : Ports → Ports) × IsWithin f.view.ins f.view.outs f.view.rest free
+    × ((ss : List Flow) → AreValid f.view.ins ss → (cuts_in f.view ss ≡ true) ↔ PassesLimit f.view.outs (free (all_opened (stream_at ss))))
+limits_cut name args heads f timed e =
+    let o = (gives name args heads f e).owes timed in
+    (o.free, o.within_limits, λ ss v. cuts_exactly f.view.ins f.view.outs f.view.rest o.free o.within_limits ss v)
 
 -- why a filter is refused is never that there was no memory
 pub never_short : (name : FilterName) (args : List Arg) (heads : List StreamHead) → configured_as name args heads ≡ Err NoMemory → ⊥

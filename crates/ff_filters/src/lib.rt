@@ -26,6 +26,6 @@ pub use laws::{
     durations_are_read, filters_are_determined, filters_are_told, filters_carry_their_heads,
     the_function_needs_no_memory,
 };
-pub use limited::configured_filters_are_limited;
+pub use limited::{configured_filters_are_limited, limits_cut_what_passes_them};
 pub use name::{FILTERS, FilterName, inputs, is_apart, named, outputs, takes_sound};
 pub use step::{AnyStep, IntoAny};

@@ -36,12 +36,14 @@ use Rattle.ff_fsync.specs.stacks.Shapes.{stacked, shape_of}
 use Rattle.ff_fsync.specs.stacks.Stacks.{StackOf, stack_on, stacked_of, stack_view, AreStreamsOf}
 use Rattle.ff_fsync.proofs.StacksLemmas.Seeing.{none_came, stack_seen}
 use Rattle.ff_fsync.proofs.StacksLemmas.Exact.{AreBased}
-use Rattle.ff_fsync.proofs.StacksLemmas.Valid.{stacks_in_shape}
+use Rattle.ff_fsync.proofs.StacksLemmas.Valid.{stacks_in_shape, stacks_unbroken}
 use Rattle.ff_joins.specs.Arguments.{Checked, each_head}
 use Rattle.ff_joins.specs.Concats.{concatenated}
+use Rattle.ff_joins.specs.ConcatBreaks.{broken_stands}
 use Rattle.ff_joins.specs.ConcatLaws.{in_order-keeps, in_order-calm}
 use Rattle.ff_joins.specs.ConcatOptions.{concat_view}
-use Rattle.ff_joins.specs.Joined.{Row, joined_rows, first_start, sound_frame, side_to_side}
+use Rattle.ff_joins.specs.JoinBreaks.{lost_by}
+use Rattle.ff_joins.specs.Joined.{Row, row_stream, joined_rows, first_start, sound_frame, side_to_side}
 use Rattle.ff_joins.specs.JoinOptions.{AreAlike, is_like, channels_in, with_channels, rate_of, bits_of, channels_of}
 use Rattle.ff_joins.specs.JoinView.{channels_at, join_view}
 use Rattle.ff_joins.specs.Lots.{Lot, all_come, frame_on, lots_view}
@@ -52,7 +54,7 @@ use Rattle.ff_node_filter.specs.Tasks.{ported}
 use Rattle.ff_filters.specs.limited.Cuts.{AreTimed}
 use Rattle.ff_filters.specs.Configured.{stacked_as, checked, joined_as}
 use Rattle.ff_filters.proofs.Parting.{unless_ok}
-use Rattle.ff_filters.proofs.LimitedLemmas.Opening.{Owes}
+use Rattle.ff_filters.proofs.LimitedLemmas.Opening.{Owes, one_within}
 
 -- the only output is valid
 one_valid : (head : StreamHead) (f : Ports → Ports) (ss : List Flow) → IsValid (Frames head) (f (stream_at ss) 0) → AreValid (Frames head ∷ []) (ported 1 f ss)
@@ -115,6 +117,8 @@ stack_owes d (h ∷ hs) s m timed e =
       hides = stack_hides n;
       keeps = λ ss v. one_valid n.head (stack_view n).rest ss
           (within_valid (Frames n.head) (stacked_of n (stream_at ss)) (stacks_in_shape d h hs s.shortest (stream_at ss) (are_based (h ∷ hs) timed) k.0 (streams_of (h ∷ hs) (stream_at ss) v)));
+      free = λ ss q. stacked_of n ss;
+      within_limits = one_within (stack_view n).ins n.head (stacked_of n) (λ ss v u. stacks_unbroken n (stream_at ss) u);
     })
 
 -- ---- segments
@@ -140,6 +144,8 @@ concat_owes h n base =
           (in_order-calm n 0 0 rs (all_opened rs) (λ p. below_self (opened (rs p))))));
       keeps = λ ss v. one_valid h (concat_view (h, n)).rest ss
           (segments_valid h base n (stream_at ss) (λ p lt. subst (λ (o : Option Lane). IsValidOn o (stream_at ss p)) (lane_there n p (Frames h) lt) (v p)));
+      free = λ ss q. concatenated n ss;
+      within_limits = one_within (concat_view (h, n)).ins h (concatenated n) (λ ss v u b. let s = broken_stands n 0 0 (stream_at ss) b in u s.port s.mark);
     }
 
 -- ---- sound side by side
@@ -201,4 +207,8 @@ join_owes (h ∷ hs) head k e = record {
       (side_to_side n (channels_at (h ∷ hs)) (rate_of head) (bits_of head) (channels_of head) (stream_at ss)))) one_less
       (join_valid h hs head (stream_at ss) k (alike (h ∷ hs) head e)
       (λ p lt. subst (λ (o : Option Lane). IsValidOn o (stream_at ss p)) (lane_of_head (h ∷ hs) p h lt) (v p))));
+  free = λ ss q. side_to_side (length (h ∷ hs) - 1) (channels_at (h ∷ hs)) (rate_of head) (bits_of head) (channels_of head) ss;
+  within_limits = one_within (join_view (h ∷ hs) head).ins head
+      (side_to_side (length (h ∷ hs) - 1) (channels_at (h ∷ hs)) (rate_of head) (bits_of head) (channels_of head))
+      (λ ss v u b. let l = lost_by (length (h ∷ hs) - 1) (λ p. row_stream (channels_at (h ∷ hs) p) (stream_at ss p)) b in u l.0 l.1.is);
 }

@@ -58,20 +58,24 @@ use Rattle.ff_afilter.specs.Trims.{sound_trimmed, atrim_view, at_once as sound_a
 use Rattle.ff_afilter.specs.TrimLaws.{trimmed-below as sound-below, trimmed-calm as sound-calm}
 use Rattle.ff_afilter.proofs.TrimSound.{sound_trim_sound}
 use Rattle.ff_afilter.proofs.ChannelSound.{channel_valid}
+use Rattle.ff_node_filter.specs.Limiting.{IsLimited}
 use Rattle.ff_node_filter.proofs.Limits.{single_limited, ended_limited, spread_limited}
 use Rattle.ff_filters.specs.Configured.{cropped_as, padded_as}
 use Rattle.ff_filters.proofs.Parting.{if_ok}
-use Rattle.ff_filters.proofs.LimitedLemmas.Opening.{Owes, owed}
+use Rattle.ff_filters.proofs.LimitedLemmas.Opening.{Owes, owed, one_within, never_cut}
 
 -- what a function of one stream owes, whose output is over from the start or not
 pub single_owes : (lane : Lane) (head : StreamHead) (f : Flow → Flow) (after : After) → (after ≡ Broke → ⊥)
     → ((r s : Flow) → LiesBelow r s → LiesBelow (f r) (f s)) → ((r : Flow) → LiesBelow (opened (f r)) (f (opened r))) → IsSound lane (Frames head) f
     → Owes (lane ∷ []) (Frames head ∷ []) (single_view lane head f after).rest
 single_owes lane head f More n below calm sound =
-    owed (lane ∷ []) (Frames head ∷ []) (single_view lane head f More).rest (λ (ss : List Flow). some_pass (passes_limits (Frames head)) 0 (f (stream_at ss 0)).items)
-    (single_limited lane head f below calm sound)
+    owed (lane ∷ []) (Frames head ∷ []) (single_view lane head f More).rest (λ ss q. f (ss 0))
+    (λ (ss : List Flow). some_pass (passes_limits (Frames head)) 0 (f (stream_at ss 0)).items)
+    (single_limited lane head f below calm sound) (one_within (lane ∷ []) head (λ ss. f (ss 0)) (λ ss v u. sound.unbroken (stream_at ss 0) (v 0) (u 0)))
 single_owes lane head f Whole n below calm sound =
-    owed (lane ∷ []) (Frames head ∷ []) (single_view lane head f Whole).rest (λ (ss : List Flow). false) (ended_limited lane head f)
+    let rest : Ports → Ports = (single_view lane head f Whole).rest in
+    owed (lane ∷ []) (Frames head ∷ []) rest rest (λ (ss : List Flow). false) (ended_limited lane head f)
+    (never_cut (lane ∷ []) (Frames head ∷ []) rest (ended_limited lane head f))
 single_owes lane head f Broke n below calm sound = absurd (n refl)
 
 pub pass_owes : (m : Pass) → Owes (pass_view m).ins (pass_view m).outs (pass_view m).rest
@@ -172,6 +176,10 @@ fps_owes (Video tb format width height sar_num sar_den) base k =
 
 -- ---- several outputs
 
+-- whose limits cut nothing
+uncut_owed : (ins outs : List Lane) (f : Ports → Ports) → IsLimited ins outs f (λ (ss : List Flow). false) → Owes ins outs f
+uncut_owed ins outs f l = owed ins outs f f (λ (ss : List Flow). false) l (never_cut ins outs f l)
+
 all_as_they_are : (xs : List Item) → map (λ (x : Item). x) xs ≡ xs
 all_as_they_are [] = refl
 all_as_they_are (x ∷ xs) = ap (λ (ys : List Item). x ∷ ys) (all_as_they_are xs)
@@ -190,13 +198,13 @@ pub split_owes : (m : StreamHead × ℕ) → Owes (split_view m).ins (split_view
 split_owes m =
     let lane : Lane = Frames m.0 in
     subst (λ (f : Ports → Ports). Owes (lane ∷ []) (replicate m.1 lane) f) (copied lane m.1)
-    (owed (lane ∷ []) (replicate m.1 lane) (spread_start lane (replicate m.1 lane) (λ q x. x)).rest (λ (ss : List Flow). false)
+    (uncut_owed (lane ∷ []) (replicate m.1 lane) (spread_start lane (replicate m.1 lane) (λ q x. x)).rest
     (spread_limited lane lane m.1 (λ q x. x) (λ q lt. copy_valid lane)))
 
 pub channels_owes : (head : StreamHead) → is_sound head ≡ true → Owes (channels_view head).ins (channels_view head).outs (channels_view head).rest
 channels_owes (Audio tb rate bits channels codec) k =
-    owed (Frames (Audio tb rate bits channels codec) ∷ []) (replicate channels (Frames (Audio tb rate bits 1 codec)))
-    (spread_start (Frames (Audio tb rate bits channels codec)) (replicate channels (Frames (Audio tb rate bits 1 codec))) channel_item).rest (λ (ss : List Flow). false)
+    uncut_owed (Frames (Audio tb rate bits channels codec) ∷ []) (replicate channels (Frames (Audio tb rate bits 1 codec)))
+    (spread_start (Frames (Audio tb rate bits channels codec)) (replicate channels (Frames (Audio tb rate bits 1 codec))) channel_item).rest
     (spread_limited (Frames (Audio tb rate bits channels codec)) (Frames (Audio tb rate bits 1 codec)) channels channel_item
     (λ q lt. channel_valid tb rate bits channels codec q lt))
 channels_owes (Video tb format width height sar_num sar_den) k = cc
