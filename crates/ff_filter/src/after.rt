@@ -25,6 +25,3 @@ pub fn closing_of(item: &Item) -> Option<After>
         Item::Broken => Some(After::Broke),
     }
 }
-
-/// Lets an item go that nobody wants.
-pub fn discard(_item: Item) {}

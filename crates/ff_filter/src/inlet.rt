@@ -7,8 +7,8 @@ ghost use Rattle.ff_filter.specs.Views.{closes, none_closes};
 ghost use Rattle.ff_filter.specs.Made.{waiting, is_over};
 ghost use Rattle.ff_filter.specs.Inlets.{IsNext};
 
-use crate::after::{After, closing_of, discard};
-use ff_stream::Item;
+use crate::after::{After, closing_of};
+use ff_stream::{Item, discard};
 use std::alloc::{AllocError, Global};
 use std::collections::VecDeque;
 

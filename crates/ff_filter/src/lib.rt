@@ -29,18 +29,20 @@ mod spread;
 mod step;
 mod stepper;
 
-pub use after::{After, closing_of, discard};
+pub use after::{After, closing_of};
 pub use filter::Filter;
 pub use inlet::{Inlet, Next};
 pub use laws::shared_functions_are_sound;
-pub use limited::{Limited, shared, time_base};
+pub use limited::Limited;
 pub use machine::{Single, machine_of};
-pub use options::{Settings, read_args, read_number, read_time, sound_settings, video_settings};
+pub use options::{
+    Settings, option_of, read_args, read_number, read_time, sound_settings, video_settings,
+};
 pub use outlet::Outlet;
 pub use pass::Pass;
 pub use plain::{ExprSettings, NoSettings};
 pub use range::{Range, RangeSettings};
-pub use rebase::{Rebase, start_of_item, ticks_of};
+pub use rebase::{Rebase, earlier, start_of_item, ticks_of};
 pub use spread::{Copies, Share, SplitSettings, Spreader, copies_of, same_heads};
 pub use step::{Given, Step};
 pub use stepper::Stepper;

@@ -1,5 +1,5 @@
 //! The limits of every stream, put on a function of one stream.
-ghost use Rattle.std.specs.Prelude.{◌≡◌, ◌≤◌, ◌<◌, ◌*◌, ◌/◌, ◌^◌, ◌≤ℤ◌, pos, negsuc, nat_lt, refl, Option, IsTrue};
+ghost use Rattle.std.specs.Prelude.{◌≡◌, ◌≤◌, ◌<◌, ◌*◌, ◌/◌, ◌^◌, ◌≤ℤ◌, nat_lt, refl, Option, IsTrue};
 ghost use Rattle.ff_frame.specs.Heads.{base_of_head};
 ghost use Rattle.ff_stream.specs.Times.{end_of, ticks};
 ghost use Rattle.ff_stream.specs.Within.{passes_limits};
@@ -12,8 +12,7 @@ ghost use Rattle.ff_filter.specs.LimitLaws.{limited-waits, limited-ends, limited
 use crate::after::After;
 use crate::step::{Given, Step};
 use ff_frame::StreamHead;
-use ff_stream::{Item, Refused};
-use ff_time::Rational;
+use ff_stream::{Item, Refused, end_of_item, time_base};
 
 // The limits.
 const LAST_SECOND: u128 = 1_000_000_000;
@@ -32,40 +31,6 @@ pub struct Limited<A: Step> {
     pub before: u64,
     pub ghost few: { before ≤ 2 ^ 40 },
     pub ghost frames: { A.lane_out inner ≡ Frames head },
-}
-
-/// The time base of a stream.
-pub fn time_base(head: &StreamHead) -> Rational
-    ensures { result ≡ base_of_head head.now }
-{
-    match *head {
-        StreamHead::Audio { tb, .. } => tb,
-        StreamHead::Video { tb, .. } => tb,
-    }
-}
-
-/// So many samples, shared out to so many channels; none where there is no channel.
-pub fn shared(samples: usize, channels: usize) -> usize
-    ensures { result ≡ samples / channels }
-{
-    if channels == 0 { 0 } else { samples / channels }
-}
-
-/// When an item ends, in ticks.
-fn end_of_item(item: &Item) -> i128
-    ensures end { result ≡ end_of item.now }
-    ensures small { result ≤ℤ pos (2 ^ 65) }
-    ensures large { negsuc (2 ^ 65) ≤ℤ result }
-{
-    match item {
-        Item::Audio(frame) => {
-            let count = shared(frame.samples.as_slice().len(), frame.channels as usize);
-            frame.pts as i128 + count as i128
-        }
-        Item::Video(frame) => frame.pts as i128 + frame.duration as i128,
-        Item::Packet(packet) => packet.pts as i128 + packet.duration as i128,
-        Item::Trailer(_) | Item::End | Item::Broken => 0,
-    }
 }
 
 // Whether an item ends past the last second.

@@ -25,8 +25,8 @@ pub trait Settings: Copy {
         ensures not_taken { IsNone result → (s : Self) → manual.Sets self option value.now s → ⊥ };
 }
 
-// The option that an argument gives.
-fn option_of<S: Settings>(arg: &Arg, keyed: bool, place: usize) -> Option<usize>
+/// The option that an argument gives, of so many that were given by place; none where it has no such option.
+pub fn option_of<S: Settings>(arg: &Arg, keyed: bool, place: usize) -> Option<usize>
     ensures { result ≡ option_at S.manual keyed place arg.now.key }
 {
     match &arg.key {

@@ -7,8 +7,8 @@ ghost use Rattle.ff_filter.specs.Joins.{Flow, before};
 ghost use Rattle.ff_filter.specs.Views.{closes, none_closes};
 ghost use Rattle.ff_filter.specs.Made.{left, listed_option};
 
-use crate::after::{After, discard};
-use ff_stream::Item;
+use crate::after::After;
+use ff_stream::{Item, discard};
 use std::alloc::{AllocError, Global};
 use std::collections::VecDeque;
 

@@ -2,9 +2,9 @@
 ghost use Rattle.std.specs.Prelude.{◌≡◌, ◌<◌, ◌≤◌, ◌^◌, None, Some};
 ghost use Rattle.std.specs.Option.{ForSome};
 
-use crate::limited::time_base;
 use crate::options::{Settings, read_time};
 use ff_frame::StreamHead;
+use ff_stream::time_base;
 use ff_time::{Rational, ceil_units};
 
 /// A range of times as the arguments say it, in microseconds.

@@ -48,8 +48,8 @@ fn lowered(time: i64, by: u64) -> i64
     ticks_of(time).saturating_sub(by) as i64
 }
 
-// The item so many ticks earlier.
-fn earlier(item: Item, by: u64) -> Item
+/// The item so many ticks earlier; what comes to lie before 0 starts at 0.
+pub fn earlier(item: Item, by: u64) -> Item
     requires goes_on { closes item ≡ false }
     ensures is { result ≡ earlier_by by item }
     ensures goes_on { closes result ≡ false }

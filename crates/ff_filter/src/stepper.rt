@@ -4,11 +4,11 @@ ghost use Rattle.ff_filter.specs.Views.{closes, Fed, Same, IsSpent};
 ghost use Rattle.ff_filter.specs.Made.{stepper_view, is_over, steps_spent, closing};
 ghost use Rattle.ff_filter.specs.StepperLaws.{stepper-grows, stepper-hides, stepper-settles, stepper-quiet, stepper-spent, stepper-shut, stepper-done};
 
-use crate::after::{After, closing_of, discard};
+use crate::after::{After, closing_of};
 use crate::filter::Filter;
 use crate::outlet::Outlet;
 use crate::step::Step;
-use ff_stream::{Item, Refused};
+use ff_stream::{Item, Refused, discard};
 use std::alloc::{AllocError, Global};
 
 /// The machine of a function that gives at most one item for each.

@@ -6,11 +6,12 @@ use Rattle.ff_frame.specs.declared.video.VFrame.{VFrame}
 use Rattle.ff_frame.specs.declared.head.StreamHead.{StreamHead}
 use Rattle.ff_stream.specs.declared.item.Lane.{Lane}
 use Rattle.ff_stream.specs.declared.item.Lane.TheVariants.{Frames}
+use Rattle.ff_stream.specs.Stream.{is_whole}
 use Rattle.ff_filter.specs.Made.{mark_after}
 use Rattle.ff_filter.specs.Shifts.{start_ticks}
 use Rattle.ff_fsync.specs.declared.input.Input.{Input}
 use Rattle.ff_fsync.specs.Ranges.{all_to, all_at, all_from, any_from, none_from, not_all, fails_from}
-use Rattle.ff_fsync.specs.Synced.{is_whole, starts, begun, reached, is_known, is_ready, is_shown}
+use Rattle.ff_fsync.specs.Synced.{starts, begun, reached, is_known, is_ready, is_shown}
 use Rattle.ff_fsync.specs.Rising.{some_found}
 use Rattle.ff_fsync.specs.SyncLaws.{clash, reached_sooner}
 use Rattle.ff_fsync.specs.Sides.{Side, side_at}

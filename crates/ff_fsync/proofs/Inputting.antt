@@ -17,8 +17,9 @@ use Rattle.ff_filter.specs.Made.{is_over, mark_after}
 use Rattle.ff_filter.specs.Shifts.{start_ticks}
 use Rattle.ff_filter.specs.Views.{closes}
 use Rattle.ff_frame.specs.declared.head.StreamHead.{StreamHead}
+use Rattle.ff_stream.specs.Stream.{is_open, is_whole}
 use Rattle.ff_fsync.specs.Events.{put_if}
-use Rattle.ff_fsync.specs.Synced.{is_open, is_whole, each_of, later_of, pick}
+use Rattle.ff_fsync.specs.Synced.{each_of, later_of, pick}
 use Rattle.ff_fsync.specs.Rising.{Rises, some_append, none_last, none_starts, none_begun}
 use Rattle.ff_fsync.specs.Sides.{Side, coming, kept, kept_from, fits_at, next_by, fills_to}
 use Rattle.ff_fsync.specs.SideLaws.{fills_reach}

@@ -5,13 +5,13 @@ use Rattle.std.proofs.lemmas.Bool.{cases_lt, and_parts, and_from, or_cases, or_l
 use Rattle.ff_frame.specs.declared.head.StreamHead.{StreamHead}
 use Rattle.ff_stream.specs.declared.item.Item.{Item}
 use Rattle.ff_stream.specs.declared.item.Lane.TheVariants.{Frames}
-use Rattle.ff_stream.specs.Stream.{Mark, still_open, whole, broken}
+use Rattle.ff_stream.specs.Stream.{Mark, still_open, whole, broken, is_whole, is_open, is_broken}
 use Rattle.ff_filter.specs.Joins.{Flow}
 use Rattle.ff_filter.specs.Made.{mark_after}
 use Rattle.ff_filter.specs.Shifts.{start_ticks}
 use Rattle.ff_fsync.specs.declared.input.Input.{Input}
 use Rattle.ff_fsync.specs.Ranges.{all_to, any_to, all_at, all_from, any_at, any_from, none_from, fails_from, not_any}
-use Rattle.ff_fsync.specs.Synced.{each_of, is_whole, is_open, is_broken, is_empty, ended_mark, all_ended, mark_by, begun, reached, is_known, outlasts, ends_with, is_complete, allows, may_come, goes_on, synced_mark}
+use Rattle.ff_fsync.specs.Synced.{each_of, is_empty, ended_mark, all_ended, mark_by, begun, reached, is_known, outlasts, ends_with, is_complete, allows, may_come, goes_on, synced_mark}
 use Rattle.ff_fsync.specs.Rising.{some_found}
 use Rattle.ff_fsync.specs.SyncLaws.{clash, Allows, allows_cases, allows_from, reached_sooner, goes_on_cases, goes_on_by, broken_is, known_open}
 use Rattle.ff_fsync.specs.Sides.{Side}

@@ -9,8 +9,8 @@ use Rattle.ff_filter.specs.declared.after.After.{After}
 use Rattle.ff_filter.specs.Shifts.{start_ticks}
 use Rattle.ff_frame.specs.declared.head.StreamHead.{StreamHead}
 use Rattle.ff_fsync.specs.Sides.{Side}
-use Rattle.ff_fsync.specs.Synced.{some_of, last_of, is_whole, is_open}
-use Rattle.ff_stream.specs.Stream.{Mark}
+use Rattle.ff_fsync.specs.Synced.{some_of, last_of}
+use Rattle.ff_stream.specs.Stream.{Mark, is_whole, is_open}
 
 abbrev pub items_of : List VFrame → List Item
 items_of fs = map Video fs

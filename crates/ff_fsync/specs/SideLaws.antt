@@ -8,7 +8,7 @@ use mathlib.Core.List.{IsPrefix}
 use Rattle.ff_frame.specs.declared.video.VFrame.{VFrame}
 use Rattle.ff_stream.specs.declared.item.Item.{Item}
 use Rattle.ff_stream.specs.declared.item.Lane.{Lane}
-use Rattle.ff_stream.specs.Stream.{Mark, still_open, whole, broken, LiesBelow, opened}
+use Rattle.ff_stream.specs.Stream.{Mark, still_open, whole, broken, LiesBelow, opened, is_open}
 use Rattle.ff_stream.specs.Ports.{nothing, IsClosed}
 use Rattle.ff_stream.specs.Order.{below_self, prefix_self, nothing_below}
 use Rattle.ff_filter.specs.declared.after.After.{After}
@@ -18,7 +18,7 @@ use Rattle.ff_filter.specs.Made.{behind, is_over, mark_after}
 use Rattle.ff_filter.specs.Shifts.{start_ticks}
 use Rattle.ff_filter.specs.Views.{Settles, IsSpent, IsOver, AllDone}
 use Rattle.ff_fsync.specs.Events.{put_if}
-use Rattle.ff_fsync.specs.Synced.{some_of, is_open, synced_mark, synced_from}
+use Rattle.ff_fsync.specs.Synced.{some_of, synced_mark, synced_from}
 use Rattle.ff_fsync.specs.Rising.{Rises}
 use Rattle.ff_fsync.specs.SyncLaws.{EachBelow, Risen}
 use Rattle.ff_fsync.specs.SyncStreams.{opened_at, synced-below, synced-opened, synced-closes}

@@ -5,6 +5,7 @@ use Rattle.ff_stream.specs.declared.item.Item.{Item}
 use Rattle.ff_stream.specs.declared.item.Item.TheVariants.{Audio, Video, Packet, Trailer, End, Broken}
 use Rattle.ff_stream.specs.declared.item.Lane.{Lane}
 use Rattle.ff_stream.specs.Ports.{nothing}
+use Rattle.ff_stream.specs.Stream.{is_open}
 use Rattle.ff_filter.specs.declared.after.After.{After}
 use Rattle.ff_filter.specs.declared.after.After.TheVariants.{More}
 use Rattle.ff_filter.specs.Joins.{Flow, Ports}
@@ -12,7 +13,7 @@ use Rattle.ff_filter.specs.Made.{behind, is_over, mark_after}
 use Rattle.ff_filter.specs.Shifts.{start_ticks}
 use Rattle.ff_filter.specs.Views.{View}
 use Rattle.ff_fsync.specs.Events.{put_if}
-use Rattle.ff_fsync.specs.Synced.{Timing, is_open, synced_from, synced_mark}
+use Rattle.ff_fsync.specs.Synced.{Timing, synced_from, synced_mark}
 
 abbrev pub is_picture : Item → Bool
 is_picture (Audio f) = false

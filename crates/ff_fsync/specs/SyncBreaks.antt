@@ -2,13 +2,13 @@
 use Rattle.std.specs.Prelude.{◌≡◌, ℕ, zero, suc, ◌+◌, ◌<◌, ◌≤◌, Bool, true, false, ◌||◌, ◌&&◌, not, nat_le, nat_eq, List, [], ◌∷◌, ◌++◌, length, map, refl}
 use Rattle.std.proofs.Common.{inl, inr, ap, sym, ◌∙◌, subst, arith}
 use Rattle.std.proofs.lemmas.Bool.{cases_Bool, and_parts, and_from, or_left, or_right, or_parts, leb-false, le-leb, eq-eqb, cases_lt, not-true, false_from_ne_true}
-use Rattle.ff_stream.specs.Stream.{still_open, whole, broken, Stream, LiesBelow, opened}
+use Rattle.ff_stream.specs.Stream.{still_open, whole, broken, Stream, LiesBelow, opened, is_open, is_whole, is_broken}
 use Rattle.ff_stream.specs.Ports.{stream_at, AllBelow, nothing}
 use Rattle.ff_stream.specs.Order.{stream_at-opened}
 use Rattle.ff_stream.specs.Breaks.{IsBrokenOff, KeepsBrokenRule}
 use Rattle.ff_fsync.specs.Events.{events, events_longer}
 use Rattle.ff_fsync.specs.Ranges.{all_to, any_to, all_at, all_from, any_at, any_from}
-use Rattle.ff_fsync.specs.Synced.{is_open, is_whole, is_broken, is_empty, some_of, all_ended, mark_by, Timing, starts, begun, reached, is_known, is_ready, is_shown, pictures, horizon, is_complete, allows, may_come, goes_on, synced}
+use Rattle.ff_fsync.specs.Synced.{is_empty, some_of, all_ended, mark_by, Timing, starts, begun, reached, is_known, is_ready, is_shown, pictures, horizon, is_complete, allows, may_come, goes_on, synced}
 use Rattle.ff_fsync.specs.Rising.{Rises, some_append}
 use Rattle.ff_fsync.specs.SyncLaws.{complete_here, shown_here, EachBelow, Risen, Allows, allows_cases, clash, broken_is, open_is, shown_stays, shown_below, shown_reached, shown_enough, ended_above, goes_on_cases}
 use Rattle.ff_fsync.specs.SyncStreams.{opened_at, items_same, stuck_shown, stuck_incomplete, items_opened, complete_opened}

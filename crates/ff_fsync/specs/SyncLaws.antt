@@ -2,12 +2,12 @@
 use Rattle.std.specs.Prelude.{◌≡◌, ◌≢◌, ℕ, zero, suc, ◌+◌, ◌-◌, ◌<◌, ◌≤◌, ◌⊎◌, Bool, true, false, ◌||◌, ◌&&◌, not, nat_lt, nat_le, nat_eq, List, [], ◌∷◌, ◌++◌, length, refl}
 use Rattle.std.proofs.Common.{inl, inr, ap, sym, ◌∙◌, subst, arith}
 use Rattle.std.proofs.lemmas.Bool.{cases_Bool, cases_order, cases_lt, le-leb, lt-leb, lt-ltb, ltb-true, leb-true, or_cases, or_left, or_right, or_from, and_from, and_parts, and_left, and_right, not-true, not_from_false}
-use Rattle.ff_stream.specs.Stream.{Mark, still_open, whole, broken, Stream, LiesBelow}
+use Rattle.ff_stream.specs.Stream.{Mark, still_open, whole, broken, Stream, LiesBelow, is_open, is_whole, is_broken}
 use Rattle.ff_stream.specs.Ports.{IsClosed}
 use Rattle.ff_stream.specs.Order.{below_trans, closed_below, prefix_self}
 use Rattle.ff_fsync.specs.Events.{events, events_enough, events_some, events_found}
 use Rattle.ff_fsync.specs.Ranges.{all_to, any_to, all_at, all_from, any_at, any_from, not_any, fails_from, all_same, any_same, list_same}
-use Rattle.ff_fsync.specs.Synced.{is_open, is_whole, is_broken, is_empty, some_of, each_of, last_of, later_of, past, past_to, ended_mark, all_ended, Timing, starts, begun, reached, is_known, is_ready, is_shown, pictures, horizon, outlasts, ends_with, is_complete, allows, may_come, goes_on}
+use Rattle.ff_fsync.specs.Synced.{is_empty, some_of, each_of, last_of, later_of, past, past_to, ended_mark, all_ended, Timing, starts, begun, reached, is_known, is_ready, is_shown, pictures, horizon, outlasts, ends_with, is_complete, allows, may_come, goes_on}
 use Rattle.ff_fsync.specs.Rising.{Rises, some_append, last_append, some_found, none_last, rises_past, none_starts, none_begun, past_starts, past_reached}
 
 -- input by input

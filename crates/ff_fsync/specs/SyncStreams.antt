@@ -4,11 +4,11 @@ use Rattle.std.specs.Prelude.{◌≡◌, ◌≢◌, ℕ, ◌+◌, ◌<◌, ◌�
 use Rattle.std.proofs.Common.{inl, inr, ap, sym, ◌∙◌, subst, arith}
 use Rattle.std.proofs.lemmas.Bool.{cases_Bool, and_left, false_from_ne_true}
 use mathlib.Core.List.{IsPrefix}
-use Rattle.ff_stream.specs.Stream.{Mark, still_open, whole, broken, Stream, LiesBelow, opened, opened_mark}
+use Rattle.ff_stream.specs.Stream.{Mark, still_open, whole, broken, Stream, LiesBelow, opened, opened_mark, is_open, is_whole, is_broken}
 use Rattle.ff_stream.specs.Ports.{IsClosed}
 use Rattle.ff_fsync.specs.Events.{events, events_same, events_prefix}
 use Rattle.ff_fsync.specs.Ranges.{all_to, any_to, any_at, any_from, not_any, none_from}
-use Rattle.ff_fsync.specs.Synced.{is_open, is_whole, is_broken, is_empty, starts, begun, outlasts, ended_mark, all_ended, mark_by, Timing, is_shown, pictures, horizon, is_complete, may_come, goes_on, synced_mark, synced_from, reached}
+use Rattle.ff_fsync.specs.Synced.{is_empty, starts, begun, outlasts, ended_mark, all_ended, mark_by, Timing, is_shown, pictures, horizon, is_complete, may_come, goes_on, synced_mark, synced_from, reached}
 use Rattle.ff_fsync.specs.SyncLaws.{EachBelow, Risen, closed_is, clash, shown_stays, shown_in_order, shown_enough, complete_stays, complete_alike, complete_all, complete_closed, goes_on_for, goes_on_sooner, goes_on_cases}
 
 abbrev pub opened_at : {A : Type 0} → (ℕ → Stream A) → ℕ → Stream A

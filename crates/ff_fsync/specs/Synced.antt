@@ -1,23 +1,8 @@
 -- Framesync: n streams, one item of each at each time at which one of them starts an item.
 use Rattle.std.specs.Prelude.{ℕ, zero, suc, ◌+◌, ◌-◌, max, Bool, true, false, ◌||◌, ◌&&◌, not, nat_lt, nat_le, nat_eq, List, [], ◌∷◌, length}
-use Rattle.ff_stream.specs.Stream.{Mark, still_open, whole, broken, Stream}
+use Rattle.ff_stream.specs.Stream.{Mark, still_open, whole, broken, Stream, is_open, is_whole, is_broken}
 use Rattle.ff_fsync.specs.Ranges.{all_to, any_to, list_to}
 use Rattle.ff_fsync.specs.Events.{events}
-
-abbrev pub is_open : Mark → Bool
-is_open still_open = true
-is_open whole = false
-is_open broken = false
-
-abbrev pub is_whole : Mark → Bool
-is_whole still_open = false
-is_whole whole = true
-is_whole broken = false
-
-abbrev pub is_broken : Mark → Bool
-is_broken still_open = false
-is_broken whole = false
-is_broken broken = true
 
 abbrev pub is_empty : {A : Type 0} → List A → Bool
 is_empty [] = true

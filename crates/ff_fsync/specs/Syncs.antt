@@ -5,13 +5,13 @@ use Rattle.ff_frame.specs.declared.video.VFrame.{VFrame}
 use Rattle.ff_stream.specs.declared.item.Item.{Item}
 use Rattle.ff_stream.specs.declared.item.Lane.{Lane}
 use Rattle.ff_stream.specs.declared.item.Lane.TheVariants.{Frames}
-use Rattle.ff_stream.specs.Stream.{Stream}
+use Rattle.ff_stream.specs.Stream.{Stream, is_open, is_broken}
 use Rattle.ff_filter.specs.Joins.{Flow}
 use Rattle.ff_filter.specs.Views.{View}
 use Rattle.ff_fsync.specs.declared.framesync.Framesync.{Framesync}
 use Rattle.ff_fsync.specs.declared.input.Input.{Input}
 use Rattle.ff_fsync.specs.Ranges.{all_to, any_to}
-use Rattle.ff_fsync.specs.Synced.{Timing, starts, begun, is_known, is_shown, is_open, is_broken, all_ended}
+use Rattle.ff_fsync.specs.Synced.{Timing, starts, begun, is_known, is_shown, all_ended}
 use Rattle.ff_fsync.specs.Sides.{Side, side_at, standing, timing, Sound, sync_view}
 use Rattle.ff_fsync.specs.Inputs.{side_by, Trims, IsLed}
 

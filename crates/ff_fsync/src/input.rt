@@ -2,17 +2,18 @@
 ghost use Rattle.std.specs.Prelude.{◌≡◌, ◌<◌, ◌≤◌, ◌^◌, ℕ, ◌||◌, ◌&&◌, not, min, nat_lt, [], true, false, length, nat_le, IfErr, IfSome, IsNone, OnOk, OnErr};
 ghost use Rattle.std.specs.VecDeque.{deque_len, deque_capacity};
 ghost use Rattle.ff_stream.specs.declared.item.Lane.TheVariants.{Frames};
+ghost use Rattle.ff_stream.specs.Stream.{is_whole as whole_mark, is_open as open_mark, is_broken as broken_mark};
 ghost use Rattle.ff_filter.specs.Joins.{Flow, before};
 ghost use Rattle.ff_filter.specs.Made.{is_over, mark_after};
 ghost use Rattle.ff_filter.specs.Views.{closes};
-ghost use Rattle.ff_fsync.specs.Synced.{is_empty as none_waits, is_whole as whole_mark, is_open as open_mark, is_broken as broken_mark};
+ghost use Rattle.ff_fsync.specs.Synced.{is_empty as none_waits};
 ghost use Rattle.ff_fsync.specs.Sides.{coming, no_side, fills_to, frames_of};
 ghost use Rattle.ff_fsync.specs.Inputs.{items_of, side_by, emptied, begun_by, reaches, Trims, IsNextIn, IsLastBy, whole_if, second_by as second_starts_by, led_by, given_back};
 
 use crate::time::time_among;
-use ff_filter::{After, closing_of, discard};
+use ff_filter::{After, closing_of};
 use ff_frame::{Bytes, StreamHead, VFrame};
-use ff_stream::{Item, Refused};
+use ff_stream::{Item, Refused, discard};
 use std::alloc::{AllocError, Global};
 use std::collections::VecDeque;
 use std::mem::replace;

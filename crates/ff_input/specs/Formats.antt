@@ -61,6 +61,10 @@ head_in format.Au bs = as_found Other (as_found Other (as_found Other (au.head b
 head_in format.FrameHash bs = Err (Unsupported 0)
 head_in format.FrameMd5 bs = Err (Unsupported 0)
 head_in format.FrameCrc bs = Err (Unsupported 0)
+head_in format.Hash bs = Err (Unsupported 0)
+head_in format.Md5 bs = Err (Unsupported 0)
+head_in format.StreamHash bs = Err (Unsupported 0)
+head_in format.Crc bs = Err (Unsupported 0)
 
 -- what its inputs begin with: `RIFF` or `RF64`, any four bytes and `WAVE`; `YUV4MPEG2` and a space or a line feed; `fLaC`; `.snd`
 abbrev pub first_words : List Word

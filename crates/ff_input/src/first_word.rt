@@ -4,6 +4,7 @@ ghost use Rattle.ff_reader.specs.Walks.{agrees};
 ghost use Rattle.ff_input.specs.FirstWords.{or_else, told_by};
 
 use ff_format::FileFormat;
+use ff_reader::agree;
 
 /// What the first bytes of an input tell of its format.
 #[derive(Clone, Copy, PartialEq, Eq, Debug)]
@@ -27,28 +28,6 @@ impl FirstWord {
             FirstWord::Other => other,
         }
     }
-}
-
-fn fits(wanted: Option<u8>, byte: u8) -> bool
-    ensures { result ≡ agrees (wanted ∷ []) (byte ∷ []) }
-{
-    match wanted {
-        Some(n) => byte == n,
-        None => true,
-    }
-}
-
-// Whether the bytes agree with these, as far as both go.
-fn agree(wanted: &[Option<u8>], bytes: &[u8]) -> bool
-    ensures { result ≡ agrees wanted.now bytes.now }
-{
-    let count = bytes.len().min(wanted.len());
-    'bytes: for i in 0..count {
-        if !fits(wanted[i], bytes[i]) {
-            return false;
-        }
-    }
-    true
 }
 
 /// What the bytes tell by a first word of a format.

@@ -9,7 +9,7 @@ use Rattle.ff_frame.specs.Heads.{base_of_head}
 use Rattle.ff_stream.specs.declared.item.Item.{Item}
 use Rattle.ff_stream.specs.declared.item.Lane.TheVariants.{Frames}
 use Rattle.ff_stream.specs.Ports.{nothing}
-use Rattle.ff_stream.specs.Stream.{Mark, still_open, whole, broken}
+use Rattle.ff_stream.specs.Stream.{Mark, still_open, whole, broken, has_closed}
 use Rattle.ff_stream.specs.Times.{ticks}
 use Rattle.ff_stream.specs.Within.{some_pass, passes_limits}
 use Rattle.ff_filter.specs.declared.after.After.{After}
@@ -25,7 +25,7 @@ use Rattle.ff_joins.specs.JoinOptions.{channels_of}
 use Rattle.ff_joins.specs.JoinedLaws.{rows_few, rows_many}
 use Rattle.ff_joins.specs.JoinCuts.{width_to, frame_length, frame_end, is_late, next_frames}
 use Rattle.ff_joins.specs.JoinDrawing.{made_on, kept_rows, HaveAll, StandsSo}
-use Rattle.ff_joins.specs.JoinSeen.{has_closed, fed_mark}
+use Rattle.ff_joins.specs.JoinSeen.{fed_mark}
 use Rattle.ff_joins.specs.Lots.{Lot, lots, last_port, rows_kept, row_then, all_come, start_after, frame_on, skipped, cell, row_to, cells_to}
 use Rattle.ff_joins.proofs.Framing.{rows_skipped, skip_long}
 use Rattle.ff_joins.proofs.FrameSteps.{dropped_rows, rows_drop, rows_same, cells_are, come_many, come_silent}

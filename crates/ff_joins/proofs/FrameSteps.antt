@@ -7,12 +7,12 @@ use Rattle.std.proofs.lemmas.List.{take-append-le, drop-append-le, length-drop, 
 use Rattle.std.proofs.Math.Nat.{add-div_right}
 use Rattle.ff_stream.specs.declared.item.Item.{Item}
 use Rattle.ff_stream.specs.Ports.{nothing}
-use Rattle.ff_stream.specs.Stream.{Mark, still_open, whole, broken, Stream}
+use Rattle.ff_stream.specs.Stream.{Mark, still_open, whole, broken, Stream, is_whole, is_broken}
 use Rattle.ff_filter.specs.declared.after.After.{After}
 use Rattle.ff_filter.specs.declared.after.After.TheVariants.{More, Whole, Broke}
 use Rattle.ff_filter.specs.Joins.{Flow, Ports, silence}
 use Rattle.ff_joins.specs.Tests.{all_to, any_to}
-use Rattle.ff_joins.specs.Joined.{Row, row_stream, side_by_side, rows_to, rows_in, is_whole, is_broken, ends_at, lost_at, mark_by, join_mark, frames_in, frame_at}
+use Rattle.ff_joins.specs.Joined.{Row, row_stream, side_by_side, rows_to, rows_in, ends_at, lost_at, mark_by, join_mark, frames_in, frame_at}
 use Rattle.ff_joins.specs.Joined.{frames_to, joined_rows, flattened}
 use Rattle.ff_joins.specs.JoinedLaws.{rows_many}
 use Rattle.ff_joins.specs.JoinBreaks.{lasts}

@@ -3,6 +3,7 @@ use Rattle.std.proofs.Common.{◌≡◌, ℕ, ◌+◌, Bool, true, false, List, 
 use Rattle.ff_stream.specs.declared.item.Item.{Item}
 use Rattle.ff_stream.specs.declared.item.Item.TheVariants.{Broken}
 use Rattle.ff_stream.specs.Stream.{still_open, broken}
+use Rattle.ff_stream.specs.Times.{end_ticks}
 use Rattle.ff_filter.specs.declared.after.After.{After}
 use Rattle.ff_filter.specs.declared.after.After.TheVariants.{More, Whole, Broke}
 use Rattle.ff_filter.specs.Joins.{Flow, Ports, one, before, before_all, before_all-last, joined}
@@ -10,7 +11,7 @@ use Rattle.ff_filter.specs.Views.{closes}
 use Rattle.ff_filter.specs.Made.{waiting, is_over}
 use Rattle.ff_filter.specs.Runs.{no_more}
 use Rattle.ff_filter.specs.Limits.{limit_step, limited, run_next}
-use Rattle.ff_joins.specs.Concats.{later, end_ticks, onward}
+use Rattle.ff_joins.specs.Concats.{later, onward}
 use Rattle.ff_joins.specs.ConcatLaws.{data_before, later-closes, onward-next}
 
 pub open_is : (a : After) → is_over a ≡ false → a ≡ More

@@ -6,10 +6,11 @@ use Rattle.ff_stream.specs.declared.item.Item.TheVariants.{Audio, Video, Packet,
 use Rattle.ff_stream.specs.Stream.{Mark, still_open, whole, broken, LiesBelow, opened}
 use Rattle.ff_stream.specs.Ports.{nothing, IsClosed}
 use Rattle.ff_stream.specs.Order.{below_self}
+use Rattle.ff_stream.specs.Times.{end_ticks}
 use Rattle.ff_filter.specs.Joins.{Flow, Ports, one, before}
 use Rattle.ff_filter.specs.Views.{closes}
 use Rattle.ff_joins.specs.Following.{followed_at, made_then, then_keeps, then_calm, then_closed}
-use Rattle.ff_joins.specs.Concats.{end_ticks, moved, later, last_end, in_order, onward}
+use Rattle.ff_joins.specs.Concats.{moved, later, last_end, in_order, onward}
 
 -- an item that closes nothing, and then a stream
 pub data_before : (x : Item) (t : Flow) → closes x ≡ false → before x t ≡ record { items = x ∷ t.items; mark = t.mark }

@@ -3,13 +3,9 @@ use Rattle.std.specs.Prelude.{ℕ, zero, suc, ◌+◌, ◌==◌, cond, min, ℤ,
 use Rattle.ff_stream.specs.declared.item.Item.{Item}
 use Rattle.ff_stream.specs.declared.item.Item.TheVariants.{Audio, Video, Packet, Trailer, End, Broken}
 use Rattle.ff_stream.specs.Stream.{whole}
-use Rattle.ff_stream.specs.Times.{end_of, ticks}
+use Rattle.ff_stream.specs.Times.{end_of, ticks, end_ticks}
 use Rattle.ff_filter.specs.Joins.{Flow, Ports}
 use Rattle.ff_joins.specs.Following.{made_then}
-
--- the end of an item in ticks
-abbrev pub end_ticks : Item → ℕ
-end_ticks x = ticks (end_of x)
 
 -- A time so many ticks later. It stays at the last time of 64 bits, past which no item within the limits ends.
 abbrev pub time_later : ℕ → ℤ → ℤ

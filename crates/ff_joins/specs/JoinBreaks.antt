@@ -8,11 +8,11 @@ use Rattle.std.proofs.lemmas.Nat.{le-div}
 use Rattle.std.proofs.Math.Nat.{div-mul-le_self}
 use mathlib.Core.List.{IsPrefix}
 use Rattle.ff_stream.specs.declared.item.Item.{Item}
-use Rattle.ff_stream.specs.Stream.{Mark, still_open, whole, broken, Stream, LiesBelow}
+use Rattle.ff_stream.specs.Stream.{Mark, still_open, whole, broken, Stream, LiesBelow, is_whole, is_broken}
 use Rattle.ff_stream.specs.Order.{closed_below, below_items}
 use Rattle.ff_filter.specs.Joins.{Flow}
 use Rattle.ff_joins.specs.Tests.{all_to, any_to, all_at, all_from, any_at, any_from}
-use Rattle.ff_joins.specs.Joined.{Row, rows_to, rows_in, is_whole, is_broken, ends_at, lost_at, mark_by, join_mark, frames_in, frames_to, joined_rows}
+use Rattle.ff_joins.specs.Joined.{Row, rows_to, rows_in, ends_at, lost_at, mark_by, join_mark, frames_in, frames_to, joined_rows}
 use Rattle.ff_joins.specs.JoinedLaws.{rows_few, rows_many, rows_prefix, prefix_long, prefix_equal, frames_prefix, frames_same}
 
 clash : (b : Bool) → b ≡ true → b ≡ false → ⊥

@@ -5,7 +5,7 @@ use Rattle.std.proofs.lemmas.Bool.{or_cases, or_left, or_right}
 use Rattle.std.proofs.lemmas.List.{length-map}
 use Rattle.ff_stream.specs.Ports.{nothing, IsClosed}
 use Rattle.ff_filter.specs.StepperLaws.{left_closed}
-use Rattle.ff_stream.specs.Stream.{Mark, still_open, whole, broken}
+use Rattle.ff_stream.specs.Stream.{Mark, still_open, whole, broken, has_closed}
 use Rattle.ff_filter.specs.Joins.{Flow, Ports, silence, Grows, HidesBreaks}
 use Rattle.ff_filter.specs.declared.after.After.{After}
 use Rattle.ff_filter.specs.declared.after.After.TheVariants.{More, Whole, Broke}
@@ -14,7 +14,7 @@ use Rattle.ff_filter.specs.Views.{Settles, IsSpent, IsOver, AllDone}
 use Rattle.ff_joins.specs.declared.join.Join.{Join}
 use Rattle.ff_joins.specs.Lots.{lots, lane_of, last_port, still_joined}
 use Rattle.ff_joins.specs.LotLaws.{lots-grows, lots-hides, lots-settles, lots-quiet}
-use Rattle.ff_joins.specs.JoinSeen.{join_seen, join_spent, has_closed, is_decided, fed_mark}
+use Rattle.ff_joins.specs.JoinSeen.{join_seen, join_spent, is_decided, fed_mark}
 
 closed_is : (m : Mark) → has_closed m ≡ true → m ≢ still_open
 closed_is still_open e o = cc

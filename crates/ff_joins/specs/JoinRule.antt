@@ -6,13 +6,13 @@ use Rattle.std.proofs.lemmas.Bool.{or_parts, le-leb}
 use Rattle.std.proofs.lemmas.Bool.Decides.{nat_tests}
 use mathlib.Core.List.{IsPrefix}
 use Rattle.ff_stream.specs.declared.item.Item.{Item}
-use Rattle.ff_stream.specs.Stream.{Mark, still_open, whole, broken, Stream, LiesBelow, opened, opened_mark}
+use Rattle.ff_stream.specs.Stream.{Mark, still_open, whole, broken, Stream, LiesBelow, opened, opened_mark, is_broken}
 use Rattle.ff_stream.specs.Ports.{stream_at, AllBelow}
 use Rattle.ff_stream.specs.Order.{prefix_self, below_items, stream_at-opened}
 use Rattle.ff_stream.specs.Breaks.{KeepsBrokenRule}
 use Rattle.ff_filter.specs.Joins.{Flow, Ports}
 use Rattle.ff_joins.specs.Tests.{all_to, not_all, least_at}
-use Rattle.ff_joins.specs.Joined.{Row, rows_of, all_rows_of, row_stream, side_by_side, rows_to, rows_in, is_broken}
+use Rattle.ff_joins.specs.Joined.{Row, rows_of, all_rows_of, row_stream, side_by_side, rows_to, rows_in}
 use Rattle.ff_joins.specs.Joined.{join_mark, frames_in, frames_to, joined_rows, first_start, sound_frame, side_to_side}
 use Rattle.ff_joins.specs.JoinedLaws.{rows_few}
 use Rattle.ff_joins.specs.JoinBreaks.{lasts, mark_whole, whole_by, lost_by, lost_here, joined-keeps, closed_stays}

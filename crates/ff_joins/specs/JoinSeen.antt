@@ -1,6 +1,6 @@
 -- How the machine of streams side by side is seen, and when an input is spent.
 use Rattle.std.specs.Prelude.{ℕ, Bool, true, false, ◌||◌, map}
-use Rattle.ff_stream.specs.Stream.{Mark, still_open, whole, broken}
+use Rattle.ff_stream.specs.Stream.{Mark, still_open, whole, broken, has_closed}
 use Rattle.ff_filter.specs.Joins.{silence}
 use Rattle.ff_filter.specs.Made.{is_over}
 use Rattle.ff_filter.specs.Views.{View}
@@ -9,11 +9,6 @@ use Rattle.ff_joins.specs.Lots.{lots, lane_of, last_port, lots_view, still_joine
 
 abbrev pub join_seen : Join → View
 join_seen m = lots_view (map lane_of m.inlets.items) m.head (last_port m.inlets.items) m.first m.given (lots m.inlets.items) m.ended m.stopped m.after
-
-abbrev pub has_closed : Mark → Bool
-has_closed still_open = false
-has_closed whole = true
-has_closed broken = true
 
 -- what still comes where nothing more is fed
 abbrev pub fed_mark : Join → Mark

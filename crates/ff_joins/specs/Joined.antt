@@ -4,7 +4,7 @@ use Rattle.std.specs.Prelude.{◌∷◌, ◌++◌, length, take, drop}
 use Rattle.ff_frame.specs.Frame.{audio_frame}
 use Rattle.ff_stream.specs.declared.item.Item.{Item}
 use Rattle.ff_stream.specs.declared.item.Item.TheVariants.{Audio, Video, Packet, Trailer, End, Broken}
-use Rattle.ff_stream.specs.Stream.{Mark, still_open, whole, broken, Stream}
+use Rattle.ff_stream.specs.Stream.{Mark, still_open, whole, broken, Stream, is_whole, is_broken}
 use Rattle.ff_stream.specs.Times.{start_of}
 use Rattle.ff_filter.specs.Joins.{Flow, Ports}
 use Rattle.ff_joins.specs.Tests.{all_to, any_to}
@@ -47,16 +47,6 @@ rows_to (suc n) ss = side_by_side (rows_to n ss) (ss (suc n)).items
 
 abbrev pub rows_in : (ℕ → Stream Row) → ℕ → ℕ
 rows_in ss p = length (ss p).items
-
-abbrev pub is_whole : Mark → Bool
-is_whole still_open = false
-is_whole whole = true
-is_whole broken = false
-
-abbrev pub is_broken : Mark → Bool
-is_broken still_open = false
-is_broken whole = false
-is_broken broken = true
 
 -- input p is whole, and each other has at least as many rows
 abbrev pub ends_at : ℕ → (ℕ → Stream Row) → ℕ → Bool

@@ -3,7 +3,7 @@ ghost use Rattle.std.specs.Prelude.{◌≡◌, ◌≤◌, false, IfSome};
 ghost use Rattle.ff_filter.specs.Options.{option_of as option_at};
 ghost use Rattle.ff_joins.specs.Arguments.{ranged as ranged_of, or_else, gives, last_number as last_number_of, times_from};
 
-use ff_filter::{Settings, read_number};
+use ff_filter::{Settings, option_of, read_number};
 use ff_lang::Arg;
 
 /// A whole number of 1 to 5 digits from `least` to `most`.
@@ -16,22 +16,6 @@ pub fn ranged(text: &str, least: u64, most: u64) -> Option<u64>
         Some(number) => {
             if least <= number && number <= most {
                 Some(number)
-            } else {
-                None
-            }
-        }
-    }
-}
-
-// The option that an argument gives.
-fn option_of<S: Settings>(arg: &Arg, keyed: bool, place: usize) -> Option<usize>
-    ensures { result ≡ option_at S.manual keyed place arg.now.key }
-{
-    match &arg.key {
-        Some(key) => S::option(key.as_str()),
-        None => {
-            if place < S::places() && !keyed {
-                Some(place)
             } else {
                 None
             }

@@ -9,9 +9,9 @@ ghost use Rattle.ff_joins.specs.Segmented.{over_at, waits_in, segments_view, is_
 
 use crate::over::is_over;
 use crate::segments::Segments;
-use crate::times::{end_ticks, is_long, later};
-use ff_filter::{After, Inlet, Next, Outlet, closing_of, discard};
-use ff_stream::{Item, Refused};
+use crate::times::{is_long, later};
+use ff_filter::{After, Inlet, Next, Outlet, closing_of};
+use ff_stream::{Item, Refused, discard, end_ticks};
 
 // How many items wait on these inputs.
 fn waits(inlets: &[Inlet]) -> Option<usize>

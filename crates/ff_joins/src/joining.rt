@@ -5,11 +5,12 @@ ghost use Rattle.ff_stream.specs.declared.item.Lane.TheVariants.{Frames};
 ghost use Rattle.ff_stream.specs.Ports.{nothing};
 ghost use Rattle.ff_stream.specs.Times.{start_of as start_of_item};
 ghost use Rattle.ff_stream.specs.Within.{passes_limits, some_pass};
+ghost use Rattle.ff_stream.specs.Stream.{has_closed};
 ghost use Rattle.ff_filter.specs.declared.after.After.TheVariants.{More};
 ghost use Rattle.ff_filter.specs.Made.{is_over as is_over_by};
 ghost use Rattle.ff_filter.specs.Views.{Same, Fed, Gave, Waits, IsSpent};
 ghost use Rattle.ff_joins.specs.Lots.{lots, start_after, has_started_by};
-ghost use Rattle.ff_joins.specs.JoinSeen.{join_seen, join_spent, has_closed, fed_mark, is_decided as is_decided_by};
+ghost use Rattle.ff_joins.specs.JoinSeen.{join_seen, join_spent, fed_mark, is_decided as is_decided_by};
 ghost use Rattle.ff_joins.specs.JoinCuts.{frame_length, frame_end, is_late as is_late_by, next_frames};
 ghost use Rattle.ff_joins.specs.JoinDrawing.{due, frame_start, frame_with, HaveAll, IsNextFrame, StandsSo, IsLast};
 
@@ -17,10 +18,10 @@ use crate::join::Join;
 use crate::join_options::{channels, rate_and_bits};
 use crate::over::is_over;
 use crate::rows::{any_stands, fewest, first_rows, skip_rows, width};
-use crate::times::{ends_past, is_long, ticks_from};
-use ff_filter::{After, closing_of, discard, time_base};
+use crate::times::{ends_past, is_long};
+use ff_filter::{After, closing_of};
 use ff_frame::AFrame;
-use ff_stream::{Item, Refused};
+use ff_stream::{Item, Refused, discard, ticks_from, time_base};
 use std::alloc::AllocError;
 
 // The sample frames of a frame, but for the last one.

@@ -10,9 +10,9 @@ ghost use Rattle.ff_joins.specs.Lots.{lot_of, rows_kept, comes, skipped};
 
 use crate::join_options::channels;
 use crate::sound_inlet::SoundInlet;
-use ff_filter::{After, closing_of, discard, shared};
+use ff_filter::{After, closing_of};
 use ff_frame::StreamHead;
-use ff_stream::{Item, Refused};
+use ff_stream::{Item, Refused, discard, shared};
 use std::alloc::Global;
 use std::collections::VecDeque;
 

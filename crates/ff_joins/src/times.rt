@@ -2,42 +2,19 @@
 ghost use Rattle.std.specs.Prelude.{◌≡◌, ◌≤◌, ◌<◌, ◌*◌, ◌^◌, nat_lt, false};
 ghost use Rattle.ff_frame.specs.Heads.{base_of_head};
 ghost use Rattle.ff_stream.specs.declared.item.Lane.TheVariants.{Frames};
-ghost use Rattle.ff_stream.specs.Times.{ticks};
+ghost use Rattle.ff_stream.specs.Times.{ticks, end_ticks as end_of_ticks};
 ghost use Rattle.ff_stream.specs.Within.{passes_limits};
 ghost use Rattle.ff_filter.specs.Views.{closes};
-ghost use Rattle.ff_joins.specs.Concats.{end_ticks as end_of_ticks, time_later, moved as moved_by, later as later_by};
+ghost use Rattle.ff_joins.specs.Concats.{time_later, moved as moved_by, later as later_by};
 
-use ff_filter::{shared, ticks_of, time_base};
+use ff_filter::ticks_of;
 use ff_frame::StreamHead;
-use ff_stream::Item;
+use ff_stream::{Item, end_ticks, time_base};
 
 // The limits.
 const LAST_SECOND: u128 = 1_000_000_000;
 
 const MOST_ITEMS: u64 = 1 << 40;
-
-/// A time in ticks from 0; what lies before 0 counts as 0.
-pub fn ticks_from(time: i128) -> u128
-    ensures { result ≡ ticks time }
-{
-    if time < 0 { 0 } else { time as u128 }
-}
-
-/// When an item ends, in ticks from 0; what lies before 0 counts as 0.
-pub fn end_ticks(item: &Item) -> u128
-    ensures is { result ≡ end_of_ticks item.now }
-    ensures near { result ≤ 2 ^ 65 }
-{
-    match item {
-        Item::Audio(frame) => {
-            let count = shared(frame.samples.as_slice().len(), frame.channels as usize);
-            ticks_from(frame.pts as i128 + count as i128)
-        }
-        Item::Video(frame) => ticks_from(frame.pts as i128 + frame.duration as i128),
-        Item::Packet(packet) => ticks_from(packet.pts as i128 + packet.duration as i128),
-        Item::Trailer(_) | Item::End | Item::Broken => 0,
-    }
-}
 
 /// Whether so many ticks are past the last second.
 pub fn ends_past(head: &StreamHead, end: u128) -> bool

@@ -42,6 +42,6 @@ mod wires;
 
 pub use fault::Fault;
 pub use machine::Machine;
-pub use node::{Node, NodeRefused, Turn};
+pub use node::{Node, NodeRefused, Turn, turn_of};
 pub use serial::run_serial;
 pub use wires::{Put, Queue, Take, Wires};

@@ -1,5 +1,5 @@
 //! A machine as a node: on wires, with a pass of the scheduler's cell.
-ghost use Rattle.std.specs.Prelude.{◌≡◌};
+ghost use Rattle.std.specs.Prelude.{◌≡◌, true, false};
 
 mod grants;
 mod rounds;
@@ -44,6 +44,22 @@ pub enum Turn {
     NotYet,
     /// Nothing more will move.
     Done,
+}
+
+/// How a turn ends that is the last one or not, and that moved something or not.
+pub fn turn_of(done: bool, moved: bool) -> Turn
+    ensures done { result ≡ Turn.Done → done ≡ true }
+    ensures exact { done ≡ true → result ≡ Turn.Done }
+    ensures moved { result ≡ Turn.Moved → moved ≡ true }
+    ensures not_yet { result ≡ Turn.NotYet → (moved ≡ false) × (done ≡ false) }
+{
+    if done {
+        Turn::Done
+    } else if moved {
+        Turn::Moved
+    } else {
+        Turn::NotYet
+    }
 }
 
 impl<M: Machine> Node<M> {

@@ -10,12 +10,12 @@ ghost use Rattle.ff_node_codec.specs.Taken.{IsTakenPacket};
 use crate::codecs::{AnyDecoder, Decoder};
 use crate::cut::{cut_step, is_uncut, starts_over};
 use crate::spread::Spread;
-use crate::step::{Step, closing, discard};
+use crate::step::{Step, closing};
 use ff_filter::After;
 use ff_flac_dec::FrameReceiver;
 use ff_frame::{Event, Pkt, StreamHead, Ticket};
 use ff_net::{Fault, Machine};
-use ff_stream::{Item, Refused};
+use ff_stream::{Item, Refused, discard};
 use ff_time::TimeCut;
 use std::alloc::{AllocError, Global};
 

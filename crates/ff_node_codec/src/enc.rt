@@ -8,11 +8,11 @@ ghost use Rattle.ff_node_codec.specs.Taken.{IsTakenFrame};
 
 use crate::codecs::Encoder;
 use crate::spread::Spread;
-use crate::step::{Step, closing, discard};
+use crate::step::{Step, closing};
 use ff_filter::After;
 use ff_frame::{Event, StreamHead, Ticket};
 use ff_net::{Fault, Machine};
-use ff_stream::{Item, Refused};
+use ff_stream::{Item, Refused, discard};
 use std::alloc::{AllocError, Global};
 
 /// Encodes the frames of a stream, whatever the codec: gives a packet for each frame, and how the stream ends.

@@ -6,9 +6,8 @@ ghost use Rattle.ff_node_codec.specs.Puts.{IsLast, AreNext, ArePut};
 ghost use Rattle.ff_node_codec.specs.Spreads.{AllStopped};
 
 use crate::ready::Ready;
-use crate::step::discard;
 use ff_filter::After;
-use ff_stream::Item;
+use ff_stream::{Item, discard};
 use std::alloc::{AllocError, Global};
 
 /// Makes room for an item more on each, and for one that closes it.

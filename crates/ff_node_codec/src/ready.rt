@@ -4,9 +4,8 @@ ghost use Rattle.std.specs.VecDeque.{deque_len, deque_capacity};
 ghost use Rattle.ff_stream.specs.declared.item.Item.{Item};
 ghost use Rattle.ff_node_codec.specs.Lines.{line_of, HasRoom, first_items, closing_items};
 
-use crate::step::discard;
 use ff_filter::After;
-use ff_stream::Item;
+use ff_stream::{Item, discard};
 use std::alloc::{AllocError, Global};
 use std::collections::VecDeque;
 

@@ -25,9 +25,6 @@ pub enum Step {
     Passes,
 }
 
-/// Lets an item go.
-pub(crate) fn discard(_item: Item) {}
-
 /// Whether nothing more comes.
 pub fn is_over(after: After) -> bool
     ensures { result ≡ is_over_by after }

@@ -7,7 +7,7 @@ ghost use Rattle.ff_frame.specs.Heads.{base_of_head};
 ghost use Rattle.ff_node_demux.specs.Demuxing.{ends_beyond, passes_in_demux};
 
 use ff_frame::{Pkt, StreamHead};
-use ff_time::Rational;
+use ff_stream::time_base;
 
 /// The last byte at which a packet may end.
 const LAST_BYTE: u64 = 1 << 40;
@@ -17,15 +17,6 @@ const MOST_ITEMS: u64 = 1 << 40;
 
 /// The seconds after which no item may end.
 const LAST_SECOND: u128 = 1_000_000_000;
-
-fn time_base(head: &StreamHead) -> Rational
-    ensures { result ≡ base_of_head head.now }
-{
-    match *head {
-        StreamHead::Audio { tb, .. } => tb,
-        StreamHead::Video { tb, .. } => tb,
-    }
-}
 
 // Whether a packet ends past the last second.
 fn ends_late(head: &StreamHead, packet: &Pkt) -> bool

@@ -9,10 +9,10 @@ ghost use Rattle.ff_node_filter.specs.Alones.{alone_view};
 ghost use Rattle.ff_node_filter.specs.AloneLaws.{alone_laws};
 ghost use Rattle.ff_node_filter.specs.Limiting.{IsLimited, limit_cause};
 
-use ff_filter::{Filter, discard};
+use ff_filter::Filter;
 use ff_frame::{Event, Ticket};
 use ff_net::{Fault, Machine};
-use ff_stream::{Item, Refused};
+use ff_stream::{Item, Refused, discard};
 use std::alloc::AllocError;
 
 /// One filter as a machine of a network: each law and clause of a machine, from those of a filter, once for all filters.

@@ -10,6 +10,7 @@ use Rattle.ff_stream.specs.declared.item.Lane.{Lane}
 use Rattle.ff_stream.specs.Stream.{Mark, still_open, whole, broken, LiesBelow, opened, opened_mark}
 use Rattle.ff_stream.specs.Ports.{nothing, IsClosed}
 use Rattle.ff_stream.specs.Order.{nothing_below, opened_below, same_stream}
+use Rattle.ff_stream.specs.Times.{end_ticks}
 use Rattle.ff_filter.specs.declared.after.After.{After}
 use Rattle.ff_filter.specs.declared.after.After.TheVariants.{More, Whole, Broke}
 use Rattle.ff_filter.specs.Joins.{Flow, Ports, silence, Grows, HidesBreaks, all_opened}
@@ -17,7 +18,7 @@ use Rattle.ff_filter.specs.Made.{behind, is_over, mark_after}
 use Rattle.ff_filter.specs.Shifts.{start_ticks}
 use Rattle.ff_filter.specs.Views.{Settles, IsSpent, AllDone}
 use Rattle.ff_node_sync.specs.declared.side.Side.{Side}
-use Rattle.ff_node_sync.specs.Shortened.{Fate, Kept, Held, held_by, both, put_kept, kept_by, fate_by, fate_to, furthest, is_before, end_ticks}
+use Rattle.ff_node_sync.specs.Shortened.{Fate, Kept, Held, held_by, both, put_kept, kept_by, fate_by, fate_to, furthest, is_before}
 use Rattle.ff_node_sync.specs.Lines.{Line, line_at, lines_of, lanes_of, came, bases, ends_with, marks_with, still_kept, shortest_view, view_of, reaches, stands, fate_now}
 use Rattle.ff_node_sync.specs.Lines.{mark_now, is_closed, is_done, done_to, shortest_spent}
 

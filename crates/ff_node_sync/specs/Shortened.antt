@@ -3,13 +3,9 @@ use Rattle.std.specs.Prelude.{ℕ, zero, suc, ◌*◌, ◌==◌, max, Bool, cond
 use Rattle.ff_time.specs.Fraction.{Fraction}
 use Rattle.ff_stream.specs.declared.item.Item.{Item}
 use Rattle.ff_stream.specs.Stream.{Mark, still_open, whole, broken}
-use Rattle.ff_stream.specs.Times.{end_of, ticks}
+use Rattle.ff_stream.specs.Times.{end_of, ticks, end_ticks}
 use Rattle.ff_filter.specs.Joins.{Flow, Ports}
 use Rattle.ff_filter.specs.Shifts.{start_ticks}
-
--- the end of an item in ticks
-abbrev pub end_ticks : Item → ℕ
-end_ticks x = ticks (end_of x)
 
 -- the latest end of these items, at least e
 abbrev pub furthest : ℕ → List Item → ℕ

@@ -9,11 +9,11 @@ ghost use Rattle.ff_node_sync.specs.Moves.{Takes, IsStart, IsTaken, IsEnded, IsS
 ghost use Rattle.ff_node_sync.specs.Lines.{line_of, new_line};
 ghost use Rattle.ff_node_sync.specs.Straights.{IsGiven, IsHeld};
 
-use crate::end::{end_ticks, later};
+use crate::end::later;
 use crate::side::Side;
-use ff_filter::{After, closing_of, discard, start_of_item};
+use ff_filter::{After, closing_of, start_of_item};
 use ff_frame::StreamHead;
-use ff_stream::{Item, Refused};
+use ff_stream::{Item, Refused, discard, end_ticks};
 use std::alloc::{AllocError, Global};
 use std::collections::VecDeque;
 

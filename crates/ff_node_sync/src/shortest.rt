@@ -13,9 +13,9 @@ ghost use Rattle.ff_node_sync.specs.ShortLaws.{shortest-shut_spent, shortest-don
 
 use crate::end::{is_before, is_over};
 use crate::side::Side;
-use ff_filter::{After, Filter, start_of_item, time_base};
+use ff_filter::{After, Filter, start_of_item};
 use ff_frame::StreamHead;
-use ff_stream::{Item, Refused};
+use ff_stream::{Item, Refused, time_base};
 use std::alloc::{AllocError, Global};
 
 /// The streams of one output, each up to the end of the shortest: an input and an output for each of them.

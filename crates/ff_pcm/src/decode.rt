@@ -70,7 +70,7 @@ pub(crate) fn form_of(codec: Codec) -> PcmForm
 }
 
 /// The bytes of one sample.
-pub(crate) fn size_of_sample(codec: Codec) -> usize
+pub fn size_of_sample(codec: Codec) -> usize
     requires { IsPcmCodec codec }
     ensures { result ≡ sample_bytes codec }
 {

@@ -16,7 +16,7 @@ mod raw;
 mod sample;
 mod values;
 
-pub use decode::{depth_of, pcm_decode};
+pub use decode::{depth_of, pcm_decode, size_of_sample};
 pub use depth::depth_change;
 pub use encode::{pcm_encode, pcm_encode_into, room_for};
 pub use fits::{has_blocks, is_audio};

@@ -9,7 +9,8 @@ ghost use Rattle.ff_frame.specs.Codecs.{IsPcmCodec, sample_bytes};
 ghost use Rattle.ff_frame.specs.Packet.{packet_at as packet_from};
 
 use crate::head::PcmHead;
-use ff_frame::{Bytes, Codec, Coding, Cut, Pkt, StreamHead};
+use ff_frame::{Bytes, Cut, Pkt, StreamHead};
+use ff_pcm::size_of_sample;
 use ff_reader::{Held, PacketCut};
 use std::alloc::{AllocError, Global};
 
@@ -31,17 +32,6 @@ pub struct PcmCut {
     ghost some: { 1 ≤ block },
     ghost few: { block ≤ 32 },
     ghost start: { head.start ≤ 2 ^ 28 + 8 },
-}
-
-/// The bytes of a sample.
-pub fn size_of_sample(codec: Codec) -> usize
-    requires { IsPcmCodec codec }
-    ensures { result ≡ sample_bytes codec }
-{
-    match codec.coding() {
-        Coding::Pcm(form) => form.depth.bytes(),
-        Coding::Flac | Coding::RawVideo => unreachable!(),
-    }
 }
 
 // The bytes of a sample frame.

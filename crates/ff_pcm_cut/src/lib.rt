@@ -11,5 +11,5 @@
 mod cut;
 mod head;
 
-pub use cut::{PcmCut, size_of_sample};
+pub use cut::PcmCut;
 pub use head::PcmHead;

@@ -21,15 +21,6 @@ pub struct Wire {
     pub lane: Lane,
 }
 
-fn same_lane(lane: &Lane) -> Lane
-    ensures { result ≡ lane.now }
-{
-    match lane {
-        Lane::Frames(head) => Lane::Frames(*head),
-        Lane::Packets(head) => Lane::Packets(*head),
-    }
-}
-
 fn leaving(edges: &[Edge], node: u32) -> u32
     requires { length edges.now < 2 ^ 32 }
     ensures { result ≡ tally (λ (e : Edge). e.from == node) edges.now }
@@ -68,7 +59,7 @@ pub fn number_ports(alloc: Global, wires: &[Wire]) -> Result<Vec<Edge>, AllocErr
             None => leaving(edges.as_slice(), wire.from),
         };
         let in_port = entering(edges.as_slice(), wire.to);
-        let lane = same_lane(&wire.lane);
+        let lane = wire.lane.copy();
         edges.push(Edge {
             from: wire.from,
             out_port,

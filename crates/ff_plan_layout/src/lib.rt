@@ -37,4 +37,5 @@ pub use laying::lay_out;
 pub use layout::{GraphText, InPad, Laid, Laying, Made, Origin, OutStream, Passed, Placed, Want};
 pub use limits::is_within_limits;
 pub use open_pads::{OpenIn, OpenOut, Refused};
+pub use passing::simple_graph;
 pub use places::{same_ref, stream_at};

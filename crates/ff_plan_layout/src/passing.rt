@@ -224,7 +224,7 @@ fn null_graph(alloc: Global, kind: Kind) -> Result<Graph, AllocError>
 }
 
 /// The simple graph of an output for streams of a kind.
-pub(crate) fn simple_graph(out: &OutputJob, kind: Kind) -> &Option<Graph>
+pub fn simple_graph(out: &OutputJob, kind: Kind) -> &Option<Graph>
     ensures { result.now ≡ simple_of out.now kind }
 {
     match kind {

@@ -24,4 +24,4 @@ pub use fault::{HeadFault, answer_to};
 pub use format::HeadFormat;
 pub use held::Held;
 pub use step::Step;
-pub use walk::{HeadWalk, read_head};
+pub use walk::{HeadWalk, agree, read_head};

@@ -21,8 +21,8 @@ fn fits(wanted: Option<u8>, byte: u8) -> bool
     }
 }
 
-// Whether the bytes agree with these, as far as both go.
-fn agree(wanted: &[Option<u8>], bytes: &[u8]) -> bool
+/// Whether the bytes agree with these, as far as both go.
+pub fn agree(wanted: &[Option<u8>], bytes: &[u8]) -> bool
     ensures { result ≡ agrees wanted.now bytes.now }
 {
     let count = bytes.len().min(wanted.len());

@@ -16,7 +16,7 @@ use ff_host::{Sink, Source};
 use ff_lang::{Chain, Filter, Graph, Sequence, Text};
 use ff_map::Kind;
 use ff_net::Machine;
-use ff_plan_layout::GraphText;
+use ff_plan_layout::{GraphText, simple_graph};
 use ff_time::TimeCut;
 use ff_words::{Job, OutputJob};
 use std::alloc::{AllocError, Global};
@@ -39,16 +39,6 @@ fn null_graph(alloc: Global, kind: Kind) -> Result<Graph, AllocError>
     let mut chains = Sequence::new(alloc);
     chains.push(Chain { filters })?;
     Ok(Graph { chains })
-}
-
-// The simple graph of an output for streams of a kind.
-fn simple_text(out: &OutputJob, kind: Kind) -> &Option<Graph>
-    ensures { result.now ≡ simple_of out.now kind }
-{
-    match kind {
-        Kind::Audio => &out.af,
-        Kind::Video => &out.vf,
-    }
 }
 
 // The graph of this number, whose string stands there.
@@ -78,7 +68,7 @@ fn graph_by<
             K::graph(alloc, number, text, heads, cuts).ok()
         }
         GraphText::Simple { output, kind } => {
-            match simple_text(&job.outputs.as_slice()[output as usize], kind) {
+            match simple_graph(&job.outputs.as_slice()[output as usize], kind) {
                 Some(text) => K::graph(alloc, number, text, heads, cuts).ok(),
                 None => unreachable!(),
             }

@@ -20,15 +20,6 @@ pub(crate) fn head_of(lane: &Lane) -> StreamHead
     }
 }
 
-fn copy_of(lane: &Lane) -> Lane
-    ensures { result ≡ lane.now }
-{
-    match lane {
-        Lane::Frames(head) => Lane::Frames(*head),
-        Lane::Packets(head) => Lane::Packets(*head),
-    }
-}
-
 // How many edges lead to a node.
 fn count_into(edges: &[Edge], node: usize) -> usize
     ensures { result ≡ (shape_of edges.now node).inputs }
@@ -63,7 +54,7 @@ fn lanes_of(alloc: Global, edges: &[Edge], numbers: &[usize]) -> Result<Vec<Lane
     for k in 0..numbers.len() {
         let number = numbers[k];
         if number < edges.len() {
-            lanes.push(copy_of(&edges[number].lane))?;
+            lanes.push(edges[number].lane.copy())?;
         }
     }
     Ok(lanes)

@@ -1,5 +1,5 @@
 -- Streams: what has come so far on a way from one part of a run to the next, and whether more may come.
-use Rattle.std.specs.Prelude.{◌≡◌, ◌⊎◌, List, map}
+use Rattle.std.specs.Prelude.{◌≡◌, ◌⊎◌, Bool, true, false, List, map}
 use mathlib.Core.List.{IsPrefix}
 
 -- more may come, or all has come, or what came was cut off by damage
@@ -7,6 +7,26 @@ pub data Mark : Type 0 where
   still_open : Mark
   whole : Mark
   broken : Mark
+
+abbrev pub is_open : Mark → Bool
+is_open still_open = true
+is_open whole = false
+is_open broken = false
+
+abbrev pub is_whole : Mark → Bool
+is_whole still_open = false
+is_whole whole = true
+is_whole broken = false
+
+abbrev pub is_broken : Mark → Bool
+is_broken still_open = false
+is_broken whole = false
+is_broken broken = true
+
+abbrev pub has_closed : Mark → Bool
+has_closed still_open = false
+has_closed whole = true
+has_closed broken = true
 
 pub record Stream (A : Type 0) : Type 0 where
   pub items : List A

@@ -38,6 +38,21 @@ pub enum Lane {
     Packets(StreamHead),
 }
 
+/// Lets an item go that nobody wants.
+pub fn discard(_item: Item) {}
+
+impl Lane {
+    /// An equal lane.
+    pub fn copy(&self) -> Lane
+        ensures { result ≡ self.now }
+    {
+        match self {
+            Lane::Frames(head) => Lane::Frames(*head),
+            Lane::Packets(head) => Lane::Packets(*head),
+        }
+    }
+}
+
 impl Item {
     /// Whether nothing comes after it.
     pub fn closes(&self) -> bool

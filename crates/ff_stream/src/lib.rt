@@ -15,6 +15,8 @@
 
 mod edges;
 mod item;
+mod times;
 
 pub use edges::{Edge, edges_into, edges_out_of};
-pub use item::{Item, Lane, Refused};
+pub use item::{Item, Lane, Refused, discard};
+pub use times::{end_of_item, end_ticks, shared, ticks_from, time_base, with_base};

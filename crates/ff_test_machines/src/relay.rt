@@ -4,7 +4,7 @@ ghost use Rattle.ff_test_machines.specs.Relays.{Relays, is_spent_relay, outs_sto
 
 use ff_frame::{Event, Ticket};
 use ff_net::{Fault, Machine};
-use ff_stream::{Item, Lane, Refused};
+use ff_stream::{Item, Lane, Refused, discard};
 use std::alloc::{AllocError, Global};
 
 /// An output: how many items went there, and whether its receiver has finished.
@@ -73,8 +73,6 @@ impl Relay {
         &self.given
     }
 }
-
-fn discard(_item: Item) {}
 
 fn all_stopped(outs: &Vec<Out>) -> bool
     ensures { result ≡ outs_stopped outs.now.items }

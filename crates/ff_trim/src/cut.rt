@@ -10,7 +10,7 @@ ghost use Rattle.ff_filter.specs.Shifts.{earlier as earlier_by};
 ghost use Rattle.ff_trim.specs.Cuts.{ticks_at, start_in, stop_in, range_in, kept};
 
 use ff_afilter::ATrim;
-use ff_filter::{Given, Pass, Range, RangeSettings, Step, ticks_of};
+use ff_filter::{Given, Pass, Range, RangeSettings, Step, earlier};
 use ff_frame::StreamHead;
 use ff_stream::{Item, Refused};
 use ff_time::TimeCut;
@@ -25,35 +25,6 @@ pub enum Cut {
     Sound(ATrim, u64),
     /// Video, and where the cut starts, in ticks.
     Pictures(Trim, u64),
-}
-
-// A time so many ticks earlier.
-fn lowered(time: i64, by: u64) -> i64
-    ensures { result ≡ pos (ticks time - by) }
-{
-    ticks_of(time).saturating_sub(by) as i64
-}
-
-// The item so many ticks earlier.
-fn earlier(item: Item, by: u64) -> Item
-    requires goes_on { closes item ≡ false }
-    ensures is { result ≡ earlier_by by item }
-    ensures goes_on { closes result ≡ false }
-{
-    match item {
-        Item::Audio(mut frame) => {
-            frame.pts = lowered(frame.pts, by);
-            Item::Audio(frame)
-        }
-        Item::Video(mut frame) => {
-            frame.pts = lowered(frame.pts, by);
-            Item::Video(frame)
-        }
-        Item::Packet(packet) => Item::Packet(packet),
-        Item::Trailer(totals) => Item::Trailer(totals),
-        Item::End => Item::End,
-        Item::Broken => Item::Broken,
-    }
 }
 
 // What is given, so many ticks earlier.

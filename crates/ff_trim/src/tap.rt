@@ -7,9 +7,9 @@ ghost use Rattle.ff_filter.specs.Made.{is_over as is_over_by};
 ghost use Rattle.ff_filter.specs.Held.{held_closes};
 
 use crate::cut::Cut;
-use ff_filter::{After, Given, Step, closing_of, discard};
+use ff_filter::{After, Given, Step, closing_of};
 use ff_frame::StreamHead;
-use ff_stream::Item;
+use ff_stream::{Item, discard};
 use ff_time::TimeCut;
 use std::alloc::AllocError;
 

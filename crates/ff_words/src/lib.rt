@@ -31,4 +31,5 @@ pub use laws::{
     written_jobs_are_short,
 };
 pub use read::read_words;
+pub use read_value::text_of;
 pub use table::{AUDIO_CODECS, Concern, Kind, OPTIONS, VIDEO_CODECS};

@@ -174,7 +174,7 @@ fn rf64_of(text: &str) -> Option<Value>
 }
 
 /// A copy of a string.
-pub(crate) fn text_of(alloc: Global, text: &str) -> Result<Text, AllocError>
+pub fn text_of(alloc: Global, text: &str) -> Result<Text, AllocError>
     ensures { IfOk result (λ copy. copy ≡ text.now) }
 {
     Ok(Text::of(String::from_str(alloc, text)?))

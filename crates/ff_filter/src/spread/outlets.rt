@@ -5,8 +5,8 @@ ghost use Rattle.ff_filter.specs.Views.{closes};
 ghost use Rattle.ff_filter.specs.spread.Lines.{lines, fresh, all_done as each_done, IsFront, IsPut, Took, HasAll};
 
 use crate::spread::share::Share;
-use crate::{After, Outlet, discard};
-use ff_stream::{Item, Refused};
+use crate::{After, Outlet};
+use ff_stream::{Item, Refused, discard};
 use std::alloc::{AllocError, Global};
 
 /// So many outputs on which nothing waits.

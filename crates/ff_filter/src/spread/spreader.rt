@@ -8,8 +8,8 @@ ghost use Rattle.ff_filter.specs.spread.SpreadLaws.{spread-grows, spread-hides, 
 
 use crate::spread::outlets::{all_done, fresh_outlets, is_stopped, spread, stop_one, take_from};
 use crate::spread::share::Share;
-use crate::{After, Filter, Outlet, closing_of, discard};
-use ff_stream::{Item, Refused};
+use crate::{After, Filter, Outlet, closing_of};
+use ff_stream::{Item, Refused, discard};
 use std::alloc::{AllocError, Global};
 
 /// The machine of a `Share`.

@@ -18,7 +18,7 @@ use Rattle.ff_frame.specs.Heads.{base_of_head, IsPictureOf, IsPictureFor}
 use Rattle.ff_stream.specs.declared.item.Item.{Item}
 use Rattle.ff_stream.specs.declared.item.Item.TheVariants.{Audio, Video, Packet, Trailer, End, Broken}
 use Rattle.ff_stream.specs.declared.item.Lane.TheVariants.{Frames}
-use Rattle.ff_stream.specs.Times.{HasTime, start_of, end_of, ticks, IsInTime}
+use Rattle.ff_stream.specs.Times.{HasTime, start_of, end_of, ticks, IsInTime, with_base}
 use Rattle.ff_stream.specs.Lanes.{FitsFrames, StartsAfter, IsItemFor, Follows, InOrder, AreInShape, EndsInTime, IsValid}
 use Rattle.ff_filter.specs.Joins.{Flow, Ports}
 use Rattle.ff_filter.specs.Options.{is_video}
@@ -26,7 +26,7 @@ use Rattle.ff_fsync.specs.Sides.{kept}
 use Rattle.ff_fsync.specs.Synced.{each_of}
 use Rattle.ff_fsync.specs.stacks.CommonBases.{common_of}
 use Rattle.ff_fsync.proofs.StacksLemmas.Bases.{all_one, common_of_is}
-use Rattle.ff_fsync.specs.stacks.Bases.{bases_of, base_or, has_common, with_base, start_in, end_in, frame_in, item_in, told_in, units_on, all_told, IsExact}
+use Rattle.ff_fsync.specs.stacks.Bases.{bases_of, base_or, has_common, start_in, end_in, frame_in, item_in, told_in, units_on, all_told, IsExact}
 use Rattle.ff_fsync.specs.stacks.Stacks.{AreStreamsOf}
 use Rattle.ff_fsync.proofs.StacksLemmas.Keeping.{shape_kept}
 

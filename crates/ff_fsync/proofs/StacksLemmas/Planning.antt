@@ -11,6 +11,7 @@ use Rattle.ff_frame.specs.declared.head.StreamHead.{StreamHead}
 use Rattle.ff_frame.specs.declared.head.StreamHead.TheVariants.{Audio, Video}
 use Rattle.ff_frame.specs.Heads.{base_of_head}
 use Rattle.ff_frame.specs.Video.{IsSide}
+use Rattle.ff_stream.specs.Times.{with_base}
 use Rattle.ff_lang.specs.declared.graph.Arg.{Arg}
 use Rattle.ff_filter.specs.Options.{is_video, AreRead, IsMade, IsRefused}
 use Rattle.ff_filter.specs.Views.{View}
@@ -21,7 +22,7 @@ use Rattle.ff_fsync.specs.declared.stacks.shape.Direction.{Direction}
 use Rattle.ff_fsync.specs.declared.stacks.shape.Direction.TheVariants.{Beside, Below}
 use Rattle.ff_fsync.specs.stacks.CommonBases.{common_of}
 use Rattle.ff_fsync.proofs.StacksLemmas.Bases.{common_of_is}
-use Rattle.ff_fsync.specs.stacks.Bases.{bases_of, base_or, with_base, in_common, has_common}
+use Rattle.ff_fsync.specs.stacks.Bases.{bases_of, base_or, in_common, has_common}
 use Rattle.ff_fsync.specs.stacks.Heads.{size_across, total, is_side, all_on_grid, has_size, are_alike, with_length}
 use Rattle.ff_fsync.specs.stacks.Options.{stack_manual, counted}
 use Rattle.ff_fsync.specs.stacks.Shapes.{shape_of}

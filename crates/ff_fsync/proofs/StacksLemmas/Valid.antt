@@ -13,9 +13,9 @@ use Rattle.ff_frame.specs.Video.{IsVideo, frame_size}
 use Rattle.ff_stream.specs.declared.item.Item.{Item}
 use Rattle.ff_stream.specs.declared.item.Item.TheVariants.{Video}
 use Rattle.ff_stream.specs.declared.item.Lane.TheVariants.{Frames}
-use Rattle.ff_stream.specs.Times.{HasTime, end_of, ticks}
+use Rattle.ff_stream.specs.Times.{HasTime, end_of, ticks, with_base}
 use Rattle.ff_stream.specs.Ports.{IsUnbroken}
-use Rattle.ff_stream.specs.Stream.{Mark, still_open, whole, broken}
+use Rattle.ff_stream.specs.Stream.{Mark, still_open, whole, broken, is_broken}
 use Rattle.ff_stream.specs.Lanes.{FitsFrames, StartsAfter, IsItemFor, Follows, AreInShape}
 use Rattle.ff_filter.specs.Joins.{Flow, Ports}
 use Rattle.ff_filter.specs.Options.{is_video}
@@ -23,12 +23,12 @@ use Rattle.ff_filter.specs.Shifts.{start_ticks}
 use Rattle.ff_fsync.specs.Pictures.{timed}
 use Rattle.ff_fsync.specs.Ranges.{list_to, any_to, none_from}
 use Rattle.ff_fsync.specs.Sides.{frames_of, kept, shown_as}
-use Rattle.ff_fsync.specs.Synced.{each_of, some_of, last_of, is_shown, pictures, horizon, synced, is_broken, mark_by, is_complete, goes_on}
+use Rattle.ff_fsync.specs.Synced.{each_of, some_of, last_of, is_shown, pictures, horizon, synced, mark_by, is_complete, goes_on}
 use Rattle.ff_fsync.specs.SyncLaws.{ready_at}
 use Rattle.ff_fsync.specs.declared.stacks.shape.Direction.{Direction}
 use Rattle.ff_fsync.specs.declared.stacks.shape.Direction.TheVariants.{Beside, Below}
 use Rattle.ff_fsync.specs.declared.stacks.shape.Shape.{Shape}
-use Rattle.ff_fsync.specs.stacks.Bases.{all_told, units_on, in_common, has_common, with_base, base_or}
+use Rattle.ff_fsync.specs.stacks.Bases.{all_told, units_on, in_common, has_common, base_or}
 use Rattle.ff_fsync.specs.stacks.Heads.{are_alike, is_side, size_across, all_on_grid, has_size, total, with_length, stack_fault}
 use Rattle.ff_fsync.specs.stacks.Shapes.{end_ticks, fits_stack, planes_by, stacked_planes, lasts, stacked, shape_of}
 use Rattle.ff_fsync.specs.stacks.Stacks.{StackOf, stacked_of, stack_on, AreStreamsOf}

@@ -8,7 +8,7 @@ use Rattle.ff_frame.specs.declared.head.StreamHead.TheVariants.{Audio as AudioHe
 use Rattle.ff_frame.specs.declared.video.VFrame.{VFrame}
 use Rattle.ff_stream.specs.declared.item.Item.{Item}
 use Rattle.ff_stream.specs.declared.item.Item.TheVariants.{Audio, Video, Packet, Trailer, End, Broken}
-use Rattle.ff_stream.specs.Times.{ticks, start_of, end_of}
+use Rattle.ff_stream.specs.Times.{ticks, start_of, end_of, with_base}
 use Rattle.ff_filter.specs.Joins.{Flow, Ports}
 use Rattle.ff_filter.specs.Views.{View}
 use Rattle.ff_fsync.specs.stacks.CommonBases.{common_of}
@@ -17,11 +17,6 @@ use Rattle.ff_fsync.specs.stacks.CommonBases.{common_of}
 
 abbrev pub bases_of : List StreamHead → List Fraction
 bases_of heads = map base_of_head heads
-
--- the head with its times in units of this base
-abbrev pub with_base : Fraction → StreamHead → StreamHead
-with_base base (AudioHead tb rate bits channels codec) = AudioHead base rate bits channels codec
-with_base base (VideoHead tb format width height sar_num sar_den) = VideoHead base format width height sar_num sar_den
 
 -- the common base, or this one where there is none
 abbrev pub base_or : Fraction → Option Fraction → Fraction

@@ -1,12 +1,13 @@
 //! The common base of the inputs of a stack, and frames with their times in its units.
 ghost use Rattle.std.specs.Prelude.{◌≡◌, IfOk, map, ◌^◌, ◌<◌};
-ghost use Rattle.ff_fsync.specs.stacks.Bases.{bases_of, units_on, with_base as head_with_base, frame_in as frame_told_in, item_in as item_told_in, times_of, item_at};
+ghost use Rattle.ff_fsync.specs.stacks.Bases.{bases_of, units_on, frame_in as frame_told_in, item_in as item_told_in, times_of, item_at};
 ghost use Rattle.ff_fsync.specs.stacks.Bases.{start_in as starts_in, end_in as ends_in};
+ghost use Rattle.ff_stream.specs.Times.{with_base as head_with_base};
 
 use crate::stacks::stacking::end_of;
-use ff_filter::{ticks_of, time_base};
+use ff_filter::ticks_of;
 use ff_frame::{StreamHead, VFrame};
-use ff_stream::Item;
+use ff_stream::{Item, time_base};
 use ff_time::{Rational, units_in};
 use std::alloc::{AllocError, Global};
 
@@ -39,42 +40,6 @@ pub(crate) fn units(
         units.push_reserved(units_in(time_base(&heads[i]), time_base(out)));
     }
     Ok(units)
-}
-
-/// The head with its times in units of a base.
-pub(crate) fn with_base(base: Rational, head: &StreamHead) -> StreamHead
-    ensures { result ≡ head_with_base base head.now }
-{
-    match *head {
-        StreamHead::Audio {
-            rate,
-            bits,
-            channels,
-            codec,
-            ..
-        } => StreamHead::Audio {
-            tb: base,
-            rate,
-            bits,
-            channels,
-            codec,
-        },
-        StreamHead::Video {
-            format,
-            width,
-            height,
-            sar_num,
-            sar_den,
-            ..
-        } => StreamHead::Video {
-            tb: base,
-            format,
-            width,
-            height,
-            sar_num,
-            sar_den,
-        },
-    }
 }
 
 // When a frame starts, in units so many of which are one of its own.

@@ -9,7 +9,7 @@ ghost use Rattle.ff_fsync.specs.stacks.Stacked.{seen};
 ghost use Rattle.ff_fsync.specs.stacks.Stacks.{IsStack, IsPlanned, stack_view, stack_by, planned_by, head_of};
 
 use crate::Framesync;
-use crate::stacks::bases::{bases, units, with_base};
+use crate::stacks::bases::{bases, units};
 use crate::stacks::heads::{all_alike, all_video, has_size, inputs_for, total};
 use crate::stacks::options::{StackSettings, count_inputs};
 use crate::stacks::plan::Plan;
@@ -19,6 +19,7 @@ use crate::stacks::stacking::Stacking;
 use ff_filter::{Filter, read_args};
 use ff_frame::{ConfigError, Format, StreamHead};
 use ff_lang::Arg;
+use ff_stream::with_base;
 use ff_time::{Rational, common_base};
 use std::alloc::{AllocError, Global};
 

@@ -15,12 +15,12 @@ ghost use Rattle.ff_fsync.specs.stacks.StackedLaws.{sync_grows, sync_hides, sync
 ghost use Rattle.ff_fsync.specs.stacks.StackedLaws.{sync_quiet, stacked-spent_only, stacked-shut_spent, stacked-done_spent};
 
 use crate::stacks::bases::{at_times, item_in, times};
-use crate::stacks::limits::{end_ticks, is_long};
+use crate::stacks::limits::is_long;
 use crate::stacks::stacked::Stacked;
 use crate::stacks::stacking::lasts_of;
-use ff_filter::{Filter, discard, ticks_of};
+use ff_filter::{Filter, ticks_of};
 use ff_frame::VFrame;
-use ff_stream::{Item, Refused};
+use ff_stream::{Item, Refused, discard, end_ticks};
 use std::alloc::AllocError;
 use std::collections::VecDeque;
 

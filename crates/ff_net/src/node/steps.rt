@@ -13,7 +13,7 @@ use crate::ports::{
     take_held,
 };
 use crate::wires::{Put, Take, Wires};
-use ff_stream::Item;
+use ff_stream::{Item, discard};
 
 impl<M: Machine> Node<M> {
     /// Lets the machine give the next item of an output to hold, and says whether one is held.
@@ -223,5 +223,3 @@ impl<M: Machine> Node<M> {
         }
     }
 }
-
-fn discard(_item: Item) {}

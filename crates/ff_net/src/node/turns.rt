@@ -12,7 +12,7 @@ ghost use Rattle.ff_net.specs.Turns.{Waits, HasDue, Answers};
 ghost use Rattle.ff_net.specs.Worlds.{Wire, Stand};
 
 use crate::machine::Machine;
-use crate::node::{Node, Turn};
+use crate::node::{Node, Turn, turn_of};
 use crate::wires::Wires;
 use ff_sched::SchedCell;
 use std::sync::Wait;
@@ -191,19 +191,5 @@ impl<M: Machine> Node<M> {
         }
         let _closed = self.close_all(wires);
         true
-    }
-}
-
-fn turn_of(done: bool, moved: bool) -> Turn
-    ensures done { result ≡ Turn.Done → done ≡ true }
-    ensures moved { result ≡ Turn.Moved → moved ≡ true }
-    ensures not_yet { result ≡ Turn.NotYet → (moved ≡ false) × (done ≡ false) }
-{
-    if done {
-        Turn::Done
-    } else if moved {
-        Turn::Moved
-    } else {
-        Turn::NotYet
     }
 }

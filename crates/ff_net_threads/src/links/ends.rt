@@ -11,7 +11,7 @@ ghost use Rattle.ff_net_threads.specs.links.Turns.{SendsOneAtMost, OutMoves, Out
 
 use ff_link::{Finished, Put, Receiver, Sender, Take};
 use ff_net::{Put as Laid, Take as Lifted, Wires};
-use ff_stream::Item;
+use ff_stream::{Item, discard};
 use std::sync::Wait;
 
 /// The end of a link that takes, at a wire of the node.
@@ -286,8 +286,6 @@ pub fn pour<R: Wait>(rt: &R, wires: &mut Wires, end: &mut OutEnd) -> bool
     let sent = send(rt, wires, end);
     lifted | sent
 }
-
-fn discard(_item: Item) {}
 
 /// Draws at the end of this number.
 pub fn draw_at<R: Wait>(rt: &R, wires: &mut Wires, ins: &mut Vec<InEnd>, p: usize) -> bool

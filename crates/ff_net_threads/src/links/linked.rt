@@ -18,7 +18,7 @@ ghost use Rattle.ff_net.specs.Worlds.{Wire, Stand, lanes_of, sizes_of};
 use crate::links::bells::Bells;
 use crate::links::ends::{InEnd, OutEnd, draw_at, pour_at, shut_at};
 use ff_link::Sender;
-use ff_net::{Fault, Machine, Node, Turn, Wires};
+use ff_net::{Fault, Machine, Node, Turn, Wires, turn_of};
 use ff_sched::SchedCell;
 use std::sync::Wait;
 
@@ -439,20 +439,5 @@ impl<M: Machine> Linked<M> {
         let stopped = self.stop_finished();
         let shut = self.shut_ends(rt);
         turn_of(self.is_done(), drawn | turned | poured | stopped | shut)
-    }
-}
-
-fn turn_of(done: bool, moved: bool) -> Turn
-    ensures done { result ≡ Turn.Done → done ≡ true }
-    ensures exact { done ≡ true → result ≡ Turn.Done }
-    ensures moved { result ≡ Turn.Moved → moved ≡ true }
-    ensures not_yet { result ≡ Turn.NotYet → moved ≡ false }
-{
-    if done {
-        Turn::Done
-    } else if moved {
-        Turn::Moved
-    } else {
-        Turn::NotYet
     }
 }

@@ -16,15 +16,6 @@ use ff_sched::Pass;
 use ff_stream::{Edge, Lane, edges_into, edges_out_of};
 use std::alloc::{AllocError, Global};
 
-fn copy_of(lane: &Lane) -> Lane
-    ensures { result ≡ lane.now }
-{
-    match lane {
-        Lane::Frames(head) => Lane::Frames(*head),
-        Lane::Packets(head) => Lane::Packets(*head),
-    }
-}
-
 // Wires of one item each, by the numbers of the edges.
 fn own_wires(alloc: Global, edges: &[Edge]) -> Result<Wires, AllocError>
     ensures fresh { IfOk result (λ wires. Stand wires (λ w. fresh)) }
@@ -33,7 +24,7 @@ fn own_wires(alloc: Global, edges: &[Edge]) -> Result<Wires, AllocError>
 {
     let mut lanes = Vec::new(alloc);
     for edge in edges {
-        lanes.push(copy_of(&edge.lane))?;
+        lanes.push(edge.lane.copy())?;
     }
     Wires::new(alloc, lanes, 1)
 }

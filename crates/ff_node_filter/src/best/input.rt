@@ -6,7 +6,7 @@ ghost use Rattle.ff_node_filter.specs.best.Bests.{is_earlier as is_earlier_of};
 ghost use Rattle.ff_node_filter.specs.best.Ends.{IsNear, ends_at, end_behind, closed_behind};
 
 use ff_frame::StreamHead;
-use ff_stream::Item;
+use ff_stream::{Item, shared, time_base};
 use ff_time::Rational;
 
 /// What is known of an input.
@@ -19,23 +19,6 @@ pub(crate) struct Input {
     /// Whether it has closed.
     pub(crate) closed: bool,
     pub(crate) ghost near: { ForSome end IsNear },
-}
-
-// The time base of a stream.
-fn time_base(head: &StreamHead) -> Rational
-    ensures { result ≡ base_of_head head.now }
-{
-    match *head {
-        StreamHead::Audio { tb, .. } => tb,
-        StreamHead::Video { tb, .. } => tb,
-    }
-}
-
-// So many samples, shared out to so many channels; none where there is no channel.
-fn shared(samples: usize, channels: usize) -> usize
-    ensures { result ≡ samples / channels }
-{
-    if channels == 0 { 0 } else { samples / channels }
 }
 
 /// When an item ends, in ticks; None where it closes its stream.

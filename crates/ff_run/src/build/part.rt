@@ -1,7 +1,7 @@
 //! A part of any kind, as one machine.
 use crate::build::through::Through;
 use ff_frame::{Event, Ticket};
-use ff_graph::CutGraph;
+use ff_graph::GraphMachine;
 use ff_host::{Sink, Source};
 use ff_input::AnyCut;
 use ff_mux::AnyWriter;
@@ -24,7 +24,7 @@ pub enum Part<Src: Source + Drop, Snk: Sink + Drop> {
     /// Decodes packets to frames, and cuts these.
     Dec(Dec<AnyDecoder>),
     /// Filters frames, cuts what it gives, and tells which of its inputs is the best one.
-    Graph(Through<Leading<Alone<CutGraph>>>),
+    Graph(Through<Leading<GraphMachine>>),
     /// Ends the streams of an output with the shortest of them, or gives them as they are.
     Joint(Through<Alone<Joint>>),
     /// Encodes frames to packets, one for one.
@@ -46,6 +46,7 @@ impl<Src: Source + Drop, Snk: Sink + Drop> Machine for Part<Src, Snk> {
     ghost use Rattle.ff_node_mux.specs.Kinds.{mux_laws};
     ghost use Rattle.ff_node_filter.specs.best.LeadLaws.{leading_laws};
     ghost use Rattle.ff_graph.specs.composed.Machines.{graph_laws};
+    ghost use Rattle.ff_filters.specs.contracts.any.AnyFilterFilter.TheImpl.Laws.{grows-law, quiet-law, spent_only-law};
     ghost use Rattle.ff_node_sync.specs.Joints.{joint_laws};
 
     ghost view = { part_view Src.left Src.name Src.faults };
@@ -198,7 +199,7 @@ impl<Src: Source + Drop, Snk: Sink + Drop> Machine for Part<Src, Snk> {
       | part.Demux m ↦ demux_laws Src.left Src.name Src.faults any_owes.shaped m m.same_head
       | part.Dec m ↦ dec_laws any_head any_frame m
       | part.Graph m ↦
-          leading_laws (⟦<Alone<CutGraph> as Machine>⟧.view m.machine.machine) m.machine.lead (graph_laws m.machine.machine)
+          leading_laws (⟦<GraphMachine as Machine>⟧.view m.machine.machine) m.machine.lead (graph_laws grows-law quiet-law spent_only-law m.machine.machine.machine)
       | part.Joint m ↦ joint_laws m.machine
       | part.Enc m ↦ enc_laws any_serves any_coded any_packet m
       | part.FlacEnc m ↦ flac.enc_laws m

@@ -23,5 +23,9 @@ unfolding input_head
 returns-in-FrameHash c = elim c.in-FrameHash.is [
   | inl e ↦ rw e (λ more. refl)
   | inr (inl e) ↦ rw e (λ more. refl)
-  | inr (inr e) ↦ rw e (λ more. refl)
+  | inr (inr (inl e)) ↦ rw e (λ more. refl)
+  | inr (inr (inr (inl e))) ↦ rw e (λ more. refl)
+  | inr (inr (inr (inr (inl e)))) ↦ rw e (λ more. refl)
+  | inr (inr (inr (inr (inr (inl e))))) ↦ rw e (λ more. refl)
+  | inr (inr (inr (inr (inr (inr e))))) ↦ rw e (λ more. refl)
 ]

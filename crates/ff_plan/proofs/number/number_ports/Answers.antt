@@ -22,9 +22,9 @@ loop-wire-preserved c =
     ] in
     let entered : c.entering-in_port.result ≡ tally (λ (e : Edge). e.to == x.to) so_far = c.entering-in_port.ensures ∙ ap (λ (es : List Edge). tally (λ (e : Edge). e.to == x.to) es) c.as_slice-in-loop-wire.ensures.value in
     let made : c.push.new.self.items ≡ so_far ++ next_edge so_far x ∷ [] =
-    c.in_ok-push.ensures.items ∙ (ap (λ (q : ℕ). so_far ++ record { from = x.from; out_port = q; to = x.to; in_port = c.entering-in_port.result; lane = c.same_lane-lane.result } ∷ []) out
-    ∙ (ap (λ (q : ℕ). so_far ++ record { from = x.from; out_port = port_or (tally (λ (e : Edge). e.from == x.from) so_far) x.port; to = x.to; in_port = q; lane = c.same_lane-lane.result } ∷ []) entered
-    ∙ ap (λ l. so_far ++ record { from = x.from; out_port = port_or (tally (λ (e : Edge). e.from == x.from) so_far) x.port; to = x.to; in_port = tally (λ (e : Edge). e.to == x.to) so_far; lane = l } ∷ []) c.same_lane-lane.ensures)) in
+    c.in_ok-push.ensures.items ∙ (ap (λ (q : ℕ). so_far ++ record { from = x.from; out_port = q; to = x.to; in_port = c.entering-in_port.result; lane = c.copy-lane.result } ∷ []) out
+    ∙ (ap (λ (q : ℕ). so_far ++ record { from = x.from; out_port = port_or (tally (λ (e : Edge). e.from == x.from) so_far) x.port; to = x.to; in_port = q; lane = c.copy-lane.result } ∷ []) entered
+    ∙ ap (λ l. so_far ++ record { from = x.from; out_port = port_or (tally (λ (e : Edge). e.from == x.from) so_far) x.port; to = x.to; in_port = tally (λ (e : Edge). e.to == x.to) so_far; lane = l } ∷ []) c.copy-lane.ensures)) in
     record {
       numbered = made ∙ (ap (λ (w : Wire). so_far ++ next_edge so_far w ∷ []) at ∙ (ap (λ (es : List Edge). es ++ next_edge es (get_or ws n x) ∷ []) was ∙ sym (edges_next ws n x lt)));
       long = (let count = c.loop-wire.invariant.long in let len = c.in_ok-push.ensures.len in omega (arith, count, len));

@@ -14,7 +14,7 @@ loop-k-preserved c =
     let was = c.loop-k.invariant in
     elim c.if-number-edges.branch [
       | then-number-edges+in_ok-push w ↦
-          ap vec_items w.lanes-is ∙ (w.in_ok-push.ensures.items ∙ (ap (λ (l : Lane). lanes ++ l ∷ []) w.copy_of.ensures
+          ap vec_items w.lanes-is ∙ (w.in_ok-push.ensures.items ∙ (ap (λ (l : Lane). lanes ++ l ∷ []) w.copy.ensures
           ∙ lane_more edges numbers k lt (get_or numbers k 0) w.index-edges-number.result lanes refl w.if-number-edges.true was))
       | else-number-edges w ↦ ap vec_items w.lanes-is ∙ lane_passed edges numbers k lt (get_or numbers k 0) lanes refl w.if-number-edges.false was
     ]

@@ -1,8 +1,8 @@
 use Rattle.std.proofs.Common.{◌≡◌, true}
 use Rattle.ff_fsync.specs.Ranges.{all_to}
-use Rattle.ff_fsync.specs.Synced.{is_whole}
 use Rattle.ff_fsync.specs.Syncs.{standing_of, ended_if}
 use Rattle.ff_fsync.proofs.framesync.Framesync.all_ended.Given as goal
+use Rattle.ff_stream.specs.Stream.{is_whole}
 
 abbrev pub invariant-inputs : goal.invariant-inputs
 invariant-inputs g l = all_to l.p (λ p. is_whole (ended_if l.ended (standing_of l.self.head l.self.inputs.items) p).mark) ≡ true

@@ -1,7 +1,6 @@
 use Rattle.std.proofs.Common.{ap, ◌∙◌, sym, not}
-use Rattle.ff_stream.specs.Stream.{Mark}
+use Rattle.ff_stream.specs.Stream.{Mark, is_open}
 use Rattle.ff_filter.specs.Made.{mark_after}
-use Rattle.ff_fsync.specs.Synced.{is_open}
 use Rattle.ff_fsync.proofs.framesync.Framesync.is_done.Goals as goal
 
 pub returns-in-More : goal.returns-in-More

@@ -1,9 +1,9 @@
 use Rattle.std.proofs.Common.{◌≡◌, ◌∙◌, None, Some, true, ap, sym, subst, refl}
 use Rattle.ff_frame.specs.Video.{IsSide}
 use Rattle.ff_frame.specs.declared.head.StreamHead.{StreamHead}
+use Rattle.ff_stream.specs.Times.{with_base}
 use Rattle.ff_fsync.specs.declared.stacks.shape.Direction.{Direction}
 use Rattle.ff_fsync.specs.declared.stacks.shape.Shape.{Shape}
-use Rattle.ff_fsync.specs.stacks.Bases.{with_base}
 use Rattle.ff_fsync.specs.stacks.Heads.{total, has_size, with_length}
 use Rattle.ff_fsync.specs.stacks.Shapes.{shape_of}
 use Rattle.ff_fsync.specs.stacks.Stacks.{StackOf}
