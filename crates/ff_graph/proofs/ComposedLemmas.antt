@@ -9,7 +9,6 @@ pub mod Fitting
 pub mod Limiting
 pub mod Elements
 pub mod Made
-pub mod Meaning
 pub mod Outs
 pub mod Seeing
 pub mod Sourced

@@ -9,6 +9,7 @@ use Rattle.ff_frame.specs.declared.head.StreamHead.TheVariants.{Audio, Video}
 use Rattle.ff_lang.specs.declared.graph.Graph.{Graph}
 use Rattle.ff_graph_links.specs.declared.pads.drawn.Pad.{Pad}
 use Rattle.ff_graph_links.specs.pads.Links.{Seen}
+use Rattle.ff_graph_dag.specs.wiring.Flows.{same_pad, pad_place}
 use Rattle.ff_filter.specs.Views.{View}
 use Rattle.ff_filters.specs.declared.name.FilterName.{FilterName}
 use Rattle.ff_filters.specs.Names.{filter_named}
@@ -30,17 +31,6 @@ pub record Made : Type 0 where
 
 -- ---- the heads of what comes to a filter
 
-abbrev pub same_pad : Pad → Pad → Bool
-same_pad p q = (p.filter == q.filter) && (p.pad == q.pad)
-
--- the place of a pad among these, of which the first has number n
-abbrev pub place_from : ℕ → Pad → List Pad → ℕ
-place_from n p [] = n
-place_from n p (q ∷ qs) = if same_pad p q then n else place_from (suc n) p qs
-
-abbrev pub place_of : Pad → List Pad → ℕ
-place_of p pads = place_from 0 p pads
-
 -- the head at an output pad
 abbrev pub head_at : List (List StreamHead) → Pad → Option StreamHead
 head_at heads p = slice_get (slice_index_or heads p.filter []) p.pad
@@ -48,7 +38,7 @@ head_at heads p = slice_get (slice_index_or heads p.filter []) p.pad
 -- the head of what comes to an input pad: that of the output pad that feeds it, or what is given to the open pad
 abbrev pub head_into : List Pad → List (Option StreamHead) → List (List StreamHead) → Pad → Option Pad → Option StreamHead
 head_into opens given heads p (Some from) = head_at heads from
-head_into opens given heads p None = slice_index_or given (place_of p opens) None
+head_into opens given heads p None = slice_index_or given (pad_place opens p) None
 
 -- of the input pads of filter k from number i on, of which each is fed so; None where a pad has no stream
 abbrev pub and_head : Option StreamHead → Option (List StreamHead) → Option (List StreamHead)

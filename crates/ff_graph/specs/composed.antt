@@ -1,4 +1,5 @@
 pub mod Cuts
 pub mod Machines
+pub mod Matters
 pub mod Pads
 pub mod Ready

@@ -20,4 +20,4 @@ pub use laws::{
     configured_heads_are_timed, graphs_are_drawings, graphs_have_open_pads, texts_are_limited,
     written_graphs_have_filters,
 };
-pub use machine::{CutGraph, graph_machine};
+pub use machine::{CutGraph, GraphMachine, graph_machine};

@@ -1,7 +1,8 @@
 //! The heads at the input pads of a filter.
 ghost use Rattle.std.specs.Prelude.{◌≡◌, ◌&&◌, ◌==◌, IfOk, slice_get, slice_index_or, []};
 ghost use Rattle.std.specs.Option.{option_map};
-ghost use Rattle.ff_graph.specs.Configured.{same_pad as same, place_of as place_in, head_at as head_of, head_into as head_to, heads_into as heads_to};
+ghost use Rattle.ff_graph_dag.specs.wiring.Flows.{same_pad as same, pad_place};
+ghost use Rattle.ff_graph.specs.Configured.{head_at as head_of, head_into as head_to, heads_into as heads_to};
 ghost use Rattle.ff_graph.specs.Pads.{heads_in};
 
 use ff_frame::StreamHead;
@@ -17,7 +18,7 @@ pub(crate) fn same_pad(one: Pad, other: Pad) -> bool
 
 // The place of a pad among others; their number where it isn't among them.
 fn place_of(pad: Pad, pads: &[Pad]) -> usize
-    ensures { result ≡ place_in pad pads.now }
+    ensures { result ≡ pad_place pads.now pad }
 {
     'pads: for at in 0..pads.len() {
         if same_pad(pad, pads[at]) {

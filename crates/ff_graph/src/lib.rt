@@ -26,7 +26,7 @@ mod outputs;
 mod refusal;
 
 pub use composed::{
-    CutGraph, GraphFilter, MadeGraph, configured_heads_are_timed, graph_machine,
+    CutGraph, GraphFilter, GraphMachine, MadeGraph, configured_heads_are_timed, graph_machine,
     graphs_are_drawings, graphs_have_open_pads, make_graph, texts_are_limited,
     written_graphs_have_filters,
 };

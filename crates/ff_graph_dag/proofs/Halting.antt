@@ -26,7 +26,7 @@ Fixed a = (n : Node) (σ τ : Ports) (q : ℕ) → q < length a.view.outs → gi
 abbrev pub Quiet : View → Type 0
 Quiet v = (q : ℕ) → v.ended q ≡ true → (ext : Ports) → v.rest ext q ≡ nothing
 
-fixed : (a : Spot) → Grows a.view.rest → Quiet a.view → IsDecided a.view → Fixed a
+pub fixed : (a : Spot) → Grows a.view.rest → Quiet a.view → IsDecided a.view → Fixed a
 fixed a grows quiet d n σ τ q lt = at (a.view.stopped q) refl (a.view.ended q) refl
   where
     one : (ρ : Ports) → a.view.stopped q ≡ false → a.view.ended q ≡ false → a.view.rest silence q ≡ a.view.rest (comes a n ρ) q
@@ -39,7 +39,7 @@ fixed a grows quiet d n σ τ q lt = at (a.view.stopped q) refl (a.view.ended q)
     at false k false e = ap (λ (t : Flow). cond (a.view.stopped q) nothing t) (sym (one σ k e) ∙ one τ k e)
 
 -- a filter that reads the edge and gives the same whatever comes
-solve_read : (ss : List Spot) (ns : List Node) (k i : ℕ) (d : Spot) (m : Node) (w : ℕ) (σ τ : Ports) → k < length ss → Reads w k i ns
+pub solve_read : (ss : List Spot) (ns : List Node) (k i : ℕ) (d : Spot) (m : Node) (w : ℕ) (σ τ : Ports) → k < length ss → Reads w k i ns
     → OutsFit (slice_index_or ss k d) (slice_index_or ns k m) → Fixed (slice_index_or ss k d) → Else w σ τ → Else w (solve_spots σ ss ns) (solve_spots τ ss ns)
 solve_read [] ns k i d m w σ τ lt f l x e = absurd (omega arith)
 solve_read (t ∷ ss) [] k i d m w σ τ lt f l x e = absurd f

@@ -7,7 +7,11 @@ pub mod Halting
 pub mod Moving
 pub mod Silence
 pub mod Stopping
+pub mod Ruling
+pub mod Spending
 pub mod Sweeping
+pub mod Sweeps
+pub mod Swept
 pub mod Telling
 pub mod TiesLemmas
 pub mod WiringLemmas

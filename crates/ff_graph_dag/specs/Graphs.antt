@@ -1,5 +1,5 @@
 -- A graph of filters, seen as one filter.
-use Rattle.std.specs.Prelude.{◌≡◌, ◌≢◌, ℕ, zero, suc, ◌+◌, ◌*◌, ◌<◌, ◌==◌, ◌||◌, ◌&&◌, Bool, true, false, cond, List, [], ◌∷◌, length, map, slice_index_or}
+use Rattle.std.specs.Prelude.{◌≡◌, ◌≢◌, ℕ, zero, suc, ◌+◌, ◌*◌, ◌<◌, ◌≤◌, ◌==◌, ◌||◌, ◌&&◌, Bool, true, false, cond, List, [], ◌∷◌, length, map, slice_index_or}
 use Rattle.std.specs.Prelude.{Option, None, Some, is_some}
 use Rattle.std.proofs.Math.Nat.{ℕ_set}
 use Rattle.std.proofs.Math.Bool.{Bool-set}
@@ -177,6 +177,8 @@ pub record Framed (p : Plan) : Type 0 where
   pub ways : length p.ways.items ≡ length p.pads.items
   pub entries : (i : ℕ) → i < length p.feeds.items → IsEntry p i
   pub only : (w : ℕ) → w < length p.wires.items → is_some (wire_at p w).from ≡ false → w < length p.feeds.items
+  -- the filter that an edge leaves stands before each to which it or a later edge leads
+  pub upward : (v w : ℕ) (f : Port) → v ≤ w → w < length p.wires.items → (wire_at p v).from ≡ Some f → f.filter < (wire_at p w).to.filter
   pub cones : (q : ℕ) → q < length p.pads.items → IsCone p q
 
 -- what ties the filters together

@@ -5,5 +5,6 @@ pub mod Over
 pub mod Parts
 pub mod Readings
 pub mod SettleLaws
+pub mod Spends
 pub mod ties
 pub mod wiring

@@ -1,11 +1,13 @@
 //! Filters that feed one another, as one filter.
-ghost use Rattle.std.specs.Prelude.{◌≡◌, ℕ, IfOk, replicate, false};
+ghost use Rattle.std.specs.Prelude.{◌≡◌, ◌⊎◌, ◌<◌, ℕ, Bool, IfOk, replicate, length, true, false};
 ghost use Rattle.ff_filter.specs.Joins.{Ports};
+ghost use Rattle.ff_graph_dag.specs.declared.graph.Port.{Port as APort};
 ghost use Rattle.ff_graph_dag.specs.Parts.{AreNew, composed};
 ghost use Rattle.ff_filter.specs.Views.{IsNew};
-ghost use Rattle.ff_graph_dag.specs.Graphs.{graph_view, spots, Sound};
+ghost use Rattle.ff_graph_dag.specs.Graphs.{graph_view, spots, feed_at, port_shut, Sound};
 ghost use Rattle.ff_graph_dag.specs.GraphLaws.{graph_grows, graph_hides, graph_quiet};
 ghost use Rattle.ff_graph_dag.specs.SettleLaws.{graph_settles};
+ghost use Rattle.ff_graph_dag.specs.Spends.{leads_to_spent as leads_so, Swept, Swept-prop, SaysSpent, AllGaveAll};
 ghost use Rattle.ff_graph_dag.specs.Over.{Told, Told-prop, all_true, each_over, graph_spends, graph_spent_only, graph_shut_spent, graph_done_spent};
 
 use crate::graph::{Graph, Plan};
@@ -23,6 +25,8 @@ pub struct Dag<F: Filter> {
     pub over: Vec<bool>,
     pub ghost told: { Told (graph_view graph.plan (spots F.view graph.places.items)) over.items } by { Told-prop
         (graph_view graph.plan (spots F.view graph.places.items)) over.items },
+    // at any time each output that feeds a spent input has closed or was stopped
+    pub ghost swept: { Swept F.view F.spends graph.plan graph.places.items } by { Swept-prop F.view F.spends graph.plan graph.places.items },
 }
 
 // So many outputs, none of which is over.
@@ -62,13 +66,37 @@ impl<F: Filter + Drop> Dag<F> {
         ensures composes { IfOk result (λ m. (ext : Ports) (q : ℕ)
             → (graph_view m.graph.plan (spots F.view m.graph.places.items)).rest ext q ≡ composed plan (spots F.view places.items) ext q) }
         ensures new { IfOk result (λ m. IsNew (graph_view m.graph.plan (spots F.view m.graph.places.items))) }
-        ensures as_given { IfOk result (λ m. (m.graph.plan ≡ plan) × (m.graph.places ≡ places)) }
+        ensures plan { IfOk result (λ m. m.graph.plan ≡ plan) }
     {
         let over = none_over(alloc, plan.outs.len())?;
-        Ok(Dag {
-            graph: Graph { places, plan },
-            over,
-        })
+        let mut graph = Graph { places, plan };
+        graph.sweep();
+        Ok(Dag { graph, over })
+    }
+}
+
+impl<F: Filter> Dag<F> {
+    // The same, as the filter there says.
+    fn leads(&self, port: usize) -> bool
+        requires { port < length self.now.graph.plan.feeds.items }
+        ensures { result ≡ leads_so F.spends self.now.graph.plan self.now.graph.places.items self.now.over.items port }
+    {
+        !self.over.is_empty() && self.graph.is_spent(port)
+    }
+
+    /// Whether there are outputs, and the filter to which an input leads says that the input there is spent. By the rule
+    /// for all filters together, that is only where this input is spent. Where each wanted output of a filter has given
+    /// what it was fed, it is exactly there, or the input has closed.
+    pub fn leads_to_spent(&self, port: usize) -> bool
+        requires { port < length self.now.graph.plan.feeds.items }
+        ensures is { result ≡ leads_so F.spends self.now.graph.plan self.now.graph.places.items self.now.over.items port }
+        ensures sound { (s : APort → Bool) → SaysSpent self.now.graph.plan (spots F.view self.now.graph.places.items) s → result ≡ true
+            → s (feed_at self.now.graph.plan port) ≡ true }
+        ensures exact { (s : APort → Bool) → SaysSpent self.now.graph.plan (spots F.view self.now.graph.places.items) s
+            → AllGaveAll (spots F.view self.now.graph.places.items) → 0 < length self.now.over.items → s (feed_at self.now.graph.plan port) ≡ true
+            → (result ≡ true) ⊎ (port_shut (spots F.view self.now.graph.places.items) (feed_at self.now.graph.plan port) ≡ true) }
+    {
+        self.leads(port)
     }
 }
 

@@ -1,7 +1,8 @@
 //! The plan of filters that feed one another, and the ways of items along its edges.
-ghost use Rattle.std.specs.Prelude.{◌≡◌, ◌<◌, length, Option, None, Ok, Some, OnOk, OnErr, IfOk, IfErr, true, false};
+ghost use Rattle.std.specs.Prelude.{◌≡◌, ◌<◌, ◌+◌, length, Option, None, Ok, Some, OnOk, OnErr, IfOk, IfErr, true, false};
 ghost use Rattle.ff_graph_dag.specs.Graphs.{Sound, Sound-prop, graph_view, spots, to_go, IsCarried, IsEmpty, AreEmpty, IsQuiet, ways_of, port_held, wire_at};
 ghost use Rattle.ff_stream.specs.declared.item.Item.{Item};
+ghost use Rattle.ff_graph_dag.specs.Spends.{feed_spent, SweptFrom, Swept};
 ghost use Rattle.ff_filter.specs.Views.{Same, Fed, Gave, Waits, Stopped};
 
 use crate::placed::Placed;
@@ -199,8 +200,8 @@ impl<F: Filter> Graph<F> {
         self.places[to.filter].store(to.port, item);
     }
 
-    /// Feeds an input that hasn't closed. A refused item comes back, and nothing that can be seen has changed.
-    pub fn feed(&mut self, port: usize, item: Item) -> Result<(), Refused>
+    // Puts an item before the filter that an input leads to, behind what waits there.
+    fn put(&mut self, port: usize, item: Item) -> Result<(), Refused>
         requires there { port < length self.old.plan.feeds.items }
         requires open_before { (graph_view self.old.plan (spots F.view self.old.places.items)).shut port ≡ false }
         ensures plan { self.new.plan ≡ self.old.plan }
@@ -219,6 +220,23 @@ impl<F: Filter> Graph<F> {
         }
     }
 
+    /// Feeds an input that hasn't closed. A refused item comes back, and nothing that can be seen has changed.
+    pub fn feed(&mut self, port: usize, item: Item) -> Result<(), Refused>
+        requires there { port < length self.old.plan.feeds.items }
+        requires open_before { (graph_view self.old.plan (spots F.view self.old.places.items)).shut port ≡ false }
+        ensures plan { self.new.plan ≡ self.old.plan }
+        ensures fed { OnOk result (Fed (graph_view self.old.plan (spots F.view self.old.places.items))
+            (graph_view self.old.plan (spots F.view self.new.places.items)) port item) }
+        ensures refused { IfErr result (λ r. r.item ≡ item) }
+        ensures unchanged { OnErr result (Same (graph_view self.old.plan (spots F.view self.old.places.items))
+            (graph_view self.old.plan (spots F.view self.new.places.items))) }
+        ensures swept { Swept F.view F.spends self.new.plan self.new.places.items }
+    {
+        let fed = self.put(port, item);
+        self.sweep();
+        fed
+    }
+
     // The filter at an output is told that its receiver has finished.
     fn leave(&mut self, port: usize)
         requires { port < length self.old.plan.pads.items }
@@ -235,6 +253,7 @@ impl<F: Filter> Graph<F> {
         ensures plan { self.new.plan ≡ self.old.plan }
         ensures same { Same (graph_view self.old.plan (spots F.view self.old.places.items))
             (graph_view self.old.plan (spots F.view self.new.places.items)) }
+        ensures swept { SweptFrom F.view F.spends self.old.plan self.old.places.items (wire + 1) → SweptFrom F.view F.spends self.old.plan self.new.places.items wire }
     {
         let Wire { from, to } = self.plan.wires[wire];
         let Some(from) = from else {
@@ -246,11 +265,12 @@ impl<F: Filter> Graph<F> {
         self.places[from.filter].stop(from.port);
     }
 
-    // The same for each edge, the last one first: so a stop goes up from filter to filter.
-    fn sweep(&mut self)
+    /// Stops each output that feeds a spent input, the last edge first: so a stop goes up from filter to filter.
+    pub fn sweep(&mut self)
         ensures plan { self.new.plan ≡ self.old.plan }
         ensures same { Same (graph_view self.old.plan (spots F.view self.old.places.items))
             (graph_view self.old.plan (spots F.view self.new.places.items)) }
+        ensures swept { Swept F.view F.spends self.new.plan self.new.places.items }
     {
         let count = self.plan.wires.len();
         'wires: for done in 0..count {
@@ -303,14 +323,11 @@ impl<F: Filter> Graph<F> {
             (graph_view self.old.plan (spots F.view self.new.places.items)) port }
         ensures unchanged { OnErr result (Same (graph_view self.old.plan (spots F.view self.old.places.items))
             (graph_view self.old.plan (spots F.view self.new.places.items))) }
+        ensures swept { Swept F.view F.spends self.new.plan self.new.places.items }
     {
-        match self.take(port) {
-            Err(error) => Err(error),
-            Ok(given) => {
-                self.sweep();
-                Ok(given)
-            }
-        }
+        let given = self.take(port);
+        self.sweep();
+        given
     }
 
     /// The receiver of an output has finished.
@@ -318,6 +335,7 @@ impl<F: Filter> Graph<F> {
         requires { port < length self.old.plan.pads.items }
         ensures plan { self.new.plan ≡ self.old.plan }
         ensures stopped { Stopped (graph_view self.old.plan (spots F.view self.old.places.items)) (graph_view self.old.plan (spots F.view self.new.places.items)) port }
+        ensures swept { Swept F.view F.spends self.new.plan self.new.places.items }
     {
         self.leave(port);
         self.sweep();
@@ -330,6 +348,15 @@ impl<F: Filter> Graph<F> {
     {
         let feed = self.plan.feeds[port];
         self.places[feed.filter].is_shut(feed.port)
+    }
+
+    /// Whether the filter to which an input leads says that the input there is spent.
+    pub fn is_spent(&self, port: usize) -> bool
+        requires { port < length self.now.plan.feeds.items }
+        ensures { result ≡ feed_spent F.spends self.now.plan self.now.places.items port }
+    {
+        let feed = self.plan.feeds[port];
+        self.places[feed.filter].filter.spent(feed.port)
     }
 
     /// Whether an output was stopped.

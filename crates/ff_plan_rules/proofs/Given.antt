@@ -10,8 +10,9 @@ use Rattle.ff_graph_links.specs.declared.pads.drawn.Pad.{Pad}
 use Rattle.ff_graph_links.specs.pads.Links.{Seen, place_from, pad_or, giver_from, next_pad, chained, source_by, source_of, sources_up, sources_of, sources_from}
 use Rattle.ff_stream.specs.edges.Ports.{tally}
 use Rattle.ff_graph_links.specs.labels.Labels.{is_one_of, ins_of, outs_of}
+use Rattle.ff_graph_dag.specs.wiring.Flows.{same_pad}
 use Rattle.ff_graph.specs.Opens.{sources_in}
-use Rattle.ff_graph.specs.Configured.{same_pad, is_pad, feeds_one}
+use Rattle.ff_graph.specs.Configured.{is_pad, feeds_one}
 use Rattle.ff_plan_rules.proofs.Lists.{never, some_same, no_some, any_there, tally_any, tally_joined, same_text, text_self}
 use Rattle.ff_plan_rules.proofs.OpenPads.{same_self, same_pads}
 

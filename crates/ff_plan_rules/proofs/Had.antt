@@ -15,6 +15,7 @@ use Rattle.ff_graph_links.specs.orders.Orders.{loops as is_looped}
 use Rattle.ff_graph_links.specs.declared.pads.drawn.Pad.{Pad}
 use Rattle.ff_graph_links.specs.pads.Links.{Seen, sources_from}
 use Rattle.ff_graph_links.specs.labels.Labels.{filters_of}
+use Rattle.ff_graph_dag.specs.wiring.Flows.{pad_place}
 use Rattle.ff_filters.specs.declared.name.FilterName.{FilterName}
 use Rattle.ff_filters.specs.Names.{filter_named}
 use Rattle.ff_filters.specs.Pads.{outputs_of}
@@ -24,7 +25,7 @@ use Rattle.ff_graph.specs.Opens as of_graph
 use Rattle.ff_graph.specs.Opens.{feeders_in, filter_order, sources_in, open_pads, open_in, open_ins_at}
 use Rattle.ff_graph.specs.Configured as of_graph_made
 use Rattle.ff_graph.specs.Configured.{Made, heads_into, leaves_over, stands_at, is_misfit, is_surplus, made_on, made_as, made_of, with_made, behind, make_from, none_made, make_all}
-use Rattle.ff_graph.specs.Configured.{feeds_one, unless_fed, outs_at, outs_from, open_outs, outs_of as outs_by, place_of}
+use Rattle.ff_graph.specs.Configured.{feeds_one, unless_fed, outs_at, outs_from, open_outs, outs_of as outs_by}
 use Rattle.ff_plan_layout.specs.declared.open_pads.OpenOut.{OpenOut}
 use Rattle.ff_plan_layout.specs.declared.open_pads.Refused.{Refused}
 use Rattle.ff_plan_rules.specs.Rules.{input_as, output_as, refused_as, outputs_as, open_ins, configured}
@@ -192,8 +193,8 @@ module _ (ds : List Seen) (given : List (Option StreamHead)) (m : Made) (order :
       subst (λ (n : ℕ). slice_get (slice_index_or (sources_in ds) n []) p.0.pad ≡ Some None) same o.unfed in
       let h = given_there (open_pads ds) given w.heads p.0.filter 0 p.0.pad (slice_index_or (sources_in ds) p.0.filter []) w.of_.into w.of_.fed unfed in
       let pad : 0 + p.0.pad ≡ p.0.pad = omega arith in
-      let place : place_of (record { filter = p.0.filter; pad = 0 + p.0.pad }) (open_pads ds) ≡ j =
-      ap (λ (n : ℕ). place_of (record { filter = p.0.filter; pad = n }) (open_pads ds)) pad ∙ place_is (sources_in ds) j p.0 p.1 in
+      let place : pad_place (open_pads ds) (record { filter = p.0.filter; pad = 0 + p.0.pad }) ≡ j =
+      ap (λ (n : ℕ). pad_place (open_pads ds) (record { filter = p.0.filter; pad = n })) pad ∙ place_is (sources_in ds) j p.0 p.1 in
       (h.0, subst (λ (n : ℕ). slice_index_or given n None ≡ Some h.0) place h.1)
 
   -- each label at an output of a filter has a pad

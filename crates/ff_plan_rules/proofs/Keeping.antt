@@ -7,6 +7,7 @@ use Rattle.ff_frame.specs.declared.head.StreamHead.{StreamHead}
 use Rattle.ff_lang.specs.declared.graph.Graph.{Graph}
 use Rattle.ff_graph_links.specs.declared.pads.drawn.Pad.{Pad}
 use Rattle.ff_graph_links.specs.pads.Links.{Seen}
+use Rattle.ff_graph_dag.specs.wiring.Flows.{pad_place}
 use Rattle.ff_filters.specs.Configured.{Filtered}
 use Rattle.ff_filters.proofs.Owing.{IsKept}
 use Rattle.ff_filters.proofs.Owed.{kept_too}
@@ -16,7 +17,7 @@ use Rattle.ff_graph.specs.Opens as of_graph
 use Rattle.ff_graph.specs.Opens.{feeders_in, filter_order, sources_in, open_pads, open_in, open_ins_at}
 use Rattle.ff_graph.specs.Configured as of_graph_made
 use Rattle.ff_graph.specs.Configured.{Made, heads_into, leaves_over, stands_at, is_misfit, is_surplus, made_on, made_as, made_of, with_made, behind, make_from, none_made, make_all}
-use Rattle.ff_graph.specs.Configured.{feeds_one, unless_fed, outs_at, outs_from, open_outs, outs_of as outs_by, place_of}
+use Rattle.ff_graph.specs.Configured.{feeds_one, unless_fed, outs_at, outs_from, open_outs, outs_of as outs_by}
 use Rattle.ff_plan_layout.specs.Streams.{takes_head}
 use Rattle.ff_plan_layout.specs.declared.open_pads.OpenOut.{OpenOut}
 use Rattle.ff_plan_layout.specs.declared.open_pads.Refused.{Refused}
@@ -61,7 +62,7 @@ module _ (P : StreamHead → Type 0) (keeps : IsKept P) where
       and_parts (Some h) (Some hs) xs e = (h, hs, refl, refl, some_same (h ∷ hs) xs e)
 
       one : (s : Option Pad) (h : StreamHead) → of_graph_made.head_into opens (map (λ (x : StreamHead). Some x) given) heads (record { filter = k; pad = i }) s ≡ Some h → P h
-      one None h f = given_fit given (place_of (record { filter = k; pad = i }) opens) h fit f
+      one None h f = given_fit given (pad_place opens (record { filter = k; pad = i })) h fit f
       one (Some p) h f = head_fit heads p h all f
 
   none_fit : (n : ℕ) → AllByRecursion Each (replicate n [])

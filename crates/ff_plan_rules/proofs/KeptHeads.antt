@@ -7,12 +7,13 @@ use Rattle.ff_time.specs.Fraction.{Fraction, IsBase}
 use Rattle.ff_frame.specs.Heads.{base_of_head}
 use Rattle.ff_frame.specs.declared.head.StreamHead.{StreamHead}
 use Rattle.ff_frame.specs.declared.head.StreamHead.TheVariants.{Audio, Video}
+use Rattle.ff_stream.specs.Times.{with_base}
 use Rattle.ff_vfilter.specs.Sizes.{sized}
 use Rattle.ff_vfilter.specs.FpsOptions.{fps_head}
 use Rattle.ff_afilter.specs.Channels.{mono_head}
 use Rattle.ff_fsync.specs.declared.stacks.shape.Direction.{Direction}
 use Rattle.ff_fsync.specs.declared.stacks.shape.Direction.TheVariants.{Beside, Below}
-use Rattle.ff_fsync.specs.stacks.Bases.{bases_of, in_common, with_base}
+use Rattle.ff_fsync.specs.stacks.Bases.{bases_of, in_common}
 use Rattle.ff_fsync.specs.stacks.Heads.{with_length}
 use Rattle.ff_fsync.proofs.StacksLemmas.Exact.{in_common_based}
 use Rattle.ff_joins.specs.JoinOptions.{channels_in, with_channels}

@@ -1,12 +1,13 @@
 -- The open input pads of a drawing: each stands once, and nothing feeds it.
 use Rattle.std.proofs.Common.{◌≡◌, ℕ, zero, suc, ◌+◌, ◌<◌, Bool, true, false, List, [], ◌∷◌, ◌++◌, Option, None, Some, refl, sym, ap, subst, ◌∙◌, arith}
-use Rattle.std.specs.Prelude.{slice_get, slice_index_or, if◌then◌else◌}
+use Rattle.std.specs.Prelude.{slice_get, slice_index_or, cond}
 use Rattle.std.specs.List.{AllByRecursion}
 use Rattle.std.proofs.lemmas.Bool.Decides.{nat_tests}
 use Rattle.ff_frame.specs.declared.head.StreamHead.{StreamHead}
 use Rattle.ff_graph_links.specs.declared.pads.drawn.Pad.{Pad}
 use Rattle.ff_graph_links.specs.pads.Links.{opens_at, opens_from}
-use Rattle.ff_graph.specs.Configured.{same_pad, place_from, place_of, and_head, head_into, heads_into}
+use Rattle.ff_graph_dag.specs.wiring.Flows.{pad_place, same_pad}
+use Rattle.ff_graph.specs.Configured.{and_head, head_into, heads_into}
 use Rattle.ff_plan_rules.proofs.Lists.{some_same, no_some, all_at, all_more, all_joined}
 
 pub same_self : (p : Pad) → same_pad p p ≡ true
@@ -30,15 +31,13 @@ abbrev AreApart : List Pad → Type 0
 AreApart [] = Unit {0}
 AreApart (p ∷ ps) = AllByRecursion (λ q. same_pad q p ≡ false) ps × AreApart ps
 
-place_there : (n j : ℕ) (p : Pad) (ps : List Pad) → AreApart ps → slice_get ps j ≡ Some p → place_from n p ps ≡ n + j
-place_there n j p [] a e = absurd (no_some p e)
-place_there n zero p (q ∷ ps) a e =
+place_there : (j : ℕ) (p : Pad) (ps : List Pad) → AreApart ps → slice_get ps j ≡ Some p → pad_place ps p ≡ j
+place_there j p [] a e = absurd (no_some p e)
+place_there zero p (q ∷ ps) a e =
     let same : p ≡ q = sym (some_same q p e) in
-    let here : n ≡ n + 0 = omega arith in
-    ap (λ (b : Bool). if b then n else place_from (suc n) p ps) (subst (λ (r : Pad). same_pad p r ≡ true) same (same_self p)) ∙ here
-place_there n (suc j) p (q ∷ ps) a e =
-    let more : suc n + j ≡ n + suc j = omega arith in
-    ap (λ (b : Bool). if b then n else place_from (suc n) p ps) (all_at (λ (r : Pad). same_pad r q ≡ false) ps j p a.0 e) ∙ (place_there (suc n) j p ps a.1 e ∙ more)
+    ap (λ (b : Bool). cond b 0 (suc (pad_place ps p))) (subst (λ (r : Pad). same_pad p r ≡ true) same (same_self p))
+place_there (suc j) p (q ∷ ps) a e =
+    ap (λ (b : Bool). cond b 0 (suc (pad_place ps p))) (all_at (λ (r : Pad). same_pad r q ≡ false) ps j p a.0 e) ∙ ap (λ (n : ℕ). suc n) (place_there j p ps a.1 e)
 
 apart_joined : (k : ℕ) (xs ys : List Pad) → AllByRecursion (λ (p : Pad). p.filter ≡ k) xs → AllByRecursion (λ (p : Pad). k < p.filter) ys → AreApart xs → AreApart ys
     → AreApart (xs ++ ys)
@@ -108,8 +107,8 @@ are_apart k (ss ∷ rest) =
     (at_apart k 0 ss) (are_apart (suc k) rest)
 
 -- the place of an open input pad is where it stands
-pub place_is : (sources : List (List (Option Pad))) (j : ℕ) (p : Pad) → slice_get (opens_from 0 sources) j ≡ Some p → place_of p (opens_from 0 sources) ≡ j
-place_is sources j p e = (let h = place_there 0 j p (opens_from 0 sources) (are_apart 0 sources) e in omega (arith, h))
+pub place_is : (sources : List (List (Option Pad))) (j : ℕ) (p : Pad) → slice_get (opens_from 0 sources) j ≡ Some p → pad_place (opens_from 0 sources) p ≡ j
+place_is sources j p e = place_there j p (opens_from 0 sources) (are_apart 0 sources) e
 
 -- ---- where each input pad has a head, one that nothing feeds is given one
 
@@ -121,18 +120,18 @@ and_some (Some h) (Some hs) xs e = (h, hs, refl, refl)
 
 pub given_there : (opens : List Pad) (given : List (Option StreamHead)) (heads : List (List StreamHead)) (k i n : ℕ) (ss : List (Option Pad)) (xs : List StreamHead)
     → heads_into opens given heads k i ss ≡ Some xs → slice_get ss n ≡ Some None
-    → (h : StreamHead) × (slice_index_or given (place_of (record { filter = k; pad = i + n }) opens) None ≡ Some h)
+    → (h : StreamHead) × (slice_index_or given (pad_place opens (record { filter = k; pad = i + n })) None ≡ Some h)
 given_there opens given heads k i n [] xs e open_ = absurd (no_some None open_)
 given_there opens given heads k i zero (s ∷ ss) xs e open_ =
     let both = and_some (head_into opens given heads (record { filter = k; pad = i }) s) (heads_into opens given heads k (suc i) ss) xs e in
     let none : s ≡ None = some_same s None open_ in
     let here : i ≡ i + 0 = omega arith in (
       both.0,
-      ap (λ (m : ℕ). slice_index_or given (place_of (record { filter = k; pad = m }) opens) None) (sym here)
+      ap (λ (m : ℕ). slice_index_or given (pad_place opens (record { filter = k; pad = m })) None) (sym here)
           ∙ (ap (λ (t : Option Pad). head_into opens given heads (record { filter = k; pad = i }) t) (sym none) ∙ both.2),
     )
 given_there opens given heads k i (suc n) (s ∷ ss) xs e open_ =
     let both = and_some (head_into opens given heads (record { filter = k; pad = i }) s) (heads_into opens given heads k (suc i) ss) xs e in
     let h = given_there opens given heads k (suc i) n ss both.1 both.3 open_ in
     let more : suc i + n ≡ i + suc n = omega arith in
-    (h.0, subst (λ (m : ℕ). slice_index_or given (place_of (record { filter = k; pad = m }) opens) None ≡ Some h.0) more h.1)
+    (h.0, subst (λ (m : ℕ). slice_index_or given (pad_place opens (record { filter = k; pad = m })) None ≡ Some h.0) more h.1)

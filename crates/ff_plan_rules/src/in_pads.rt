@@ -8,6 +8,7 @@ use ff_graph::{OpenInput, open_inputs};
 use ff_lang::{Graph, Sequence, Text};
 use ff_map::Kind;
 use ff_plan_layout::OpenIn;
+use ff_words::text_of;
 use std::alloc::{AllocError, Global};
 
 /// How many open pads a graph that an argument of a command can write has at most: 65,536 filters of 16 pads.
@@ -18,13 +19,6 @@ fn kind_by(sound: bool) -> Kind
     ensures { result ≡ kind_of sound }
 {
     if sound { Kind::Audio } else { Kind::Video }
-}
-
-/// A string of one's own.
-pub(crate) fn text_of(alloc: Global, text: &str) -> Result<Text, AllocError>
-    ensures { IfOk result (λ copy. copy ≡ text.now) }
-{
-    Ok(Text::of(String::from_str(alloc, text)?))
 }
 
 fn label_of(alloc: Global, label: Option<&str>) -> Result<Option<Text>, AllocError>

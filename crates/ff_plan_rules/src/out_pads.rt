@@ -3,11 +3,12 @@ ghost use Rattle.std.specs.Prelude.{◌≡◌, ◌≤◌, ◌^◌, IfOk, length,
 ghost use Rattle.ff_graph.specs.Pads.{output_of};
 ghost use Rattle.ff_plan_rules.specs.Rules.{output_as, configured as configured_as};
 
-use crate::in_pads::{MOST_PADS, text_of};
+use crate::in_pads::MOST_PADS;
 use ff_frame::{ConfigError, StreamHead};
 use ff_graph::{OpenOutput, Refusal, configure_graph, has_loop};
 use ff_lang::{Graph, Sequence};
 use ff_plan_layout::{OpenOut, Refused};
+use ff_words::text_of;
 use std::alloc::{AllocError, Global};
 
 fn output_pad(alloc: Global, output: &OpenOutput) -> Result<OpenOut, AllocError>

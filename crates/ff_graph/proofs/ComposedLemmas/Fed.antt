@@ -3,8 +3,8 @@ use Rattle.std.proofs.Common.{◌≡◌, ℕ, zero, suc, ◌==◌, ◌&&◌, ◌
 use Rattle.std.proofs.Common.{refl, ap, sym, ◌∙◌, ◌⊎◌, inl, inr}
 use Rattle.std.specs.List.{list_any}
 use Rattle.ff_graph_links.specs.declared.pads.drawn.Pad.{Pad}
-use Rattle.ff_graph.specs.Configured.{same_pad, is_pad, feeds_one}
-use Rattle.ff_graph_dag.specs.wiring.Flows.{source_at}
+use Rattle.ff_graph.specs.Configured.{is_pad, feeds_one}
+use Rattle.ff_graph_dag.specs.wiring.Flows.{source_at, same_pad}
 use Rattle.ff_graph.proofs.ComposedLemmas.Elements.{some_same, no_some, or_got, or_none, there_or_not, both, is_it, it_is}
 
 abbrev pub pad_of : ℕ → ℕ → Pad

@@ -13,9 +13,9 @@ use Rattle.ff_graph_links.specs.pads.Links.{Seen}
 use Rattle.ff_filters.specs.limited.Cuts.{cuts_in, AreTimed}
 use Rattle.ff_filters.proofs.Owed.{gives, limited}
 use Rattle.ff_graph.specs.Opens.{filter_order, open_pads, sources_in}
-use Rattle.ff_graph.specs.Configured.{Made, OpenOut, head_into, heads_into, and_head, place_of, open_outs}
+use Rattle.ff_graph.specs.Configured.{Made, OpenOut, head_into, heads_into, and_head, open_outs}
 use Rattle.ff_graph.specs.Meaning.{means_as}
-use Rattle.ff_graph_dag.specs.wiring.Flows.{source_at}
+use Rattle.ff_graph_dag.specs.wiring.Flows.{source_at, pad_place}
 use Rattle.ff_graph_dag.specs.wiring.Limits.{Takes, Suits, AreLimited, Leave}
 use Rattle.ff_graph_dag.proofs.WiringLemmas.LimitedGraphs.{graph_limited}
 use Rattle.ff_graph.specs.composed.Cuts.{cuts_as, all_given}
@@ -24,7 +24,6 @@ use Rattle.ff_graph.proofs.ComposedLemmas.Fed.{pad_of}
 use Rattle.ff_graph.proofs.ComposedLemmas.Outs.{open_out}
 use Rattle.ff_graph.proofs.ComposedLemmas.Made.{IsMade, AreMade, GivenSo, so_at}
 use Rattle.ff_graph.proofs.ComposedLemmas.Timed.{IsTimed, each_timed, are_timed}
-use Rattle.ff_graph.proofs.ComposedLemmas.Meaning.{place_is, means_is}
 
 -- ---- heads and lanes
 
@@ -111,9 +110,9 @@ module _ (ds : List Seen) (heads : List StreamHead) (final : List (List StreamHe
       lane_none m.made.ins i (into_none (open_pads ds) (all_given heads) m.heads k 0 (slice_index_or (sources_in ds) k []) m.made.ins i m.made.comes e)
   takes k i v m (Some None) e =
       let h = into_got (open_pads ds) (all_given heads) m.heads k 0 (slice_index_or (sources_in ds) k []) m.made.ins i i None m.made.comes (omega arith) e in
-      let there = given_got heads (place_of (pad_of k i) (open_pads ds)) h.0 h.2 in (
+      let there = given_got heads (pad_place (open_pads ds) (pad_of k i)) h.0 h.2 in (
         Frames h.0,
-        ap (λ (n : ℕ). lane_at (map Frames heads) n) (sym (place_is (pad_of k i) (open_pads ds))) ∙ lane_got heads (place_of (pad_of k i) (open_pads ds)) h.0 there,
+        lane_got heads (pad_place (open_pads ds) (pad_of k i)) h.0 there,
         lane_got m.made.ins i h.0 h.1,
       )
   takes k i v m (Some (Some from)) e =
@@ -166,7 +165,6 @@ leave ds final q l e =
 pub whole_limited : (ds : List Seen) (heads : List StreamHead) (made : Made) → AreTimed heads → AreMade ds (all_given heads) made.heads (filter_order ds) made.views
     → IsLimited (map Frames heads) (map (λ o. Frames o.head) (open_outs ds made.heads)) (means_as ds (Ok made)) (cuts_as ds (Ok made))
 whole_limited ds heads made t each =
-    subst (λ (f : Ports → Ports). IsLimited (map Frames heads) (map (λ o. Frames o.head) (open_outs ds made.heads)) f (cuts_as ds (Ok made))) (sym (means_is ds made))
-    (graph_limited (sources_in ds) (open_pads ds) (map Frames heads) (lanes_by made.heads) (map (λ o. Frames o.head) (open_outs ds made.heads))
+    graph_limited (sources_in ds) (open_pads ds) (map Frames heads) (lanes_by made.heads) (map (λ o. Frames o.head) (open_outs ds made.heads))
     (map (λ o. o.at) (open_outs ds made.heads)) (leave ds made.heads) (filter_order ds) made.views (map (λ v. cuts_in v) made.views)
-    (are_limited ds heads made.heads (filter_order ds) made.views t each))
+    (are_limited ds heads made.heads (filter_order ds) made.views t each)

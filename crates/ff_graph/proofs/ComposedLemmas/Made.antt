@@ -13,11 +13,11 @@ use Rattle.ff_filters.specs.declared.name.FilterName.{FilterName}
 use Rattle.ff_filters.specs.Names.{filter_named}
 use Rattle.ff_filters.specs.Configured.{Filtered}
 use Rattle.ff_filters.specs.Makes.{configured_as}
-use Rattle.ff_graph.specs.Configured.{Made, Refused, place_of, head_at, head_into, heads_into, and_head, is_misfit, is_surplus, made_as, made_of, with_made, behind}
+use Rattle.ff_graph.specs.Configured.{Made, Refused, head_at, head_into, heads_into, and_head, is_misfit, is_surplus, made_as, made_of, with_made, behind}
 use Rattle.ff_graph.specs.Configured.{make_from, none_made}
 use Rattle.ff_graph.specs.Opens.{open_pads, sources_in}
 use Rattle.ff_graph.proofs.Refusals.{AreThere}
-use Rattle.ff_graph_dag.specs.wiring.Flows.{Absent}
+use Rattle.ff_graph_dag.specs.wiring.Flows.{Absent, pad_place}
 use Rattle.ff_graph.proofs.ComposedLemmas.Elements.{some_same, no_some, same_or_not, set_here, set_there, set_size}
 use Rattle.ff_graph.specs.composed.Pads.{HasChannel}
 use Rattle.ff_filters.proofs.Owing.{IsKept}
@@ -71,7 +71,7 @@ module _ (P : StreamHead → Type 0) where
 
   into_so : (opens : List Pad) (given : List (Option StreamHead)) (heads : List (List StreamHead)) (p : Pad) (from : Option Pad) (h : StreamHead)
       → GivenSo given → AllSo heads → head_into opens given heads p from ≡ Some h → P h
-  into_so opens given heads p None h g a e = g (place_of p opens) h e
+  into_so opens given heads p None h g a e = g (pad_place opens p) h e
   into_so opens given heads p (Some from) h g a e = a from h e
 
   ins_so : (opens : List Pad) (given : List (Option StreamHead)) (heads : List (List StreamHead)) (k i : ℕ) (ss : List (Option Pad)) (ins : List StreamHead)

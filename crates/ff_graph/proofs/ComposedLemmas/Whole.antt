@@ -26,7 +26,6 @@ use Rattle.ff_graph.specs.composed.Ready.{pads_of, counts_of, AreReady}
 use Rattle.ff_graph.proofs.ComposedLemmas.Drawing.{whole, are_ready}
 use Rattle.ff_graph.proofs.ComposedLemmas.Elements.{map_size}
 use Rattle.ff_graph.proofs.ComposedLemmas.Limiting.{whole_limited}
-use Rattle.ff_graph.proofs.ComposedLemmas.Meaning.{means_is}
 
 ok_same : {A E : Type 0} (x y : A) → (let r : Result A E = Ok x in r) ≡ Ok y → x ≡ y
 ok_same x y e = cc
@@ -65,7 +64,6 @@ module _ (g : Graph) (given : List (Option StreamHead)) (made : Made) (os : List
       ∙ ap (λ (x : List OpenOut). λ (ext : Ports).
       flows_at (pads_of x) (flows_from (sources_in (seen_graph g)) (open_pads (seen_graph g)) ext no_flows (filter_order (seen_graph g)) made.views))
       (outs_are g given made os c m)
-      ∙ sym (means_is (seen_graph g) made)
       ∙ ap (λ (r : Result Made Refused). λ (ext : Ports). means_as (seen_graph g) r ext) (sym m)
 
 -- ---- behind limits

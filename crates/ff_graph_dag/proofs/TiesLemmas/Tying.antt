@@ -396,8 +396,11 @@ module _ (p : Plan) (t : IsTied p) where
       none_of None g = refl
       none_of (Some f) g = cc
 
+  going_up : (v w : ℕ) (f : Port) → v ≤ w → w < length p.wires.items → (wire_at p v).from ≡ Some f → f.filter < (wire_at p w).to.filter
+  going_up v w f le lt e = t.upward v w (wire_at p v) (wire_at p w) f le (wire_got v (omega (arith, le, lt))) (wire_got w lt) e
+
   framed : Framed p
-  framed = record { inputs = t.inputs; outputs = t.outputs; ways = t.ways; entries = entered; only = only_feeds; cones = cone_at }
+  framed = record { inputs = t.inputs; outputs = t.outputs; ways = t.ways; entries = entered; only = only_feeds; upward = going_up; cones = cone_at }
 
   -- and each filter has as many inputs and outputs as edges there
   module _ (ss : List Spot) (size : length ss ≡ length p.nodes.items)

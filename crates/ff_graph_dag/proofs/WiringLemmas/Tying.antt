@@ -599,5 +599,6 @@ module _ (fed : List (List (Option Port))) (counts : List ℕ) (opens pads : Lis
       pads = λ q f e. (pad_edge q f (pad_at q f e), pad_number q f (pad_at q f e));
       feeds = entry_at;
       only = λ v x e g. subst (λ (n : ℕ). v < n) (sym (ap length w.feeds)) (only_inputs v x (wire_there v x e) g);
+      upward = wires_upward;
       reached = r;
     }

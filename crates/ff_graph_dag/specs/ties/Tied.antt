@@ -87,4 +87,5 @@ pub record IsTied (p : Plan) : Type 0 where
   -- the edges of the graph's inputs
   pub feeds : (i : ℕ) (f : Port) → slice_get p.feeds.items i ≡ Some f → slice_get p.wires.items i ≡ Some (record { from = None; to = f })
   pub only : (w : ℕ) (x : Wire) → slice_get p.wires.items w ≡ Some x → x.from ≡ None → w < length p.feeds.items
+  pub upward : IsUpward p.wires.items
   pub reached : (q : ℕ) (f : Port) → slice_get p.pads.items q ≡ Some f → (needed : List Bool) × IsReached p (ways_of p q) f needed
