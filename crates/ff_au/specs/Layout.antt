@@ -25,7 +25,7 @@ abbrev pub au_layout : StreamHead → Layout
 au_layout head = record {
   header = header head to_the_end;
   text = λ stream packet. packet.bytes;
-  pad = λ n. [];
+  tail = λ packets. [];
   last = λ n totals. Some (0, header head (size_field n));
   longest = None;
 }

@@ -5,7 +5,7 @@ ghost use Rattle.ff_au.specs.Fields.{number_16, number_32, codec_of, stream_of, 
 
 use crate::head::{AuHead, FieldsStep};
 use ff_frame::{Codec, StreamHead};
-use ff_pcm_cut::size_of_sample;
+use ff_pcm::size_of_sample;
 use ff_reader::{HeadFault, Step};
 use ff_time::{Rational, TimeError};
 

@@ -4,7 +4,7 @@ ghost use Rattle.ff_au.specs.Codecs.{IsAuCoded};
 ghost use Rattle.ff_au.specs.Header.{be_32, mark, header};
 
 use ff_frame::StreamHead;
-use ff_pcm_cut::size_of_sample;
+use ff_pcm::size_of_sample;
 use std::alloc::{AllocError, Global};
 
 #[tactic(auto, unfolding(crate::specs::Header::be_32))]

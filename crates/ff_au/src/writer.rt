@@ -1,17 +1,18 @@
 //! The writer of AU files.
-ghost use Rattle.std.specs.Prelude.{◌≡◌};
+ghost use Rattle.std.specs.Prelude.{◌≡◌, length};
+ghost use Rattle.ff_format.specs.Layouts.{bytes_in};
 ghost use Rattle.ff_au.specs.Header.{size_field, written_head, body_size};
 ghost use Rattle.ff_au.specs.Layout.{au_layout, au_inside};
 
 use crate::put::AuPut;
 use ff_format::{Patch, TooLarge, Writer};
 use ff_frame::{Pkt, Totals};
-use std::alloc::AllocError;
+use std::alloc::{AllocError, Global};
 
 impl Writer for AuPut {
     ghost layout = { λ put. au_layout (written_head put) };
 
-    ghost counts = { λ put n. body_size put ≡ size_field n };
+    ghost counts = { λ put packets. body_size put ≡ size_field (length (bytes_in packets)) };
 
     fn first(&self) -> Result<Vec<u8>, AllocError> {
         AuPut::first(self)
@@ -21,13 +22,13 @@ impl Writer for AuPut {
         Ok(packet.bytes.into_vec())
     }
 
-    fn add(&mut self, count: u64) -> Result<(), TooLarge> {
-        AuPut::add(self, count);
+    fn add(&mut self, _stream: u32, packet: &Pkt) -> Result<(), TooLarge> {
+        AuPut::add(self, packet.bytes.as_slice().len() as u64);
         Ok(())
     }
 
-    fn pad(&self) -> &'static [u8] {
-        &[]
+    fn tail(&self, alloc: Global) -> Result<Vec<u8>, AllocError> {
+        Ok(Vec::new(alloc))
     }
 
     fn last(&self, _totals: Option<Totals>) -> Result<Option<Patch>, AllocError> {

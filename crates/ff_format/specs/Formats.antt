@@ -27,6 +27,10 @@ format_name format.Y4m = codes "yuv4mpegpipe"
 format_name format.FrameHash = codes "framehash"
 format_name format.FrameMd5 = codes "framemd5"
 format_name format.FrameCrc = codes "framecrc"
+format_name format.Hash = codes "hash"
+format_name format.Md5 = codes "md5"
+format_name format.StreamHash = codes "streamhash"
+format_name format.Crc = codes "crc"
 
 -- whether an input may have it
 abbrev pub is_read : FileFormat → Bool
@@ -37,6 +41,10 @@ is_read format.Y4m = true
 is_read format.FrameHash = false
 is_read format.FrameMd5 = false
 is_read format.FrameCrc = false
+is_read format.Hash = false
+is_read format.Md5 = false
+is_read format.StreamHash = false
+is_read format.Crc = false
 
 -- each format with its name, how the names of its files end (empty where no ending tells it), and whether an input and an
 -- output may have it
@@ -49,6 +57,10 @@ file_formats =
     (format_name format.FrameHash, [], format.FrameHash, is_read format.FrameHash, true) ∷
     (format_name format.FrameMd5, [], format.FrameMd5, is_read format.FrameMd5, true) ∷
     (format_name format.FrameCrc, [], format.FrameCrc, is_read format.FrameCrc, true) ∷
+    (format_name format.Hash, [], format.Hash, is_read format.Hash, true) ∷
+    (format_name format.Md5, [], format.Md5, is_read format.Md5, true) ∷
+    (format_name format.StreamHash, [], format.StreamHash, is_read format.StreamHash, true) ∷
+    (format_name format.Crc, [], format.Crc, is_read format.Crc, true) ∷
     []
 
 -- the first line of this name
@@ -65,6 +77,10 @@ found format.Y4m = (codes ".y4m", refl)
 found format.FrameHash = ([], refl)
 found format.FrameMd5 = ([], refl)
 found format.FrameCrc = ([], refl)
+found format.Hash = ([], refl)
+found format.Md5 = ([], refl)
+found format.StreamHash = ([], refl)
+found format.Crc = ([], refl)
 
 pub short_name : (f : FileFormat) → length (format_name f) ≤ 32
 short_name format.Wav = omega arith
@@ -74,6 +90,10 @@ short_name format.Y4m = omega arith
 short_name format.FrameHash = omega arith
 short_name format.FrameMd5 = omega arith
 short_name format.FrameCrc = omega arith
+short_name format.Hash = omega arith
+short_name format.Md5 = omega arith
+short_name format.StreamHash = omega arith
+short_name format.Crc = omega arith
 
 -- ---- what an output takes: WAV linear PCM with the lowest byte first, unsigned where a sample has one byte and signed else, AU signed
 -- linear PCM with the highest byte first, FLAC what is coded so, YUV4MPEG2 pictures, each of one stream; digests any linear PCM and
@@ -87,10 +107,15 @@ taken_by format.Y4m = record { sound = Nothing; pictures = true; codec = codec.P
 taken_by format.FrameHash = record { sound = Pcm; pictures = true; codec = codec.PcmS16le; streams = 16 }
 taken_by format.FrameMd5 = record { sound = Pcm; pictures = true; codec = codec.PcmS16le; streams = 16 }
 taken_by format.FrameCrc = record { sound = Pcm; pictures = true; codec = codec.PcmS16le; streams = 16 }
+taken_by format.Hash = record { sound = Pcm; pictures = true; codec = codec.PcmS16le; streams = 16 }
+taken_by format.Md5 = record { sound = Pcm; pictures = true; codec = codec.PcmS16le; streams = 16 }
+taken_by format.StreamHash = record { sound = Pcm; pictures = true; codec = codec.PcmS16le; streams = 16 }
+taken_by format.Crc = record { sound = Pcm; pictures = true; codec = codec.PcmS16le; streams = 16 }
 
 -- the digest where none is asked for, of a format that has one
 abbrev pub default_hash : FileFormat → HashKind
 default_hash format.FrameMd5 = Md5
+default_hash format.Md5 = Md5
 default_hash _ = Sha256
 
 abbrev pub is_some_sound : SoundTaken → Bool

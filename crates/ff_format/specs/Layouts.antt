@@ -10,9 +10,10 @@ pub record Layout : Type 0 where
   pub header : List ℕ
   -- of a packet of the stream of this number
   pub text : ℕ → Pkt → List ℕ
-  -- behind so many bytes of packets, once every stream is whole
-  pub pad : ℕ → List ℕ
-  -- what then takes the place of as many bytes, from a place on, by what a coder of sound told at the end
+  -- behind these packets, each with the number of its stream, once every stream is whole
+  pub tail : List (ℕ × Pkt) → List ℕ
+  -- what then takes the place of as many bytes, from a place on, by how many bytes of packets there are and by what a coder of sound
+  -- told at the end
   pub last : ℕ → Option Totals → Option (ℕ × List ℕ)
   -- the most bytes of packets
   pub longest : Option ℕ
@@ -38,7 +39,7 @@ written layout packets = layout.header ++ body layout packets
 
 -- the text as a whole, once every stream is whole
 abbrev pub text_of : Layout → List (ℕ × Pkt) → List ℕ
-text_of layout packets = written layout packets ++ layout.pad (length (body layout packets))
+text_of layout packets = written layout packets ++ layout.tail packets
 
 abbrev pub with_last : Option (ℕ × List ℕ) → List ℕ → List ℕ
 with_last None text = text

@@ -19,7 +19,7 @@ IsAlone Takes (head ∷ other ∷ heads) = ⊥
 
 -- how nothing is written
 abbrev pub no_layout : Layout
-no_layout = record { header = []; text = λ stream packet. []; pad = λ n. []; last = λ n totals. None; longest = None }
+no_layout = record { header = []; text = λ stream packet. []; tail = λ packets. []; last = λ n totals. None; longest = None }
 
 abbrev pub layout_of_first : (StreamHead → Layout) → List StreamHead → Layout
 layout_of_first layout [] = no_layout

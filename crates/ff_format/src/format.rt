@@ -21,11 +21,19 @@ pub enum FileFormat {
     FrameMd5,
     /// Adler-32 sums of packets, for outputs alone.
     FrameCrc,
+    /// One digest of the bytes of all packets, for outputs alone.
+    Hash,
+    /// The same, by MD5 where no digest is asked for.
+    Md5,
+    /// A digest of the bytes of each stream's packets, for outputs alone.
+    StreamHash,
+    /// One Adler-32 sum of the bytes of all packets, for outputs alone.
+    Crc,
 }
 
 /// The values of `-f`, each with how the names of such files end (empty where no ending tells). Beside them stands
 /// whether an input and an output may have it.
-pub static FORMATS: [(&'static str, &'static str, FileFormat, bool, bool); 7] = [
+pub static FORMATS: [(&'static str, &'static str, FileFormat, bool, bool); 11] = [
     ("wav", ".wav", FileFormat::Wav, true, true),
     ("au", ".au", FileFormat::Au, true, true),
     ("flac", ".flac", FileFormat::Flac, true, true),
@@ -33,6 +41,10 @@ pub static FORMATS: [(&'static str, &'static str, FileFormat, bool, bool); 7] = 
     ("framehash", "", FileFormat::FrameHash, false, true),
     ("framemd5", "", FileFormat::FrameMd5, false, true),
     ("framecrc", "", FileFormat::FrameCrc, false, true),
+    ("hash", "", FileFormat::Hash, false, true),
+    ("md5", "", FileFormat::Md5, false, true),
+    ("streamhash", "", FileFormat::StreamHash, false, true),
+    ("crc", "", FileFormat::Crc, false, true),
 ];
 
 /// Which audio an output takes, by how it is coded.
@@ -163,7 +175,13 @@ impl FileFormat {
                 codec: Codec::PcmS16le,
                 streams: 1,
             },
-            FileFormat::FrameHash | FileFormat::FrameMd5 | FileFormat::FrameCrc => Taken {
+            FileFormat::FrameHash
+            | FileFormat::FrameMd5
+            | FileFormat::FrameCrc
+            | FileFormat::Hash
+            | FileFormat::Md5
+            | FileFormat::StreamHash
+            | FileFormat::Crc => Taken {
                 sound: SoundTaken::Pcm,
                 pictures: true,
                 codec: Codec::PcmS16le,
@@ -177,7 +195,7 @@ impl FileFormat {
         ensures { result ≡ default_hash self }
     {
         match self {
-            FileFormat::FrameMd5 => HashKind::Md5,
+            FileFormat::FrameMd5 | FileFormat::Md5 => HashKind::Md5,
             _ => HashKind::Sha256,
         }
     }
@@ -197,7 +215,7 @@ pub enum Rf64 {
 /// What the options of an output say to its format.
 #[derive(Clone, Copy, Debug, PartialEq, Eq)]
 pub struct OutputOptions {
-    /// Which digest stands for the bytes of a packet, where the format has one.
+    /// Which digest stands for bytes of packets, where the format has one.
     pub hash: HashKind,
     /// When it is RF64, where it is WAV.
     pub rf64: Rf64,

@@ -1,7 +1,7 @@
 //! The formats of files: which there are, what an output of each takes, and what the writing of every format shares.
 //!
 //! ```text
-//! first ──► header │ text of packet, text of packet, ..  │ pad        the text as a whole
+//! first ──► header │ text of packet, text of packet, ..  │ tail       the text as a whole
 //!           last ──► takes the place of as many bytes of it, once every stream is whole
 //! ```
 //!

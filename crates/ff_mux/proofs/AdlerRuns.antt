@@ -4,6 +4,8 @@ use Rattle.std.specs.List.{slice_range}
 use Rattle.std.proofs.Math.Nat.{add-mod-mod, mod-add-mod, mod-mod}
 use Rattle.std.proofs.lemmas.List.Folds.{drop_split}
 use Rattle.ff_mux.specs.Adler.{byte_sum, sum_of_sums}
+use Rattle.ff_mux.specs.Hashers.{AreSums}
+use Rattle.ff_mux.specs.declared.adler.Sums.{Sums}
 
 plus : (a c d : ℕ) → a % 65521 ≡ c % 65521 → (a + d) % 65521 ≡ (c + d) % 65521
 plus a c d e = sym (mod-add-mod a 65521 d) ∙ (ap (λ n. (n + d) % 65521) e ∙ mod-add-mod c 65521 d)
@@ -52,3 +54,13 @@ pub sums-next : (xs : List ℕ) (at n a b total : ℕ) → sum_of_sums a b (drop
 sums-next xs at n a b total h =
     sums-on (slice_range xs at (at + n)) (drop (at + n) xs) a b
     ∙ (ap (λ ys. sum_of_sums a b ys % 65521) (sym (drop_split xs at (at + n) (omega arith))) ∙ h)
+
+-- the sums of bytes and then of others
+pub sums-more : (s t : Sums) (xs ys : List ℕ) → AreSums s xs → t.bytes ≡ byte_sum s.bytes ys % 65521
+    → t.sums ≡ sum_of_sums s.bytes s.sums ys % 65521 → AreSums t (xs ++ ys)
+sums-more s t xs ys h bytes sums = (
+  bytes ∙ (ap (λ n. byte_sum n ys % 65521) h.0 ∙ bytes-on xs ys 1),
+  sums
+      ∙ (ap (λ n. sum_of_sums n s.sums ys % 65521) h.0
+      ∙ (ap (λ n. sum_of_sums (byte_sum 1 xs % 65521) n ys % 65521) h.1 ∙ sums-on xs ys 1 0)),
+)

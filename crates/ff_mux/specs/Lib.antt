@@ -2,6 +2,8 @@ pub mod Adler
 pub mod FrameHash
 pub mod HashTexts
 pub mod CrcTexts
+pub mod DigestTexts
+pub mod Hashers
 pub mod Puts
 pub mod FlacHead
 pub mod FlacLaws

@@ -21,8 +21,8 @@ pub(crate) fn crc_header(alloc: Global, heads: &[StreamHead]) -> Result<Vec<u8>,
     Ok(text)
 }
 
-// Adds a sum of 32 bits in eight digits.
-fn push_sum(alloc: Global, line: &mut Vec<u8>, sum: u32) -> Result<(), AllocError>
+/// Adds a sum of 32 bits in eight digits.
+pub(crate) fn push_sum(alloc: Global, line: &mut Vec<u8>, sum: u32) -> Result<(), AllocError>
     ensures { OnOk result (line.new.items ≡ line.old.items ++ sum_text sum) }
 {
     let digits = hex::encode(alloc, sum.to_be_bytes())?;

@@ -23,6 +23,7 @@ use Rattle.ff_stream.specs.declared.item.Lane.TheVariants.{Frames}
 use Rattle.ff_stream.specs.Lanes.{IsItemFor}
 use Rattle.ff_stream.specs.Within.{some_pass}
 use Rattle.ff_stream.specs.WithinLaws.{within_same}
+use Rattle.ff_stream.specs.Stream.{is_whole}
 use Rattle.ff_pcm.proofs.DepthLaws.{shifted_audio}
 use Rattle.ff_flac_subframe.specs.Subframe.{Spelling, candidates as spellings}
 use Rattle.ff_flac_subframe.specs.rice.Least.{least}
@@ -39,7 +40,7 @@ use Rattle.ff_mux.specs.FlacHead.{CanHold}
 use Rattle.ff_mux.specs.writers.FlacWritten.{AreFramesOf, HoldBlocks}
 use Rattle.ff_mux.proofs.FlacFiles.{files}
 use Rattle.ff_node_flac.specs.Packets.{added_from, at_coded, block_bytes, coded_bits, octets, packet_of, packets_from, spelled_bytes, trailer_of, whole_bytes}
-use Rattle.ff_node_flac.specs.Coding.{all_coded, blocks_in, coded_head, is_whole, passes_in_flac, sounds}
+use Rattle.ff_node_flac.specs.Coding.{all_coded, blocks_in, coded_head, passes_in_flac, sounds}
 use Rattle.ff_node_flac.specs.FilesRead.{numbered, StreamsAreRead}
 
 -- ---- each block has a frame

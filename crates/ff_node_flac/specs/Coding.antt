@@ -8,7 +8,7 @@ use Rattle.ff_frame.specs.declared.head.StreamHead.TheVariants.{Audio as AudioHe
 use Rattle.ff_stream.specs.declared.item.Item.{Item}
 use Rattle.ff_stream.specs.declared.item.Item.TheVariants.{Audio, Video, Packet, Trailer, End, Broken}
 use Rattle.ff_stream.specs.Ports.{stream_at}
-use Rattle.ff_stream.specs.Stream.{Mark, still_open, whole, broken}
+use Rattle.ff_stream.specs.Stream.{Mark, still_open, whole, broken, is_whole}
 use Rattle.ff_stream.specs.Within.{some_pass, within}
 use Rattle.ff_flac_enc.specs.Gathered.{blocks_due}
 use Rattle.ff_net.specs.declared.fault.Fault.{Fault}
@@ -39,11 +39,6 @@ and_sound Broken fs = fs
 abbrev pub sounds : List Item → List AFrame
 sounds [] = []
 sounds (x ∷ xs) = and_sound x (sounds xs)
-
-abbrev pub is_whole : Mark → Bool
-is_whole still_open = false
-is_whole whole = true
-is_whole broken = false
 
 -- the blocks of 4,096 sample frames that are due of a stream: where it is whole the rest is the last one
 abbrev pub blocks_in : Flow → List AFrame

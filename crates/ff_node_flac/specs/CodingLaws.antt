@@ -21,7 +21,7 @@ use Rattle.ff_stream.specs.declared.item.Lane.TheVariants.{Frames, Packets}
 use Rattle.ff_stream.specs.LaneLaws.{shape_front}
 use Rattle.ff_stream.specs.Lanes.{IsItemFor, InOrder, Follows, AreInShape, IsValid, EndsInTime}
 use Rattle.ff_stream.specs.Ports.{IsClosed, IsUnbroken}
-use Rattle.ff_stream.specs.Stream.{Mark, still_open, whole, broken, LiesBelow, opened}
+use Rattle.ff_stream.specs.Stream.{Mark, still_open, whole, broken, LiesBelow, opened, is_whole}
 use Rattle.ff_stream.specs.Times.{end_of, ticks}
 use Rattle.ff_stream.specs.Within.{some_pass, before_pass, within}
 use Rattle.ff_stream.specs.WithinLaws.{before_pass-prefix, within_monotone, within_calm}
@@ -30,7 +30,7 @@ use Rattle.ff_flac_enc.specs.Totals.{sample_frames}
 use Rattle.ff_flac_enc.proofs.GatherLaws.{stays}
 use Rattle.ff_net.specs.Ways.{Flow}
 use Rattle.ff_node_flac.specs.Packets.{at_coded, packet_of, packets_from, trailer_of, items_of}
-use Rattle.ff_node_flac.specs.Coding.{CanCode, coded_head, and_sound, sounds, is_whole, blocks_in, all_coded, passes_in_flac, flac_coded, is_long}
+use Rattle.ff_node_flac.specs.Coding.{CanCode, coded_head, and_sound, sounds, blocks_in, all_coded, passes_in_flac, flac_coded, is_long}
 
 -- ---- the frames among items
 

@@ -5,7 +5,7 @@ use Rattle.ff_frame.specs.declared.head.StreamHead.{StreamHead}
 use Rattle.ff_frame.specs.declared.head.StreamHead.TheVariants.{Audio as AudioHead, Video as VideoHead}
 use Rattle.ff_stream.specs.declared.item.Lane.TheVariants.{Frames, Packets}
 use Rattle.ff_stream.specs.Ports.{nothing, stream_at, IsClosed, IsUnbroken}
-use Rattle.ff_stream.specs.Stream.{Mark, still_open, whole, broken, LiesBelow}
+use Rattle.ff_stream.specs.Stream.{Mark, still_open, whole, broken, LiesBelow, is_whole}
 use Rattle.ff_stream.specs.Within.{some_pass}
 use Rattle.ff_flac_enc.specs.declared.format.Format.{Format}
 use Rattle.ff_net.specs.Laws.{IsSilent}
@@ -15,7 +15,7 @@ use Rattle.ff_net.specs.Ways.{Flow, AreValid}
 use Rattle.ff_node_flac.specs.declared.queue.Queue.{Queue}
 use Rattle.ff_node_flac.specs.declared.shut.Shut.{Shut}
 use Rattle.ff_node_flac.specs.declared.shut.Shut.TheVariants as shut
-use Rattle.ff_node_flac.specs.Coding.{CanCode, coded_head, sounds, is_whole, all_coded, passes_in_flac, flac_coded, flac_cause, is_long, long_fault}
+use Rattle.ff_node_flac.specs.Coding.{CanCode, coded_head, sounds, all_coded, passes_in_flac, flac_coded, flac_cause, is_long, long_fault}
 use Rattle.ff_node_flac.specs.Packets.{coded_bits, packets_from}
 use Rattle.ff_node_flac.specs.Queues.{format_of_queue, queue_ended, Queues}
 

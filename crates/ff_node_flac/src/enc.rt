@@ -14,7 +14,7 @@ use crate::shut::Shut;
 use ff_flac_enc::Format;
 use ff_frame::{AFrame, Event, StreamHead, Ticket};
 use ff_net::{Fault, Machine};
-use ff_stream::{Item, Refused};
+use ff_stream::{Item, Refused, discard};
 use std::alloc::{AllocError, Global};
 
 /// Encodes the frames of an audio stream as FLAC. It gives a packet of each block of 4,096 sample frames, the last
@@ -106,9 +106,6 @@ impl<C> FlacEnc<C> {
         self.queue.feed(frame)
     }
 }
-
-// Lets an item go.
-fn discard(_item: Item) {}
 
 impl<C: Coder + Drop> Machine for FlacEnc<C> {
     ghost use Rattle.ff_node_flac.specs.Machines.{enc_view, enc_laws};

@@ -5,11 +5,11 @@ use Rattle.std.proofs.lemmas.Bool.{cases_eq, eq-eqb, ne_eqb, and_right}
 use Rattle.ff_time.specs.Fraction.{Fraction}
 use Rattle.ff_stream.specs.declared.item.Item.{Item}
 use Rattle.ff_stream.specs.declared.item.Item.TheVariants.{Audio, Video, Packet, Trailer, End, Broken}
-use Rattle.ff_stream.specs.Stream.{Mark, still_open, whole, broken, Stream}
+use Rattle.ff_stream.specs.Stream.{Mark, still_open, whole, broken, Stream, is_whole}
 use Rattle.ff_stream.specs.Items.{with_item}
 use Rattle.ff_stream.specs.Ports.{stream_at}
 use Rattle.ff_filter.specs.Joins.{Ports, silence, joined, joined_at, joined_assoc, joined_nothing, one, before_if, before_at}
-use Rattle.ff_node_mux.specs.merge.Merges.{Placed, is_whole, packets_in, decided, merge_to}
+use Rattle.ff_node_mux.specs.merge.Merges.{Placed, packets_in, decided, merge_to}
 use Rattle.ff_node_mux.specs.merge.Queues.{base_at}
 use Rattle.ff_net.specs.Ways.{Flow, with_item_at}
 use Rattle.ff_net.proofs.Flows.{stream_at-with_item_same, stream_at-with_item_other}

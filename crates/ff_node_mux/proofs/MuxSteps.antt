@@ -31,10 +31,10 @@ use Rattle.ff_node_mux.specs.Muxing.{head_bases, head_lanes, are_whole, count_op
 use Rattle.ff_node_mux.specs.Writing.{text_before, WroteOn, StuckOn}
 use Rattle.ff_node_mux.proofs.Joining.{all_or_open, count_fed, mixed_nothing, open_none, then_on, then_silence}
 use Rattle.ff_node_mux.proofs.StreamTells.{feeds_more}
-use Rattle.ff_node_mux.proofs.Texts.{prefixed, ended, totals_more, something, closes_iff, closed_then, size_then, small_cause, large_cause, fits_none}
+use Rattle.ff_node_mux.proofs.Texts.{prefixed, ended, totals_more, something, closes_iff, closed_then, small_cause, large_cause, fits_none}
 
 -- an event was told
-pub mux_told : (holds : Option (List ℕ)) (layout : Layout) (counts : ℕ → Type 0) (totals : Option Totals) (heads : List StreamHead) (unended : ℕ) (begun : Bool)
+pub mux_told : (holds : Option (List ℕ)) (layout : Layout) (counts : List Placed → Type 0) (totals : Option Totals) (heads : List StreamHead) (unended : ℕ) (begun : Bool)
     (merge : Merging) (fault : Option Fault) (past : Past) (e : Event) → MuxStands holds layout counts totals heads unended begun merge fault past
     → MuxStands holds layout counts totals heads unended begun merge fault (was_told past e)
 mux_told holds layout counts totals heads unended begun merge fault past e (bytes, s) = (
@@ -62,7 +62,7 @@ mux_told holds layout counts totals heads unended begun merge fault past e (byte
 )
 
 -- nothing that can be seen of the merge changed
-pub mux_same : (holds : Option (List ℕ)) (layout : Layout) (counts : ℕ → Type 0) (totals : Option Totals) (heads : List StreamHead) (unended : ℕ) (begun : Bool)
+pub mux_same : (holds : Option (List ℕ)) (layout : Layout) (counts : List Placed → Type 0) (totals : Option Totals) (heads : List StreamHead) (unended : ℕ) (begun : Bool)
     (merge merge' : Merging) (fault : Option Fault) (past : Past) → Same merge merge' → MuxStands holds layout counts totals heads unended begun merge fault past
     → MuxStands holds layout counts totals heads unended begun merge' fault past
 mux_same holds layout counts totals heads unended begun merge merge' fault past same (bytes, s) = (
@@ -96,8 +96,8 @@ nothing_below bases some = elim (cases_Bool (are_whole (length bases) [])) as (�
 ]
 
 -- nothing was fed to a muxer whose sink holds nothing, whose writer counted nothing, and whose merge is new
-pub mux_begins : (holds : Option (List ℕ)) (layout : Layout) (counts : ℕ → Type 0) (heads : List StreamHead) (unended : ℕ) (merge : Merging) (first : ℕ)
-    → holds ≡ Some [] → counts 0 → 1 ≤ length heads → unended ≡ length heads → IsNew (head_bases heads) merge
+pub mux_begins : (holds : Option (List ℕ)) (layout : Layout) (counts : List Placed → Type 0) (heads : List StreamHead) (unended : ℕ) (merge : Merging) (first : ℕ)
+    → holds ≡ Some [] → counts [] → 1 ≤ length heads → unended ≡ length heads → IsNew (head_bases heads) merge
     → MuxStands holds layout counts None heads unended false merge None (start (mux_task layout first (head_bases heads)))
 mux_begins holds layout counts heads unended merge first told counted some all new =
     let bases = head_bases heads in
@@ -120,7 +120,7 @@ mux_begins holds layout counts heads unended merge first told counted some all n
         fresh = λ e. (refl, refl);
         merges = λ e ext. ap (interleaved (length bases) (base_at bases)) (λ i p. packets_in (nothing_then (ext p) i))
             ∙ (sym (new.rest ext) ∙ ap (λ (ys : List Placed). ys ++ merge.rest ext) (sym none));
-        counted = λ e. subst counts (sym size) counted;
+        counted = λ e. subst counts (sym none) counted;
         small = λ e. small;
         exact = λ e b. cc;
         finished_is = λ e w. let t : false ≡ true = sym ongoing ∙ w in cc;
@@ -178,7 +178,7 @@ below_open : (r t : Stream Placed) → LiesBelow r t → t.mark ≡ still_open �
 below_open r t (inl e) o = ap (λ (s : Stream Placed). s.mark) e ∙ o
 below_open r t (inr b) o = b.0
 
-module _ (holds now : Option (List ℕ)) (layout : Layout) (counts counts' : ℕ → Type 0) (totals totals' : Option Totals) (heads : List StreamHead)
+module _ (holds now : Option (List ℕ)) (layout : Layout) (counts counts' : List Placed → Type 0) (totals totals' : Option Totals) (heads : List StreamHead)
     (unended unended' : ℕ) (begun : Bool) (merge merge' : Merging) (fault : Option Fault) (past : Past) (port : ℕ) (x : Item)
     (s : MuxStands holds layout counts totals heads unended begun merge fault past)
     (keeps : totals' ≡ totals_on port totals x) (left : unended' ≡ left_with unended x)
@@ -223,7 +223,7 @@ module _ (holds now : Option (List ℕ)) (layout : Layout) (counts counts' : ℕ
   -- an item was fed to an open stream
   fed_one : (fault' : Option Fault) (bytes : List ℕ) → now ≡ Some bytes
       → (fault' ≡ None → (ext : Ports) → interleaved (length bases) (base_at bases) (and_then then_got ext) ≡ is.items ++ merge'.rest ext)
-      → (fault' ≡ None → counts' (size_for layout is)) → (fault' ≡ None → fits layout.longest (size_for layout is) ≡ true)
+      → (fault' ≡ None → counts' is.items) → (fault' ≡ None → fits layout.longest (size_for layout is) ≡ true)
       → (fault' ≡ None → are_whole (length bases) then_got ≡ false → bytes ≡ unpatched layout bases then_got)
       → (fault' ≡ None → are_whole (length bases) then_got ≡ true → file layout bases then_got ≡ Some bytes)
       → HoldsSmall layout (totals_in bases then_got) bytes is → ((c : Fault) → fault' ≡ Some c → IsOfInputs c → cause_for layout is ≡ Some c)
@@ -278,6 +278,10 @@ module _ (holds now : Option (List ℕ)) (layout : Layout) (counts counts' : ℕ
         ap (interleaved (length bases) (base_at bases)) (then_on past.got port x ext o)
         ∙ (s.1.merges none (before_at port x ext) ∙ ap (λ (ys : List Placed). was.items ++ ys) (sym (fed_rest ext)))
 
+    -- what was decided was counted
+    was_counted : counts was.items
+    was_counted = s.1.counted none
+
     -- what is decided now
     now_decided : is.items ≡ was.items ++ merge_fed.rest silence
     now_decided = ap (interleaved (length bases) (base_at bases)) (sym (then_silence then_got)) ∙ goes_on silence
@@ -300,47 +304,44 @@ module _ (holds now : Option (List ℕ)) (layout : Layout) (counts counts' : ℕ
 
     -- all was written
     mux_wrote : WroteOn layout merge_fed merge' holds now counts counts' begun (unended' == 0) totals' → MuxStands now layout counts' totals' heads unended' true merge' None (fed past port x)
-    mux_wrote w = fed_one None bytes (ended holds now s.0 ((text_before begun layout ++ body layout w.packets) ++ w.pad) w.replaced s.1.told w.ends)
+    mux_wrote w = fed_one None bytes (ended holds now s.0 ((text_before begun layout ++ body layout w.packets) ++ w.tail) w.replaced s.1.told w.ends)
         (λ e ext. goes_on ext ∙ (ap (λ (ys : List Placed). was.items ++ ys) (w.rest ext)
         ∙ (sym (append_assoc was.items w.packets (merge'.rest ext)) ∙ ap (λ (ys : List Placed). ys ++ merge'.rest ext) (sym items))))
-        (λ e. subst counts' (sym size) (w.counted (size_for layout was) (s.1.counted none)))
+        (λ e. subst counts' (sym items) (w.counted was.items was_counted))
         (λ e. fitting) (λ e f. still f) (λ e t. done t) (is, below_self is, small_cause layout is fitting, held) (λ c e i. let clash : None ≡ Some c = e in cc)
       where
         bytes : List ℕ
-        bytes = with_last w.replaced (s.0 ++ ((text_before begun layout ++ body layout w.packets) ++ w.pad))
+        bytes = with_last w.replaced (s.0 ++ ((text_before begun layout ++ body layout w.packets) ++ w.tail))
 
         items : is.items ≡ was.items ++ w.packets
         items = now_decided ∙ (ap (λ (ys : List Placed). was.items ++ ys) (w.rest silence)
             ∙ (ap (λ (ys : List Placed). was.items ++ (w.packets ++ ys)) w.nothing_left ∙ ap (λ (ys : List Placed). was.items ++ ys) (append-nil w.packets)))
 
-        size : size_for layout is ≡ size_for layout was + length (body layout w.packets)
-        size = ap (λ (ys : List Placed). length (body layout ys)) items ∙ size_then layout was.items w.packets
-
         fitting : fits layout.longest (size_for layout is) ≡ true
-        fitting = ap (fits layout.longest) size ∙ w.within (size_for layout was) (s.1.counted none) (s.1.small none)
+        fitting = ap (λ (ys : List Placed). fits layout.longest (length (body layout ys))) items ∙ w.within was.items was_counted (s.1.small none)
 
-        text : s.0 ++ ((text_before begun layout ++ body layout w.packets) ++ w.pad) ≡ written layout is.items ++ w.pad
-        text = sym (append_assoc s.0 (text_before begun layout ++ body layout w.packets) w.pad)
-            ∙ (ap (λ (t : List ℕ). t ++ w.pad) (stands_with w.packets) ∙ ap (λ (ys : List Placed). written layout ys ++ w.pad) (sym items))
+        text : s.0 ++ ((text_before begun layout ++ body layout w.packets) ++ w.tail) ≡ written layout is.items ++ w.tail
+        text = sym (append_assoc s.0 (text_before begun layout ++ body layout w.packets) w.tail)
+            ∙ (ap (λ (t : List ℕ). t ++ w.tail) (stands_with w.packets) ∙ ap (λ (ys : List Placed). written layout ys ++ w.tail) (sym items))
 
         still : are_whole (length bases) then_got ≡ false → bytes ≡ unpatched layout bases then_got
         still f = let m = w.more (ends ∙ f) in
-            ap (λ (r : Option (ℕ × List ℕ)). with_last r (s.0 ++ ((text_before begun layout ++ body layout w.packets) ++ w.pad))) m.1
+            ap (λ (r : Option (ℕ × List ℕ)). with_last r (s.0 ++ ((text_before begun layout ++ body layout w.packets) ++ w.tail))) m.1
             ∙ (text ∙ (ap (λ (p : List ℕ). written layout is.items ++ p) m.0 ∙ (append-nil (written layout is.items) ∙ sym (open_text layout is (ap whole_if f)))))
 
-        whole_text : are_whole (length bases) then_got ≡ true → text_of layout is.items ≡ s.0 ++ ((text_before begun layout ++ body layout w.packets) ++ w.pad)
+        whole_text : are_whole (length bases) then_got ≡ true → text_of layout is.items ≡ s.0 ++ ((text_before begun layout ++ body layout w.packets) ++ w.tail)
         whole_text t = sym (text ∙ ap (λ (p : List ℕ). written layout is.items ++ p)
-            ((w.all (ends ∙ t) (size_for layout was) (s.1.counted none)).0 ∙ ap layout.pad (sym size)))
+            ((w.all (ends ∙ t) was.items was_counted).0 ∙ ap layout.tail (sym items)))
 
         done : are_whole (length bases) then_got ≡ true → file layout bases then_got ≡ Some bytes
         done t =
-            let all = w.all (ends ∙ t) (size_for layout was) (s.1.counted none) in
+            let all = w.all (ends ∙ t) was.items was_counted in
             let totals_is : totals_in bases then_got ≡ totals' = totals_then heads past.got port x there
             ∙ (ap (λ (k : Option Totals). totals_on port k x) (sym s.1.totals_are) ∙ sym keeps) in
             ap (λ (b : Bool). file_for layout (totals_in bases then_got) (record { items = is.items; mark = whole_if b })) t
             ∙ (ap (λ (b : Bool). if b then Some (with_last (layout.last (size_for layout is) (totals_in bases then_got)) (text_of layout is.items)) else None) fitting
-            ∙ (ap (λ (k : ℕ). Some (with_last (layout.last k (totals_in bases then_got)) (text_of layout is.items))) size
-            ∙ (ap (λ (k : Option Totals). Some (with_last (layout.last (size_for layout was + length (body layout w.packets)) k) (text_of layout is.items))) totals_is
+            ∙ (ap (λ (ys : List Placed). Some (with_last (layout.last (length (body layout ys)) (totals_in bases then_got)) (text_of layout is.items))) items
+            ∙ (ap (λ (k : Option Totals). Some (with_last (layout.last (length (body layout (was.items ++ w.packets))) k) (text_of layout is.items))) totals_is
             ∙ (ap (λ (r : Option (ℕ × List ℕ)). Some (with_last r (text_of layout is.items))) (sym all.1)
             ∙ ap (λ (b : List ℕ). Some (with_last w.replaced b)) (whole_text t)))))
 
@@ -354,34 +355,33 @@ module _ (holds now : Option (List ℕ)) (layout : Layout) (counts counts' : ℕ
     mux_stuck : (f : Fault) → (IsOfInputs f → f ≡ TooLarge)
         → StuckOn layout merge_fed holds now counts begun (unended' == 0) f → MuxStands now layout counts' totals' heads unended' true merge' (Some f) (fed past port x)
     mux_stuck f kinds w = fed_one (Some f) (s.0 ++ front.0) front.3 (λ e. absurd (clash e)) (λ e. absurd (clash e)) (λ e. absurd (clash e))
-        (λ e n. absurd (clash e)) (λ e n. absurd (clash e)) (held w.pads)
+        (λ e n. absurd (clash e)) (λ e n. absurd (clash e)) (held w.tails)
         (λ c e i. let same : f ≡ c = cc in subst (λ (k : Fault). cause_for layout is ≡ Some k) same (caused (subst IsOfInputs (sym same) i)))
       where
         clash : Some f ≡ None → ⊥
         clash e = cc
 
-        front : (front rest : List ℕ) × (((text_before begun layout ++ body layout w.packets) ++ w.pad) ≡ front ++ rest) × (now ≡ Some (s.0 ++ front))
-        front = prefixed holds now s.0 ((text_before begun layout ++ body layout w.packets) ++ w.pad) s.1.told w.front
+        front : (front rest : List ℕ) × (((text_before begun layout ++ body layout w.packets) ++ w.tail) ≡ front ++ rest) × (now ≡ Some (s.0 ++ front))
+        front = prefixed holds now s.0 ((text_before begun layout ++ body layout w.packets) ++ w.tail) s.1.told w.front
 
         items : is.items ≡ (was.items ++ w.packets) ++ w.others
         items = now_decided ∙ (ap (λ (ys : List Placed). was.items ++ ys) w.rest ∙ sym (append_assoc was.items w.packets w.others))
 
         counted_small : fits layout.longest (length (body layout (was.items ++ w.packets))) ≡ true
-        counted_small = ap (fits layout.longest) (size_then layout was.items w.packets) ∙ w.within (size_for layout was) (s.1.counted none) (s.1.small none)
+        counted_small = w.within was.items was_counted (s.1.small none)
 
         caused : IsOfInputs f → cause_for layout is ≡ Some f
         caused i =
             let e = kinds i in
-            let size : size_for layout is ≡ size_for layout was + length (body layout (merge_fed.rest silence)) =
-            ap (λ (ys : List Placed). length (body layout ys)) now_decided ∙ size_then layout was.items (merge_fed.rest silence) in
-            large_cause layout is (ap (fits layout.longest) size ∙ w.large e (size_for layout was) (s.1.counted none)) ∙ ap (λ (c : Fault). Some c) (sym e)
+            large_cause layout is (ap (λ (ys : List Placed). fits layout.longest (length (body layout ys))) now_decided ∙ w.large e was.items was_counted)
+            ∙ ap (λ (c : Fault). Some c) (sym e)
 
         -- the bytes and the rest of what was to be written
-        text : (s.0 ++ front.0) ++ front.1 ≡ written layout (was.items ++ w.packets) ++ w.pad
+        text : (s.0 ++ front.0) ++ front.1 ≡ written layout (was.items ++ w.packets) ++ w.tail
         text = append_assoc s.0 front.0 front.1 ∙ (ap (λ (t : List ℕ). s.0 ++ t) (sym front.2)
-            ∙ (sym (append_assoc s.0 (text_before begun layout ++ body layout w.packets) w.pad) ∙ ap (λ (t : List ℕ). t ++ w.pad) (stands_with w.packets)))
+            ∙ (sym (append_assoc s.0 (text_before begun layout ++ body layout w.packets) w.tail) ∙ ap (λ (t : List ℕ). t ++ w.tail) (stands_with w.packets)))
 
-        held : ((w.pad ≡ []) ⊎ (((unended' == 0) ≡ true) × (w.others ≡ []) × ((n : ℕ) → counts n → w.pad ≡ layout.pad (n + length (body layout w.packets)))))
+        held : ((w.tail ≡ []) ⊎ (((unended' == 0) ≡ true) × (w.others ≡ []) × ((ps : List Placed) → counts ps → w.tail ≡ layout.tail (ps ++ w.packets))))
             → HoldsSmall layout (totals_in bases then_got) (s.0 ++ front.0) is
         held (inl e) =
             let r : Stream Placed = record { items = was.items ++ w.packets; mark = still_open } in (
@@ -392,16 +392,14 @@ module _ (holds now : Option (List ℕ)) (layout : Layout) (counts counts' : ℕ
             )
         held (inr a) =
             let all : is.items ≡ was.items ++ w.packets = items ∙ (ap (λ (ys : List Placed). (was.items ++ w.packets) ++ ys) a.1 ∙ append-nil (was.items ++ w.packets)) in
-            let pad : w.pad ≡ layout.pad (size_for layout is) =
-            a.2 (size_for layout was) (s.1.counted none)
-            ∙ ap layout.pad (sym (ap (λ (ys : List Placed). length (body layout ys)) all ∙ size_then layout was.items w.packets)) in (
+            let tail : w.tail ≡ layout.tail is.items = a.2 was.items was_counted ∙ ap layout.tail (sym all) in (
               is,
               below_self is,
               small_cause layout is (ap (λ (ys : List Placed). fits layout.longest (length (body layout ys))) all ∙ counted_small),
               inl (
                 front.1,
-                text ∙ (ap (λ (ys : List Placed). written layout ys ++ w.pad) (sym all)
-                    ∙ (ap (λ (p : List ℕ). written layout is.items ++ p) pad
+                text ∙ (ap (λ (ys : List Placed). written layout ys ++ w.tail) (sym all)
+                    ∙ (ap (λ (p : List ℕ). written layout is.items ++ p) tail
                     ∙ sym (ap (λ (b : Bool). text_for layout (record { items = is.items; mark = whole_if b })) (sym ends ∙ a.0)))),
               ),
             )

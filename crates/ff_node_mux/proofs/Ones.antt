@@ -4,11 +4,11 @@ use mathlib.Core.List.{IsPrefix}
 use Rattle.ff_time.specs.Fraction.{Fraction}
 use Rattle.ff_stream.specs.declared.item.Item.{Item}
 use Rattle.ff_stream.specs.declared.item.Item.TheVariants.{Audio, Video, Packet, Trailer, End, Broken}
-use Rattle.ff_stream.specs.Stream.{still_open, Stream, LiesBelow}
+use Rattle.ff_stream.specs.Stream.{still_open, Stream, LiesBelow, is_whole}
 use Rattle.ff_stream.specs.Order.{same_stream, below_self}
 use Rattle.ff_stream.specs.Ports.{stream_at}
 use Rattle.ff_host.specs.declared.sink.Sink.{Ghosts as SinkGhosts}
-use Rattle.ff_node_mux.specs.merge.Merges.{Placed, is_whole, packets_of, placed}
+use Rattle.ff_node_mux.specs.merge.Merges.{Placed, packets_of, placed}
 use Rattle.ff_node_mux.specs.merge.Queues.{base_at}
 use Rattle.ff_node_mux.specs.merge.Alike.{interleaved_one}
 use Rattle.ff_net.specs.Pasts.{Past}

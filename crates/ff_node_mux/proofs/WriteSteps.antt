@@ -1,5 +1,5 @@
 -- What is written of what is decided, packet by packet.
-use Rattle.std.proofs.Common.{◌≡◌, ◌⊎◌, inl, inr, ℕ, ◌+◌, Bool, true, false, List, [], ◌∷◌, ◌++◌, length, Option, Some, None, refl, ap, sym, ◌∙◌, subst, arith, append_assoc, append-nil, length-append}
+use Rattle.std.proofs.Common.{◌≡◌, ◌⊎◌, inl, inr, ℕ, Bool, true, false, List, [], ◌∷◌, ◌++◌, length, Option, Some, None, refl, ap, sym, ◌∙◌, subst, append_assoc, append-nil}
 use Rattle.std.specs.Prelude.{IfSome, IsSome}
 use Rattle.std.specs.Io.KnownBytes.{Appends}
 use Rattle.ff_filter.specs.Joins.{Ports, silence}
@@ -12,99 +12,81 @@ use Rattle.ff_net.specs.declared.fault.Fault.TheVariants.{TooLarge, NoMemory}
 use Rattle.ff_net.specs.Laws.{IsOfInputs}
 use Rattle.ff_frame.specs.declared.totals.Totals.{Totals}
 use Rattle.ff_format.specs.Layouts.{Layout, body, fits, IsBeyond}
-use Rattle.ff_node_mux.specs.Growing.{body_more}
+use Rattle.ff_node_mux.specs.Growing.{body_more, size_less}
 use Rattle.ff_node_mux.specs.Writing.{text_before, EndsAs, StaysWithin, Wrote, WroteAll, Stuck, WroteOn, StuckOn}
-use Rattle.ff_node_mux.proofs.Texts.{adds_none, front_none, size_then, within_fits, beyond_fits, still_beyond}
-
-no_more : (n : ℕ) → n ≡ n + 0
-no_more n = omega arith
-
-in_turn : (n a b : ℕ) → (n + a) + b ≡ n + (a + b)
-in_turn n a b = omega arith
+use Rattle.ff_node_mux.proofs.Texts.{adds_none, front_none, within_fits, beyond_fits, still_beyond}
 
 module _ (layout : Layout) where
   -- nothing was written
-  within_none : (counts : ℕ → Type 0) → StaysWithin layout counts []
-  within_none counts n c f = ap (fits layout.longest) (sym (no_more n)) ∙ f
+  within_none : (counts : List Placed → Type 0) → StaysWithin layout counts []
+  within_none counts ps c f = ap (λ (xs : List Placed). fits layout.longest (length (body layout xs))) (append-nil ps) ∙ f
 
-  pub wrote_none : (old new : Merging) (held : Option (List ℕ)) (counts : ℕ → Type 0) → ((ext : Ports) → new.rest ext ≡ old.rest ext)
+  pub wrote_none : (old new : Merging) (held : Option (List ℕ)) (counts : List Placed → Type 0) → ((ext : Ports) → new.rest ext ≡ old.rest ext)
       → Wrote layout old new held held counts counts []
   wrote_none old new held counts same = record {
     rest = λ ext. sym (same ext);
     text = adds_none held;
-    counted = λ n c. subst counts (no_more n) c;
+    counted = λ ps c. subst counts (sym (append-nil ps)) c;
     within = within_none counts;
   }
 
   -- a packet was
-  module _ (y : Placed) (text : List ℕ) (is : text ≡ layout.text y.0 y.1) where
-    of_one : text ≡ body layout (y ∷ [])
-    of_one = is ∙ sym (append-nil (layout.text y.0 y.1))
+  module _ (y : Placed) where
+    abbrev text : List ℕ
+    text = layout.text y.0 y.1
 
-    pub wrote_one : (old new : Merging) (before now : Option (List ℕ)) (counts counts' : ℕ → Type 0) → ((ext : Ports) → old.rest ext ≡ y ∷ new.rest ext)
-        → Appends before now text → ((n : ℕ) → counts n → counts' (n + length text))
-        → ((n : ℕ) → counts n → IsBeyond layout.longest (n + length text) → ⊥) → Wrote layout old new before now counts counts' (y ∷ [])
+    of_one : text ≡ body layout (y ∷ [])
+    of_one = sym (append-nil (layout.text y.0 y.1))
+
+    pub wrote_one : (old new : Merging) (before now : Option (List ℕ)) (counts counts' : List Placed → Type 0) → ((ext : Ports) → old.rest ext ≡ y ∷ new.rest ext)
+        → Appends before now text → ((ps : List Placed) → counts ps → counts' (ps ++ y ∷ []))
+        → ((ps : List Placed) → counts ps → IsBeyond layout.longest (length (body layout (ps ++ y ∷ []))) → ⊥) → Wrote layout old new before now counts counts' (y ∷ [])
     wrote_one old new before now counts counts' rest adds counted within = record {
       rest = rest;
       text = subst (λ (t : List ℕ). Appends before now t) of_one adds;
-      counted = subst (λ (t : List ℕ). (n : ℕ) → counts n → counts' (n + length t)) of_one counted;
-      within = λ n c f. ap (λ (t : List ℕ). fits layout.longest (n + length t)) (sym of_one) ∙ within_fits layout.longest (n + length text) (within n c);
+      counted = counted;
+      within = λ ps c f. within_fits layout.longest (length (body layout (ps ++ y ∷ []))) (within ps c);
     }
 
-    large_one : (n : ℕ) (ys zs : List Placed) → ys ≡ y ∷ zs → IsBeyond layout.longest (n + length text) → fits layout.longest (n + length (body layout ys)) ≡ false
-    large_one n ys zs e b =
-        let size : length (body layout ys) ≡ length text + length (body layout zs) =
-        ap (λ (xs : List Placed). length (body layout xs)) e
-        ∙ (length-append (layout.text y.0 y.1) (body layout zs) ∙ ap (λ (t : List ℕ). length t + length (body layout zs)) (sym is)) in
-        still_beyond layout.longest (n + length text) (n + length (body layout ys)) (beyond_fits layout.longest (n + length text) b) (omega (arith, size))
+    large_one : (ps ys zs : List Placed) → ys ≡ y ∷ zs → IsBeyond layout.longest (length (body layout (ps ++ y ∷ []))) → fits layout.longest (length (body layout (ps ++ ys))) ≡ false
+    large_one ps ys zs e b = still_beyond layout.longest (length (body layout (ps ++ y ∷ []))) (length (body layout (ps ++ ys)))
+        (beyond_fits layout.longest (length (body layout (ps ++ y ∷ []))) b)
+        (size_less layout (ps ++ y ∷ []) (ps ++ ys) zs (append_assoc ps (y ∷ []) zs ∙ ap (λ (xs : List Placed). ps ++ xs) (sym e)))
 
     -- or not all of it
-    pub stuck_one : (old new : Merging) (before now : Option (List ℕ)) (counts : ℕ → Type 0) (f : Fault) → ((ext : Ports) → old.rest ext ≡ y ∷ new.rest ext)
-        → AppendsPrefix before now [] ⊎ (((n : ℕ) → counts n → IsBeyond layout.longest (n + length text) → ⊥) × AppendsPrefix before now text)
-        → (f ≡ TooLarge → (n : ℕ) → counts n → IsBeyond layout.longest (n + length text)) → Stuck layout old before now counts f
+    pub stuck_one : (old new : Merging) (before now : Option (List ℕ)) (counts : List Placed → Type 0) (f : Fault) → ((ext : Ports) → old.rest ext ≡ y ∷ new.rest ext)
+        → AppendsPrefix before now [] ⊎ (((ps : List Placed) → counts ps → IsBeyond layout.longest (length (body layout (ps ++ y ∷ []))) → ⊥) × AppendsPrefix before now text)
+        → (f ≡ TooLarge → (ps : List Placed) → counts ps → IsBeyond layout.longest (length (body layout (ps ++ y ∷ [])))) → Stuck layout old before now counts f
     stuck_one old new before now counts f rest (inl p) large = record {
       packets = [];
       others = old.rest silence;
       rest = refl;
       front = p;
       within = within_none counts;
-      large = λ e n c. large_one n (old.rest silence) (new.rest silence) (rest silence) (large e n c);
+      large = λ e ps c. large_one ps (old.rest silence) (new.rest silence) (rest silence) (large e ps c);
     }
     stuck_one old new before now counts f rest (inr p) large = record {
       packets = y ∷ [];
       others = new.rest silence;
       rest = rest silence;
       front = subst (λ (t : List ℕ). AppendsPrefix before now t) of_one p.1;
-      within = λ n c g. ap (λ (t : List ℕ). fits layout.longest (n + length t)) (sym of_one) ∙ within_fits layout.longest (n + length text) (p.0 n c);
-      large = λ e n c. large_one n (old.rest silence) (new.rest silence) (rest silence) (large e n c);
+      within = λ ps c g. within_fits layout.longest (length (body layout (ps ++ y ∷ []))) (p.0 ps c);
+      large = λ e ps c. large_one ps (old.rest silence) (new.rest silence) (rest silence) (large e ps c);
     }
 
-  -- no memory for the text of the next one
-  pub stuck_none : (old : Merging) (held : Option (List ℕ)) (counts : ℕ → Type 0) → Stuck layout old held held counts NoMemory
-  stuck_none old held counts = record {
-    packets = [];
-    others = old.rest silence;
-    rest = refl;
-    front = front_none held;
-    within = within_none counts;
-    large = λ e. cc;
-  }
-
-  module _ (old mid : Merging) (before between now : Option (List ℕ)) (counts counts' : ℕ → Type 0) (ys : List Placed) (w : Wrote layout old mid before between counts counts' ys) where
+  module _ (old mid : Merging) (before between now : Option (List ℕ)) (counts counts' : List Placed → Type 0) (ys : List Placed) (w : Wrote layout old mid before between counts counts' ys) where
     within_more : (zs : List Placed) → StaysWithin layout counts' zs → StaysWithin layout counts (ys ++ zs)
-    within_more zs h n c f =
-        ap (λ (k : ℕ). fits layout.longest (n + k)) (size_then layout ys zs)
-        ∙ (ap (fits layout.longest) (sym (in_turn n (length (body layout ys)) (length (body layout zs))))
-        ∙ h (n + length (body layout ys)) (w.counted n c) (w.within n c f))
+    within_more zs h ps c f =
+        ap (λ (xs : List Placed). fits layout.longest (length (body layout xs))) (sym (append_assoc ps ys zs))
+        ∙ h (ps ++ ys) (w.counted ps c) (w.within ps c f)
 
     -- further packets were written
-    pub wrote_more : (new : Merging) (counts'' : ℕ → Type 0) (zs : List Placed) → Wrote layout mid new between now counts' counts'' zs
+    pub wrote_more : (new : Merging) (counts'' : List Placed → Type 0) (zs : List Placed) → Wrote layout mid new between now counts' counts'' zs
         → Wrote layout old new before now counts counts'' (ys ++ zs)
     wrote_more new counts'' zs v = record {
       rest = λ ext. w.rest ext ∙ (ap (λ (xs : List Placed). ys ++ xs) (v.rest ext) ∙ sym (append_assoc ys zs (new.rest ext)));
       text = subst (λ (t : List ℕ). Appends before now t) (sym (body_more layout ys zs)) (grows before between now (body layout ys) (body layout zs) w.text v.text);
-      counted = λ n c. subst counts'' (in_turn n (length (body layout ys)) (length (body layout zs)) ∙ ap (λ (k : ℕ). n + k) (sym (size_then layout ys zs)))
-          (v.counted (n + length (body layout ys)) (w.counted n c));
+      counted = λ ps c. subst counts'' (append_assoc ps ys zs) (v.counted (ps ++ ys) (w.counted ps c));
       within = within_more zs v.within;
     }
 
@@ -118,15 +100,14 @@ module _ (layout : Layout) where
           front = front_after before between now (body layout ys) (body layout v.packets) [] (body layout (ys ++ v.packets)) w.text v.front
               (body_more layout ys v.packets ∙ sym (append-nil (body layout ys ++ body layout v.packets)));
           within = within_more v.packets v.within;
-          large = λ e n c. ap (λ (xs : List Placed). fits layout.longest (n + length (body layout xs))) all
-              ∙ (ap (λ (k : ℕ). fits layout.longest (n + k)) (size_then layout ys (mid.rest silence))
-              ∙ (ap (fits layout.longest) (sym (in_turn n (length (body layout ys)) (length (body layout (mid.rest silence)))))
-              ∙ v.large e (n + length (body layout ys)) (w.counted n c)));
+          large = λ e ps c. ap (λ (xs : List Placed). fits layout.longest (length (body layout (ps ++ xs)))) all
+              ∙ (ap (λ (xs : List Placed). fits layout.longest (length (body layout xs))) (sym (append_assoc ps ys (mid.rest silence)))
+              ∙ v.large e (ps ++ ys) (w.counted ps c));
         }
 
   -- ---- with what stands before the packets, and what follows them
 
-  module _ (old : Merging) (before : Option (List ℕ)) (counts : ℕ → Type 0) (begun whole : Bool) where
+  module _ (old : Merging) (before : Option (List ℕ)) (counts : List Placed → Type 0) (begun whole : Bool) where
     -- nothing of the packets was written
     pub stuck_early : (now : Option (List ℕ)) (some : List ℕ) (others : List ℕ) (f : Fault) → AppendsPrefix before now some → text_before begun layout ≡ some ++ others
         → (f ≡ TooLarge → ⊥) → StuckOn layout old before now counts begun whole f
@@ -134,10 +115,10 @@ module _ (layout : Layout) where
       packets = [];
       others = old.rest silence;
       rest = refl;
-      pad = [];
+      tail = [];
       front = front_of before now some others ((text_before begun layout ++ []) ++ []) front
           (append-nil (text_before begun layout ++ []) ∙ (append-nil (text_before begun layout) ∙ e));
-      pads = inl refl;
+      tails = inl refl;
       within = within_none counts;
       large = λ t. absurd (clash t);
     }
@@ -155,15 +136,15 @@ module _ (layout : Layout) where
       packets = v.packets;
       others = v.others;
       rest = v.rest;
-      pad = [];
+      tail = [];
       front = front_after before between now (text_before begun layout) (body layout v.packets) [] ((text_before begun layout ++ body layout v.packets) ++ [])
           (subst (λ (t : List ℕ). Appends before between t) is adds) v.front refl;
-      pads = inl refl;
+      tails = inl refl;
       within = v.within;
       large = v.large;
     }
 
-    module _ (new : Merging) (between written : Option (List ℕ)) (counts' : ℕ → Type 0) (text : List ℕ) (adds : Appends before between text) (is : text ≡ text_before begun layout)
+    module _ (new : Merging) (between written : Option (List ℕ)) (counts' : List Placed → Type 0) (text : List ℕ) (adds : Appends before between text) (is : text ≡ text_before begun layout)
         (w : WroteAll layout old new between written counts counts') where
       all_added : Appends before written (text_before begun layout ++ body layout w.packets)
       all_added = grows before between written (text_before begun layout) (body layout w.packets) (subst (λ (t : List ℕ). Appends before between t) is adds) w.wrote.text
@@ -179,7 +160,7 @@ module _ (layout : Layout) where
         nothing_left = w.nothing_left;
         counted = w.wrote.counted;
         within = w.wrote.within;
-        pad = [];
+        tail = [];
         replaced = None;
         ends = (written, subst (λ (t : List ℕ). Appends before written t) (sym (append-nil (text_before begun layout ++ body layout w.packets))) all_added, refl);
         more = λ f. (refl, refl);
@@ -192,46 +173,47 @@ module _ (layout : Layout) where
         packets = w.packets;
         others = [];
         rest = all_came;
-        pad = [];
+        tail = [];
         front = front_after before written written (text_before begun layout ++ body layout w.packets) [] [] ((text_before begun layout ++ body layout w.packets) ++ [])
             all_added (front_none written) (ap (λ (t : List ℕ). t ++ []) (sym (append-nil (text_before begun layout ++ body layout w.packets))));
-        pads = inl refl;
+        tails = inl refl;
         within = w.wrote.within;
         large = λ e. cc;
       }
 
-      module _ (now : Option (List ℕ)) (pad : List ℕ) (pads : (n : ℕ) → counts' n → pad ≡ layout.pad n) (ended : whole ≡ true) where
+      module _ (now : Option (List ℕ)) (tail : List ℕ) (tails : (ps : List Placed) → counts' ps → tail ≡ layout.tail ps) (ended : whole ≡ true) where
         -- the end too
-        pub wrote_to_end : (replaced : Option (ℕ × List ℕ)) (totals : Option Totals) → ((n : ℕ) → counts' n → replaced ≡ layout.last n totals)
-            → EndsAs written now pad replaced → WroteOn layout old new before now counts counts' begun whole totals
+        pub wrote_to_end : (replaced : Option (ℕ × List ℕ)) (totals : Option Totals)
+            → ((ps : List Placed) → counts' ps → replaced ≡ layout.last (length (body layout ps)) totals)
+            → EndsAs written now tail replaced → WroteOn layout old new before now counts counts' begun whole totals
         wrote_to_end replaced totals lasts e = record {
           packets = w.packets;
           rest = w.wrote.rest;
           nothing_left = w.nothing_left;
           counted = w.wrote.counted;
           within = w.wrote.within;
-          pad = pad;
+          tail = tail;
           replaced = replaced;
-          ends = (e.0, grows before written e.0 (text_before begun layout ++ body layout w.packets) pad all_added e.1, e.2);
+          ends = (e.0, grows before written e.0 (text_before begun layout ++ body layout w.packets) tail all_added e.1, e.2);
           more = λ f. let clash : true ≡ false = sym ended ∙ f in cc;
-          all = λ t n c. (pads (n + length (body layout w.packets)) (w.wrote.counted n c), lasts (n + length (body layout w.packets)) (w.wrote.counted n c));
+          all = λ t ps c. (tails (ps ++ w.packets) (w.wrote.counted ps c), lasts (ps ++ w.packets) (w.wrote.counted ps c));
         }
 
         -- or not all of it
-        pub stuck_in_end : (f : Fault) → (f ≡ TooLarge → ⊥) → AppendsPrefix written now pad → StuckOn layout old before now counts begun whole f
+        pub stuck_in_end : (f : Fault) → (f ≡ TooLarge → ⊥) → AppendsPrefix written now tail → StuckOn layout old before now counts begun whole f
         stuck_in_end f clash p = record {
           packets = w.packets;
           others = [];
           rest = all_came;
-          pad = pad;
-          front = front_after before written now (text_before begun layout ++ body layout w.packets) pad [] ((text_before begun layout ++ body layout w.packets) ++ pad)
-              all_added p (sym (append-nil ((text_before begun layout ++ body layout w.packets) ++ pad)));
-          pads = inr (ended, refl, λ n c. pads (n + length (body layout w.packets)) (w.wrote.counted n c));
+          tail = tail;
+          front = front_after before written now (text_before begun layout ++ body layout w.packets) tail [] ((text_before begun layout ++ body layout w.packets) ++ tail)
+              all_added p (sym (append-nil ((text_before begun layout ++ body layout w.packets) ++ tail)));
+          tails = inr (ended, refl, λ ps c. tails (ps ++ w.packets) (w.wrote.counted ps c));
           within = w.wrote.within;
           large = λ e. absurd (clash e);
         }
 
-        pub stuck_last : (r : Option Fault) → (IsSome r → AppendsPrefix written now pad) → IfSome r (λ c. IsOfInputs c → ⊥)
+        pub stuck_last : (r : Option Fault) → (IsSome r → AppendsPrefix written now tail) → IfSome r (λ c. IsOfInputs c → ⊥)
             → IfSome r (λ f. StuckOn layout old before now counts begun whole f)
         stuck_last None front kinds = tt
         stuck_last (Some f) front kinds = stuck_in_end f (λ e. kinds (subst IsOfInputs (sym e) tt)) (front refl)

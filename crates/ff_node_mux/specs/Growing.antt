@@ -31,7 +31,7 @@ module _ (layout : Layout) where
   -- what is written of the packets stands in front of the text
   written_front : (m : Mark) (packets : List Placed) → IsPrefix (written layout packets) (text_by layout m packets)
   written_front still_open packets = prefix_self (written layout packets)
-  written_front whole packets = (layout.pad (length (body layout packets)), refl)
+  written_front whole packets = (layout.tail packets, refl)
   written_front broken packets = prefix_self (written layout packets)
 
   pub open_text : (r : Stream Placed) → r.mark ≡ still_open → text_for layout r ≡ written layout r.items
@@ -66,7 +66,7 @@ module _ (layout : Layout) where
 
   -- ---- sizes
 
-  size_less : (xs ys zs : List Placed) → xs ++ zs ≡ ys → length (body layout xs) ≤ length (body layout ys)
+  pub size_less : (xs ys zs : List Placed) → xs ++ zs ≡ ys → length (body layout xs) ≤ length (body layout ys)
   size_less xs ys zs e =
       let more : body layout xs ++ body layout zs ≡ body layout ys = sym (body_more xs zs) ∙ ap (λ (is : List Placed). body layout is) e in
       omega (arith, ap length more, length-append (body layout xs) (body layout zs))

@@ -9,10 +9,10 @@ use Rattle.ff_stream.specs.declared.item.Item.{Item}
 use Rattle.ff_stream.specs.declared.item.Item.TheVariants.{Audio, Video, Packet, Trailer, End, Broken}
 use Rattle.ff_stream.specs.declared.item.Lane.TheVariants.{Packets as PacketLane}
 use Rattle.ff_stream.specs.Lanes.{IsValid}
-use Rattle.ff_stream.specs.Stream.{Mark, still_open, whole, broken, LiesBelow, opened, opened_mark}
+use Rattle.ff_stream.specs.Stream.{Mark, still_open, whole, broken, LiesBelow, opened, opened_mark, is_whole}
 use Rattle.ff_stream.specs.Order.{same_stream, closed_below, stream_at-opened}
 use Rattle.ff_stream.specs.Ports.{nothing, stream_at, AllBelow, IsWhole}
-use Rattle.ff_node_mux.specs.merge.Merges.{is_whole, packets_of, packets_in}
+use Rattle.ff_node_mux.specs.merge.Merges.{packets_of, packets_in}
 use Rattle.ff_node_mux.specs.merge.Queues.{base_at}
 use Rattle.ff_node_mux.specs.merge.Alike.{interleaved_alike}
 use Rattle.ff_node_mux.specs.merge.Ordered.{stays}

@@ -14,10 +14,10 @@ use Rattle.ff_stream.specs.declared.item.Item.{Item}
 use Rattle.ff_stream.specs.declared.item.Item.TheVariants.{Audio, Video, Packet, Trailer, End, Broken}
 use Rattle.ff_stream.specs.declared.item.Lane.{Lane}
 use Rattle.ff_stream.specs.declared.item.Lane.TheVariants.{Packets}
-use Rattle.ff_stream.specs.Stream.{Mark, still_open, whole, broken, Stream, whole_stream, LiesBelow}
+use Rattle.ff_stream.specs.Stream.{Mark, still_open, whole, broken, Stream, whole_stream, LiesBelow, is_whole}
 use Rattle.ff_stream.specs.Ports.{nothing, stream_at, IsClosed}
 use Rattle.ff_filter.specs.Joins.{Ports, joined}
-use Rattle.ff_node_mux.specs.merge.Merges.{Placed, is_whole, packets_of, packets_in, placed, interleaved}
+use Rattle.ff_node_mux.specs.merge.Merges.{Placed, packets_of, packets_in, placed, interleaved}
 use Rattle.ff_node_mux.specs.merge.Queues.{Merging, base_at}
 use Rattle.ff_net.specs.declared.fault.Fault.{Fault}
 use Rattle.ff_net.specs.declared.fault.Fault.TheVariants.{TooLarge}
@@ -193,9 +193,9 @@ NothingCame ss = (p : ℕ) → stream_at ss p ≡ nothing
 abbrev pub and_then : List Flow → Ports → ℕ → Stream Pkt
 and_then ss ext p = packets_in (joined (stream_at ss p) (ext p))
 
--- The sink holds these bytes, of the streams that were fed. `counts` ties the writer to how many bytes of packets it counted; `merge`
--- is what the machine that interleaves shows.
-pub record Muxes (holds : Option (List ℕ)) (layout : Layout) (counts : ℕ → Type 0) (totals : Option Totals) (heads : List StreamHead)
+-- The sink holds these bytes, of the streams that were fed. `counts` ties the writer to the packets that it counted; `merge` is
+-- what the machine that interleaves shows.
+pub record Muxes (holds : Option (List ℕ)) (layout : Layout) (counts : List Placed → Type 0) (totals : Option Totals) (heads : List StreamHead)
     (unended : ℕ) (begun : Bool) (merge : Merging) (fault : Option Fault) (past : Past) (bytes : List ℕ) : Type 0 where
   pub task : past.task ≡ mux_task_of layout (head_bases heads) past.task.tells
   pub valid : AreValid (head_lanes heads) past.got
@@ -214,7 +214,7 @@ pub record Muxes (holds : Option (List ℕ)) (layout : Layout) (counts : ℕ →
   pub merges : fault ≡ None → (ext : Ports) → interleaved (length (head_bases heads)) (base_at (head_bases heads)) (and_then past.got ext)
       ≡ (mixed (head_bases heads) past.got).items ++ merge.rest ext
   -- each packet of it was counted, and they aren't too many bytes;
-  pub counted : fault ≡ None → counts (size_for layout (mixed (head_bases heads) past.got))
+  pub counted : fault ≡ None → counts (mixed (head_bases heads) past.got).items
   pub small : fault ≡ None → fits layout.longest (size_for layout (mixed (head_bases heads) past.got)) ≡ true
   -- all that is written of the streams is held,
   pub exact : fault ≡ None → begun ≡ true → are_whole (length (head_bases heads)) past.got ≡ false → bytes ≡ unpatched layout (head_bases heads) past.got
@@ -224,6 +224,6 @@ pub record Muxes (holds : Option (List ℕ)) (layout : Layout) (counts : ℕ →
   pub front : HoldsSmall layout (totals_in (head_bases heads) past.got) bytes (mixed (head_bases heads) past.got)
   pub caused : (c : Fault) → fault ≡ Some c → IsOfInputs c → mux_cause layout (head_bases heads) past.got ≡ Some c
 
-abbrev pub MuxStands : Option (List ℕ) → Layout → (ℕ → Type 0) → Option Totals → List StreamHead → ℕ → Bool → Merging → Option Fault → Past → Type 0
+abbrev pub MuxStands : Option (List ℕ) → Layout → (List Placed → Type 0) → Option Totals → List StreamHead → ℕ → Bool → Merging → Option Fault → Past → Type 0
 MuxStands holds layout counts totals heads unended begun merge fault past =
     (bytes : List ℕ) × Muxes holds layout counts totals heads unended begun merge fault past bytes

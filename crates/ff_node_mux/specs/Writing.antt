@@ -38,54 +38,56 @@ pub record Alike (old new : Merging) : Type 0 where
   pub bases : new.bases ≡ old.bases
   pub shut : (p : ℕ) → new.shut p ≡ old.shut p
 
--- So many bytes of packets being within what the format holds, they are so with these packets too.
-abbrev pub StaysWithin : Layout → (ℕ → Type 0) → List Placed → Type 0
-StaysWithin layout counts ys = (n : ℕ) → counts n → fits layout.longest n ≡ true → fits layout.longest (n + length (body layout ys)) ≡ true
+-- The packets that were counted being within what the format holds, they are so with these too.
+abbrev pub StaysWithin : Layout → (List Placed → Type 0) → List Placed → Type 0
+StaysWithin layout counts ys = (ps : List Placed) → counts ps → fits layout.longest (length (body layout ps)) ≡ true
+    → fits layout.longest (length (body layout (ps ++ ys))) ≡ true
 
 -- these packets came out of the merge next, were counted, and were written
-pub record Wrote (layout : Layout) (old new : Merging) (before now : Option (List ℕ)) (counts counts' : ℕ → Type 0) (ys : List Placed) : Type 0 where
+pub record Wrote (layout : Layout) (old new : Merging) (before now : Option (List ℕ)) (counts counts' : List Placed → Type 0) (ys : List Placed) : Type 0 where
   pub rest : (ext : Ports) → old.rest ext ≡ ys ++ new.rest ext
   pub text : Appends before now (body layout ys)
-  pub counted : (n : ℕ) → counts n → counts' (n + length (body layout ys))
+  pub counted : (ps : List Placed) → counts ps → counts' (ps ++ ys)
   pub within : StaysWithin layout counts ys
 
 -- all that is decided was written
-pub record WroteAll (layout : Layout) (old new : Merging) (before now : Option (List ℕ)) (counts counts' : ℕ → Type 0) : Type 0 where
+pub record WroteAll (layout : Layout) (old new : Merging) (before now : Option (List ℕ)) (counts counts' : List Placed → Type 0) : Type 0 where
   pub packets : List Placed
   pub wrote : Wrote layout old new before now counts counts' packets
   pub nothing_left : new.rest silence ≡ []
 
 -- Of what is decided the packets in front were counted, and a front of their text was written; TooLarge comes only where all of it
 -- would be more bytes than the format holds.
-pub record Stuck (layout : Layout) (old : Merging) (before now : Option (List ℕ)) (counts : ℕ → Type 0) (fault : Fault) : Type 0 where
+pub record Stuck (layout : Layout) (old : Merging) (before now : Option (List ℕ)) (counts : List Placed → Type 0) (fault : Fault) : Type 0 where
   pub packets : List Placed
   pub others : List Placed
   pub rest : old.rest silence ≡ packets ++ others
   pub front : AppendsPrefix before now (body layout packets)
   pub within : StaysWithin layout counts packets
-  pub large : fault ≡ TooLarge → (n : ℕ) → counts n → fits layout.longest (n + length (body layout (old.rest silence))) ≡ false
+  pub large : fault ≡ TooLarge → (ps : List Placed) → counts ps → fits layout.longest (length (body layout (ps ++ old.rest silence))) ≡ false
 
 -- What stands before the packets was written, where nothing was written yet, all that is decided, and where each stream is whole what
 -- follows the packets and what takes the place of bytes.
-pub record WroteOn (layout : Layout) (old new : Merging) (before now : Option (List ℕ)) (counts counts' : ℕ → Type 0) (begun whole : Bool) (totals : Option Totals) : Type 0 where
+pub record WroteOn (layout : Layout) (old new : Merging) (before now : Option (List ℕ)) (counts counts' : List Placed → Type 0) (begun whole : Bool) (totals : Option Totals) : Type 0 where
   pub packets : List Placed
   pub rest : (ext : Ports) → old.rest ext ≡ packets ++ new.rest ext
   pub nothing_left : new.rest silence ≡ []
-  pub counted : (n : ℕ) → counts n → counts' (n + length (body layout packets))
+  pub counted : (ps : List Placed) → counts ps → counts' (ps ++ packets)
   pub within : StaysWithin layout counts packets
-  pub pad : List ℕ
+  pub tail : List ℕ
   pub replaced : Option (ℕ × List ℕ)
-  pub ends : EndsAs before now ((text_before begun layout ++ body layout packets) ++ pad) replaced
-  pub more : whole ≡ false → (pad ≡ []) × (replaced ≡ None)
-  pub all : whole ≡ true → (n : ℕ) → counts n → (pad ≡ layout.pad (n + length (body layout packets))) × (replaced ≡ layout.last (n + length (body layout packets)) totals)
+  pub ends : EndsAs before now ((text_before begun layout ++ body layout packets) ++ tail) replaced
+  pub more : whole ≡ false → (tail ≡ []) × (replaced ≡ None)
+  pub all : whole ≡ true → (ps : List Placed) → counts ps
+      → (tail ≡ layout.tail (ps ++ packets)) × (replaced ≡ layout.last (length (body layout (ps ++ packets))) totals)
 
 -- only a front of that was written
-pub record StuckOn (layout : Layout) (old : Merging) (before now : Option (List ℕ)) (counts : ℕ → Type 0) (begun whole : Bool) (fault : Fault) : Type 0 where
+pub record StuckOn (layout : Layout) (old : Merging) (before now : Option (List ℕ)) (counts : List Placed → Type 0) (begun whole : Bool) (fault : Fault) : Type 0 where
   pub packets : List Placed
   pub others : List Placed
   pub rest : old.rest silence ≡ packets ++ others
-  pub pad : List ℕ
-  pub front : AppendsPrefix before now ((text_before begun layout ++ body layout packets) ++ pad)
-  pub pads : (pad ≡ []) ⊎ ((whole ≡ true) × (others ≡ []) × ((n : ℕ) → counts n → pad ≡ layout.pad (n + length (body layout packets))))
+  pub tail : List ℕ
+  pub front : AppendsPrefix before now ((text_before begun layout ++ body layout packets) ++ tail)
+  pub tails : (tail ≡ []) ⊎ ((whole ≡ true) × (others ≡ []) × ((ps : List Placed) → counts ps → tail ≡ layout.tail (ps ++ packets)))
   pub within : StaysWithin layout counts packets
-  pub large : fault ≡ TooLarge → (n : ℕ) → counts n → fits layout.longest (n + length (body layout (old.rest silence))) ≡ false
+  pub large : fault ≡ TooLarge → (ps : List Placed) → counts ps → fits layout.longest (length (body layout (ps ++ old.rest silence))) ≡ false

@@ -3,6 +3,7 @@ ghost use Rattle.std.specs.Prelude.{◌≡◌, ◌≢◌, ◌≤◌, ◌<◌, �
 ghost use Rattle.ff_time.specs.Fraction.{Fraction};
 ghost use Rattle.ff_stream.specs.Stream.{LiesBelow};
 ghost use Rattle.ff_stream.specs.Ports.{stream_at, IsClosed, IsWhole};
+ghost use Rattle.ff_node_mux.specs.merge.Merges.{Placed};
 ghost use Rattle.ff_node_mux.specs.merge.Queues.{merging, base_at, IsNew};
 ghost use Rattle.ff_net.specs.Pasts.{Past, start};
 ghost use Rattle.ff_net.specs.Ways.{Flow};
@@ -12,15 +13,14 @@ ghost use Rattle.ff_node_mux.specs.Held.{HoldsPart};
 ghost use Rattle.ff_node_mux.specs.StreamEvents.{events_of, stream_events};
 
 use crate::merge::Interleave;
-use crate::telling::{put, time_base, told_by};
+use crate::telling::{put, told_by};
 use crate::totals::{left_with, totals_on};
 use crate::writing::{take_in, write_on};
-use ff_filter::discard;
 use ff_format::Writer;
 use ff_frame::{Event, StreamHead, Ticket, Totals};
 use ff_host::Sink;
 use ff_net::{Fault, Machine};
-use ff_stream::{Item, Refused};
+use ff_stream::{Item, Refused, discard, time_base};
 use ff_time::Rational;
 use std::alloc::{AllocError, Global};
 use std::collections::VecDeque;
@@ -59,8 +59,8 @@ pub struct Mux<K: Sink, W: Writer> {
     ghost numbers: { first + length heads.items ≤ 2 ^ 32 },
     // the merge is of these streams
     ghost bases: { (merging merge.queues.items).bases ≡ head_bases heads.items },
-    // some number of bytes was counted, and the sink has room for what takes their place
-    ghost counted: { ((n : ℕ) → W.counts writer n → ⊥) → ⊥ },
+    // some packets were counted, and the sink has room for what takes their place
+    ghost counted: { ((ps : List Placed) → W.counts writer ps → ⊥) → ⊥ },
     ghost room: { begun ≡ true → fault ≡ None → length (W.layout writer).header ≤ K.written snk },
 }
 
@@ -99,7 +99,7 @@ impl<K: Sink + Drop, W: Writer + Drop> Mux<K, W> {
         requires some { 1 ≤ length heads.now }
         requires few { length heads.now < 2 ^ 32 }
         requires numbers { first + length heads.now ≤ 2 ^ 32 }
-        requires fresh { W.counts writer 0 }
+        requires fresh { W.counts writer [] }
         ensures sink { IfOk result (λ m. mux_sink m ≡ snk) }
         ensures lanes { IfOk result (λ m. mux_in_lanes m ≡ head_lanes heads.now) }
         ensures fault { IfOk result (λ m. mux_fault m ≡ None) }

@@ -5,7 +5,7 @@ ghost use Rattle.ff_frame.specs.Heads.{base_of_head};
 ghost use Rattle.ff_node_mux.specs.Telling.{micros_of, told_by};
 
 use ff_frame::{Event, StreamHead};
-use ff_stream::Item;
+use ff_stream::{Item, time_base};
 use ff_time::{Rational, rescale};
 use std::collections::VecDeque;
 
@@ -25,16 +25,6 @@ fn micros(time: i64, base: Rational) -> u64
     match rescale(time, base, microsecond) {
         Ok(time) => time.unsigned_abs(),
         Err(_) => LAST_MICROSECOND,
-    }
-}
-
-/// The base of the times of a stream of this head.
-pub(crate) fn time_base(head: &StreamHead) -> Rational
-    ensures { result ≡ base_of_head head.now }
-{
-    match *head {
-        StreamHead::Audio { tb, .. } => tb,
-        StreamHead::Video { tb, .. } => tb,
     }
 }
 

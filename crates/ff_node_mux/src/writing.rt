@@ -1,5 +1,5 @@
 //! The packets written as the merge decides them.
-ghost use Rattle.std.specs.Prelude.{◌≡◌, ◌≢◌, ◌+◌, ◌<◌, ◌≤◌, ℕ, Bool, [], ◌∷◌, true, false, length, None, Some, Ok, IfErr, OnOk, OnErr, IsNone, IsSome, IfSome};
+ghost use Rattle.std.specs.Prelude.{◌≡◌, ◌≢◌, ◌+◌, ◌<◌, ◌≤◌, Bool, List, [], ◌∷◌, true, false, length, None, Some, Ok, IfErr, OnOk, OnErr, IsNone, IsSome, IfSome};
 ghost use Rattle.ff_filter.specs.Joins.{silence};
 ghost use Rattle.ff_node_mux.specs.merge.Merges.{Placed};
 ghost use Rattle.ff_node_mux.specs.merge.Queues.{merging, Same};
@@ -9,12 +9,11 @@ ghost use Rattle.ff_node_mux.specs.Writing.{Alike, Took, Wrote, WroteAll, Stuck,
 
 use crate::merge::Interleave;
 use crate::write::{text_before, write, write_end, write_packet};
-use ff_filter::discard;
 use ff_format::Writer;
 use ff_frame::Totals;
 use ff_host::Sink;
 use ff_net::Fault;
-use ff_stream::{Item, Refused};
+use ff_stream::{Item, Refused, discard};
 use std::alloc::Global;
 
 /// Hands an item to the merge; after a failure only what closes its stream.
@@ -57,15 +56,12 @@ fn write_next<K: Sink, W: Writer>(
     ensures unfailed { IfErr result (λ c. c ≢ Fault.Device → K.faults snk.new ≡ K.faults snk.old) }
     ensures name { K.name snk.new ≡ K.name snk.old }
     ensures layout { W.layout writer.new ≡ W.layout writer.old }
-    ensures still_counts { (n : ℕ) → W.counts writer.old n → (m : ℕ) × W.counts writer.new m }
+    ensures still_counts { (ps : List Placed) → W.counts writer.old ps → (qs : List Placed) × W.counts writer.new qs }
 {
     let Some((stream, packet)) = merge.pull() else {
         return Ok(false);
     };
-    let Ok(text) = writer.text(stream, packet) else {
-        return Err(Fault::NoMemory);
-    };
-    match write_packet(snk, writer, &text) {
+    match write_packet(snk, writer, stream, packet) {
         None => Ok(true),
         Some(fault) => Err(fault),
     }
@@ -89,7 +85,7 @@ fn write_decided<K: Sink, W: Writer>(
     ensures unfailed { IfErr result (λ c. c ≢ Fault.Device → K.faults snk.new ≡ K.faults snk.old) }
     ensures name { K.name snk.new ≡ K.name snk.old }
     ensures layout { W.layout writer.new ≡ W.layout writer.old }
-    ensures still_counts { (n : ℕ) → W.counts writer.old n → (m : ℕ) × W.counts writer.new m }
+    ensures still_counts { (ps : List Placed) → W.counts writer.old ps → (qs : List Placed) × W.counts writer.new qs }
 {
     'packets: loop {
         let go = write_next(snk, writer, merge)?;
@@ -110,7 +106,7 @@ pub(crate) fn write_on<K: Sink, W: Writer>(
     whole: bool,
     totals: Option<Totals>,
 ) -> Option<Fault>
-    requires counted { ((n : ℕ) → W.counts writer.old n → ⊥) → ⊥ }
+    requires counted { ((ps : List Placed) → W.counts writer.old ps → ⊥) → ⊥ }
     requires room { begun ≡ true → length (W.layout writer.old).header ≤ K.written snk.old }
     ensures ok { IsNone result → WroteOn (W.layout writer.old) (merging merge.old.queues.items) (merging merge.new.queues.items)
         (K.holds snk.old) (K.holds snk.new) (W.counts writer.old) (W.counts writer.new) begun whole totals }
@@ -124,7 +120,7 @@ pub(crate) fn write_on<K: Sink, W: Writer>(
     ensures unfailed { result ≢ Some Fault.Device → K.faults snk.new ≡ K.faults snk.old }
     ensures name { K.name snk.new ≡ K.name snk.old }
     ensures layout { W.layout writer.new ≡ W.layout writer.old }
-    ensures still_counts { (n : ℕ) → W.counts writer.old n → (m : ℕ) × W.counts writer.new m }
+    ensures still_counts { (ps : List Placed) → W.counts writer.old ps → (qs : List Placed) × W.counts writer.new qs }
 {
     let Ok(before) = text_before(alloc, writer, begun) else {
         return Some(Fault::NoMemory);
@@ -143,5 +139,8 @@ pub(crate) fn write_on<K: Sink, W: Writer>(
     let Ok(patch) = writer.last(totals) else {
         return Some(Fault::NoMemory);
     };
-    write_end(snk, writer.pad(), patch)
+    let Ok(tail) = writer.tail(alloc) else {
+        return Some(Fault::NoMemory);
+    };
+    write_end(snk, &tail, patch)
 }

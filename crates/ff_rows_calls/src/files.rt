@@ -38,12 +38,13 @@ fn write_packets(
 ) -> Result<(), Stop> {
     let mut number = 0;
     for at in from..words.len() {
-        let Ok(text) = writer.text(0, packet(words, at, number)?) else {
-            return Err(Stop::Broken);
-        };
-        if writer.add(text.len() as u64).is_err() {
+        let packet = packet(words, at, number)?;
+        if writer.add(0, &packet).is_err() {
             return Err(Stop::Unreadable);
         }
+        let Ok(text) = writer.text(0, packet) else {
+            return Err(Stop::Broken);
+        };
         push_hex(words.alloc, out, text.as_slice())?;
         number = number.saturating_add(1);
     }
@@ -61,7 +62,7 @@ fn file_with(
     let mut out = String::new(words.alloc);
     push_hex(words.alloc, &mut out, writer.first()?.as_slice())?;
     write_packets(words, from, &mut writer, &mut out)?;
-    push_hex(words.alloc, &mut out, writer.pad())?;
+    push_hex(words.alloc, &mut out, writer.tail(words.alloc)?.as_slice())?;
     if let Some(patch) = writer.last(totals)? {
         let at = patch.at;
         out.push_str(format!(in words.alloc; " {at} ")?.as_str())?;

@@ -31,7 +31,7 @@ abbrev pub wav_layout : Mode → StreamHead → Layout
 wav_layout mode head = record {
   header = first_header mode head;
   text = λ stream packet. packet.bytes;
-  pad = pad_of;
+  tail = λ packets. pad_of (length (bytes_in packets));
   last = λ n totals. Some (0, header_of mode head n);
   longest = Some (longest_of mode);
 }

@@ -10,7 +10,7 @@ ghost use Rattle.ff_wav.specs.Header.{HasRoom, first_form as first_form_of, form
 
 use ff_format::Rf64;
 use ff_frame::StreamHead;
-use ff_pcm_cut::size_of_sample;
+use ff_pcm::size_of_sample;
 use std::alloc::{AllocError, Global};
 
 /// What a header begins with, and where its sizes stand.

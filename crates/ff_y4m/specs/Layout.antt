@@ -17,7 +17,7 @@ abbrev pub y4m_layout : StreamHead → Layout
 y4m_layout head = record {
   header = header head;
   text = λ stream packet. frame_line ++ packet.bytes;
-  pad = λ n. [];
+  tail = λ packets. [];
   last = λ n totals. None;
   longest = None;
 }

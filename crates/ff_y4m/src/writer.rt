@@ -58,7 +58,7 @@ impl Writer for Y4mWriter {
 
     ghost layout = { λ w. y4m_layout (y4m_head w) };
 
-    ghost counts = { λ w n. ⊤ };
+    ghost counts = { λ w packets. ⊤ };
 
     fn first(&self) -> Result<Vec<u8>, AllocError> {
         y4m_header(self.alloc, &self.head)
@@ -71,12 +71,12 @@ impl Writer for Y4mWriter {
         }
     }
 
-    fn add(&mut self, _count: u64) -> Result<(), TooLarge> {
+    fn add(&mut self, _stream: u32, _packet: &Pkt) -> Result<(), TooLarge> {
         Ok(())
     }
 
-    fn pad(&self) -> &'static [u8] {
-        &[]
+    fn tail(&self, alloc: Global) -> Result<Vec<u8>, AllocError> {
+        Ok(Vec::new(alloc))
     }
 
     fn last(&self, _totals: Option<Totals>) -> Result<Option<Patch>, AllocError> {

@@ -1,12 +1,14 @@
 -- The finished files of the formats.
-use Rattle.std.proofs.Common.{◌≡◌, ℕ, suc, ◌+◌, List, ◌++◌, drop, length, Some, None, refl, ap, ◌∙◌, arith, append-nil}
-use Rattle.ff_format.specs.Layouts.{bytes_in}
+use Rattle.std.proofs.Common.{◌≡◌, ℕ, suc, ◌+◌, List, [], ◌∷◌, ◌++◌, drop, length, Some, None, refl, ap, ◌∙◌, arith, append-nil}
+use Rattle.ff_format.specs.Layouts.{body, bytes_in}
 use Rattle.ff_format.specs.Patched.{behind}
 use Rattle.ff_host.specs.Files.{patched}
 use Rattle.ff_mux.specs.FlacHead.{before_info, info_of, flac_start, unknown}
 use Rattle.ff_mux.specs.CrcTexts.{crc_text}
 use Rattle.ff_mux.specs.HashTexts.{hash_text}
+use Rattle.ff_frame.specs.declared.packet.Pkt.{Pkt}
 use Rattle.ff_mux.specs.writers.CrcFile.{CrcsAreTexts}
+use Rattle.ff_mux.specs.writers.DigestFiles.{at_end, DigestsAreTexts}
 use Rattle.ff_mux.specs.writers.FlacFile.{as_long, FlacsAreStreams}
 use Rattle.ff_mux.specs.writers.HashFile.{HashesAreTexts}
 
@@ -31,3 +33,14 @@ hashes_are_texts kind heads totals packets = ap Some (append-nil (hash_text kind
 
 pub crcs_are_texts : CrcsAreTexts
 crcs_are_texts heads totals packets = ap Some (append-nil (crc_text heads packets))
+
+-- of packets nothing is written before the end
+none_before : (text : List (ℕ × Pkt) → List ℕ) (packets : List (ℕ × Pkt)) → body (at_end text) packets ≡ []
+none_before text [] = refl
+none_before text (p ∷ packets) = none_before text packets
+
+pub digests_are_texts : DigestsAreTexts
+digests_are_texts text totals packets = (
+  ap (λ (xs : List ℕ). Some (xs ++ text packets)) (none_before text packets),
+  none_before text packets,
+)

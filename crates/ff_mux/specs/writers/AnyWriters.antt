@@ -1,20 +1,22 @@
 -- The formats that are written, and a writer of any: a line for each.
-use Rattle.std.specs.Prelude.{◌≡◌, ⊤, ℕ, List, Option}
+use Rattle.std.specs.Prelude.{◌≡◌, ⊤, ℕ, List, length, Option}
 use Rattle.ff_format.specs.Formats.{taken_by}
-use Rattle.ff_format.specs.Layouts.{Layout}
+use Rattle.ff_format.specs.Layouts.{Layout, bytes_in}
 use Rattle.ff_format.specs.Outputs.{OutputFormat, WritesTaken}
 use Rattle.ff_format.specs.Patches.{IsInside}
 use Rattle.ff_format.specs.declared.format.FileFormat.{FileFormat}
 use Rattle.ff_format.specs.declared.format.FileFormat.TheVariants as format
 use Rattle.ff_format.specs.declared.format.OutputOptions.{OutputOptions}
 use Rattle.ff_frame.specs.declared.head.StreamHead.{StreamHead}
+use Rattle.ff_frame.specs.declared.packet.Pkt.{Pkt}
 use Rattle.ff_frame.specs.declared.totals.Totals.{Totals}
 use Rattle.ff_mux.specs.declared.writers.any.AnyWriter.{AnyWriter}
-use Rattle.ff_mux.specs.declared.writers.any.AnyWriter.TheVariants.{Wav, Flac, Y4m, Hash, Crc, Au}
+use Rattle.ff_mux.specs.declared.writers.any.AnyWriter.TheVariants.{Wav, Flac, Y4m, Hash, Crc, Au, Joined, Streams, Sum}
 use Rattle.ff_mux.specs.writers.CrcFile.{crc_format, crc_layout, crc_writes}
+use Rattle.ff_mux.specs.writers.DigestFiles.{joined_format, joined_layout, joined_writes, joined_writes_md5, streams_format, streams_layout, streams_writes, sum_format, sum_layout, sum_writes}
 use Rattle.ff_mux.specs.writers.FlacFile.{flac_format, flac_inside, flac_layout, flac_writes}
 use Rattle.ff_mux.specs.writers.HashFile.{hash_format, hash_layout, hash_writes, md5_writes}
-use Rattle.ff_mux.specs.writers.Writers.{flac_head, hash_kind, hash_heads, crc_heads}
+use Rattle.ff_mux.specs.writers.Writers.{flac_head, hash_kind, hash_heads, crc_heads, joined_kind, HasJoined, HasSummed, streams_kind, streams_heads, HasStreams}
 use Rattle.ff_au.specs.Header as au
 use Rattle.ff_au.specs.Layout.{au_format, au_inside, au_layout, au_writes}
 use Rattle.ff_wav.specs.Header.{written_head, written_mode, body_size}
@@ -30,6 +32,10 @@ format_of format.Y4m = y4m_format
 format_of format.FrameHash = hash_format
 format_of format.FrameMd5 = hash_format
 format_of format.FrameCrc = crc_format
+format_of format.Hash = joined_format
+format_of format.Md5 = joined_format
+format_of format.StreamHash = streams_format
+format_of format.Crc = sum_format
 
 -- the format takes packets of streams of these heads
 abbrev pub CanWrite : FileFormat → List StreamHead → Type 0
@@ -48,6 +54,10 @@ writes_taken format.Y4m = y4m_writes
 writes_taken format.FrameHash = hash_writes
 writes_taken format.FrameMd5 = md5_writes
 writes_taken format.FrameCrc = crc_writes
+writes_taken format.Hash = joined_writes
+writes_taken format.Md5 = joined_writes_md5
+writes_taken format.StreamHash = streams_writes
+writes_taken format.Crc = sum_writes
 
 -- ---- a writer of any
 
@@ -58,14 +68,20 @@ any_layout (Flac w) = flac_layout (flac_head w)
 any_layout (Y4m w) = y4m_layout (y4m_head w)
 any_layout (Hash w) = hash_layout (hash_kind w) (hash_heads w)
 any_layout (Crc w) = crc_layout (crc_heads w)
+any_layout (Joined w) = joined_layout (joined_kind w)
+any_layout (Streams w) = streams_layout (streams_kind w) (streams_heads w)
+any_layout (Sum w) = sum_layout
 
-abbrev pub any_counts : AnyWriter → ℕ → Type 0
-any_counts (Wav put) n = body_size put ≡ n
-any_counts (Au put) n = au.body_size put ≡ au.size_field n
-any_counts (Flac w) n = ⊤
-any_counts (Y4m w) n = ⊤
-any_counts (Hash w) n = ⊤
-any_counts (Crc w) n = ⊤
+abbrev pub any_counts : AnyWriter → List (ℕ × Pkt) → Type 0
+any_counts (Wav put) packets = body_size put ≡ length (bytes_in packets)
+any_counts (Au put) packets = au.body_size put ≡ au.size_field (length (bytes_in packets))
+any_counts (Flac w) packets = ⊤
+any_counts (Y4m w) packets = ⊤
+any_counts (Hash w) packets = ⊤
+any_counts (Crc w) packets = ⊤
+any_counts (Joined w) packets = HasJoined w packets
+any_counts (Streams w) packets = HasStreams w packets
+any_counts (Sum w) packets = HasSummed w packets
 
 pub any_inside : (w : AnyWriter) (n : ℕ) (totals : Option Totals) → IsInside (any_layout w) n totals
 any_inside (Wav put) n totals = wav_inside (written_mode put) (written_head put) n
@@ -74,3 +90,6 @@ any_inside (Flac w) n totals = flac_inside (flac_head w) totals
 any_inside (Y4m w) n totals = tt
 any_inside (Hash w) n totals = tt
 any_inside (Crc w) n totals = tt
+any_inside (Joined w) n totals = tt
+any_inside (Streams w) n totals = tt
+any_inside (Sum w) n totals = tt

@@ -16,7 +16,7 @@ abbrev pub crc_layout : List StreamHead → Layout
 crc_layout heads = record {
   header = streams_from 0 heads;
   text = crc_line;
-  pad = λ n. [];
+  tail = λ packets. [];
   last = λ n totals. None;
   longest = None;
 }

@@ -28,7 +28,7 @@ abbrev pub flac_layout : StreamHead → Layout
 flac_layout head = record {
   header = flac_start head unknown;
   text = λ stream packet. packet.bytes;
-  pad = λ n. [];
+  tail = λ packets. [];
   last = λ n totals. flac_last head totals;
   longest = None;
 }

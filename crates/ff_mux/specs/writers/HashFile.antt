@@ -16,7 +16,7 @@ abbrev pub hash_layout : HashKind → List StreamHead → Layout
 hash_layout kind heads = record {
   header = text_before kind heads;
   text = line_by kind;
-  pad = λ n. [];
+  tail = λ packets. [];
   last = λ n totals. None;
   longest = None;
 }

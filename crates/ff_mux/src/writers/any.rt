@@ -1,7 +1,8 @@
 //! A writer of any format: a line for each format in each match.
-ghost use Rattle.std.specs.Prelude.{◌≡◌, IfOk};
+ghost use Rattle.std.specs.Prelude.{◌≡◌, [], IfOk};
 ghost use Rattle.ff_mux.specs.writers.AnyWriters.{CanWrite, layout_of, any_layout, any_counts, any_inside};
 
+use crate::writers::digests::{JoinedWriter, StreamsWriter, SumWriter};
 use crate::writers::flac::FlacWriter;
 use crate::writers::frame_crc::CrcWriter;
 use crate::writers::frame_hash::HashWriter;
@@ -27,9 +28,15 @@ pub enum AnyWriter {
     Hash(HashWriter),
     /// Adler-32 sums.
     Crc(CrcWriter),
+    /// One digest of all packets.
+    Joined(JoinedWriter),
+    /// One digest of each stream.
+    Streams(StreamsWriter),
+    /// One Adler-32 sum of all packets.
+    Sum(SumWriter),
 }
 
-/// The writer of a format for the packets of streams of these heads, by what an output's options say. No byte of a packet was counted.
+/// The writer of a format for the packets of streams of these heads, by what an output's options say. No packet was counted.
 pub fn writer_of(
     alloc: Global,
     format: FileFormat,
@@ -38,7 +45,7 @@ pub fn writer_of(
 ) -> Result<AnyWriter, AllocError>
     requires { CanWrite format heads.now }
     ensures layout { IfOk result (λ writer. any_layout writer ≡ layout_of format options heads.now) }
-    ensures counts { IfOk result (λ writer. any_counts writer 0) }
+    ensures counts { IfOk result (λ writer. any_counts writer []) }
 {
     match format {
         FileFormat::Wav => Ok(AnyWriter::Wav(WavPut::new(alloc, &heads[0], options.rf64))),
@@ -53,6 +60,16 @@ pub fn writer_of(
             let heads = Vec::from_slice(alloc, heads)?;
             Ok(AnyWriter::Crc(CrcWriter::new(alloc, heads)))
         }
+        FileFormat::Hash | FileFormat::Md5 => Ok(AnyWriter::Joined(JoinedWriter::new(
+            alloc,
+            options.hash,
+        ))),
+        FileFormat::StreamHash => {
+            let heads = Vec::from_slice(alloc, heads)?;
+            let writer = StreamsWriter::new(alloc, options.hash, heads)?;
+            Ok(AnyWriter::Streams(writer))
+        }
+        FileFormat::Crc => Ok(AnyWriter::Sum(SumWriter::new(alloc))),
     }
 }
 
@@ -69,6 +86,9 @@ impl Writer for AnyWriter {
             AnyWriter::Y4m(writer) => writer.first(),
             AnyWriter::Hash(writer) => writer.first(),
             AnyWriter::Crc(writer) => writer.first(),
+            AnyWriter::Joined(writer) => writer.first(),
+            AnyWriter::Streams(writer) => writer.first(),
+            AnyWriter::Sum(writer) => writer.first(),
         }
     }
 
@@ -80,28 +100,37 @@ impl Writer for AnyWriter {
             AnyWriter::Y4m(writer) => writer.text(stream, packet),
             AnyWriter::Hash(writer) => writer.text(stream, packet),
             AnyWriter::Crc(writer) => writer.text(stream, packet),
+            AnyWriter::Joined(writer) => writer.text(stream, packet),
+            AnyWriter::Streams(writer) => writer.text(stream, packet),
+            AnyWriter::Sum(writer) => writer.text(stream, packet),
         }
     }
 
-    fn add(&mut self, count: u64) -> Result<(), TooLarge> {
+    fn add(&mut self, stream: u32, packet: &Pkt) -> Result<(), TooLarge> {
         match self {
-            AnyWriter::Wav(put) => Writer::add(put, count),
-            AnyWriter::Au(put) => Writer::add(put, count),
-            AnyWriter::Flac(writer) => writer.add(count),
-            AnyWriter::Y4m(writer) => writer.add(count),
-            AnyWriter::Hash(writer) => writer.add(count),
-            AnyWriter::Crc(writer) => writer.add(count),
+            AnyWriter::Wav(put) => Writer::add(put, stream, packet),
+            AnyWriter::Au(put) => Writer::add(put, stream, packet),
+            AnyWriter::Flac(writer) => writer.add(stream, packet),
+            AnyWriter::Y4m(writer) => writer.add(stream, packet),
+            AnyWriter::Hash(writer) => writer.add(stream, packet),
+            AnyWriter::Crc(writer) => writer.add(stream, packet),
+            AnyWriter::Joined(writer) => writer.add(stream, packet),
+            AnyWriter::Streams(writer) => writer.add(stream, packet),
+            AnyWriter::Sum(writer) => writer.add(stream, packet),
         }
     }
 
-    fn pad(&self) -> &'static [u8] {
+    fn tail(&self, alloc: Global) -> Result<Vec<u8>, AllocError> {
         match self {
-            AnyWriter::Wav(put) => Writer::pad(put),
-            AnyWriter::Au(put) => put.pad(),
-            AnyWriter::Flac(writer) => writer.pad(),
-            AnyWriter::Y4m(writer) => writer.pad(),
-            AnyWriter::Hash(writer) => writer.pad(),
-            AnyWriter::Crc(writer) => writer.pad(),
+            AnyWriter::Wav(put) => put.tail(alloc),
+            AnyWriter::Au(put) => put.tail(alloc),
+            AnyWriter::Flac(writer) => writer.tail(alloc),
+            AnyWriter::Y4m(writer) => writer.tail(alloc),
+            AnyWriter::Hash(writer) => writer.tail(alloc),
+            AnyWriter::Crc(writer) => writer.tail(alloc),
+            AnyWriter::Joined(writer) => writer.tail(alloc),
+            AnyWriter::Streams(writer) => writer.tail(alloc),
+            AnyWriter::Sum(writer) => writer.tail(alloc),
         }
     }
 
@@ -113,6 +142,9 @@ impl Writer for AnyWriter {
             AnyWriter::Y4m(writer) => writer.last(totals),
             AnyWriter::Hash(writer) => writer.last(totals),
             AnyWriter::Crc(writer) => writer.last(totals),
+            AnyWriter::Joined(writer) => writer.last(totals),
+            AnyWriter::Streams(writer) => writer.last(totals),
+            AnyWriter::Sum(writer) => writer.last(totals),
         }
     }
 

@@ -37,7 +37,7 @@ impl Writer for FlacWriter {
 
     ghost layout = { λ w. flac_layout (flac_head w) };
 
-    ghost counts = { λ w n. ⊤ };
+    ghost counts = { λ w packets. ⊤ };
 
     fn first(&self) -> Result<Vec<u8>, AllocError> {
         flac_first(self.alloc, &self.head)
@@ -47,12 +47,12 @@ impl Writer for FlacWriter {
         Ok(packet.bytes.into_vec())
     }
 
-    fn add(&mut self, _count: u64) -> Result<(), TooLarge> {
+    fn add(&mut self, _stream: u32, _packet: &Pkt) -> Result<(), TooLarge> {
         Ok(())
     }
 
-    fn pad(&self) -> &'static [u8] {
-        &[]
+    fn tail(&self, alloc: Global) -> Result<Vec<u8>, AllocError> {
+        Ok(Vec::new(alloc))
     }
 
     fn last(&self, totals: Option<Totals>) -> Result<Option<Patch>, AllocError> {

@@ -33,7 +33,7 @@ impl Writer for CrcWriter {
 
     ghost layout = { λ w. crc_layout (crc_heads w) };
 
-    ghost counts = { λ w n. ⊤ };
+    ghost counts = { λ w packets. ⊤ };
 
     fn first(&self) -> Result<Vec<u8>, AllocError> {
         crc_header(self.alloc, &self.heads)
@@ -46,12 +46,12 @@ impl Writer for CrcWriter {
         }
     }
 
-    fn add(&mut self, _count: u64) -> Result<(), TooLarge> {
+    fn add(&mut self, _stream: u32, _packet: &Pkt) -> Result<(), TooLarge> {
         Ok(())
     }
 
-    fn pad(&self) -> &'static [u8] {
-        &[]
+    fn tail(&self, alloc: Global) -> Result<Vec<u8>, AllocError> {
+        Ok(Vec::new(alloc))
     }
 
     fn last(&self, _totals: Option<Totals>) -> Result<Option<Patch>, AllocError> {

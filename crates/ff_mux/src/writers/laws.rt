@@ -1,5 +1,6 @@
 //! Laws of finished files. Each is a function that does nothing: its clauses hold of all values.
 ghost use Rattle.ff_mux.specs.writers.CrcFile.{CrcsAreTexts};
+ghost use Rattle.ff_mux.specs.writers.DigestFiles.{DigestsAreTexts};
 ghost use Rattle.ff_mux.specs.writers.FlacFile.{FlacsAreStreams};
 ghost use Rattle.ff_mux.specs.writers.FlacWritten.{FieldsAreRead, FilesAreRead, HeadersAreRead};
 ghost use Rattle.ff_mux.specs.writers.HashFile.{HashesAreTexts};
@@ -25,4 +26,10 @@ pub fn finished_hashes_are_texts()
 /// The finished framecrc file of packets is the lines on their streams and a line of each packet.
 pub fn finished_crcs_are_texts()
     ensures { CrcsAreTexts }
+{}
+
+/// The finished file that is one digest of all packets, or one of each stream, is that text; before every stream is
+/// whole nothing is written.
+pub fn finished_digests_are_texts()
+    ensures { DigestsAreTexts }
 {}

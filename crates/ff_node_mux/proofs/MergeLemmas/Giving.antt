@@ -7,7 +7,7 @@ use Rattle.std.proofs.lemmas.Bool.{cases_eq, eq-eqb, ne_eqb, or_right, and_parts
 use Rattle.ff_time.specs.Fraction.{Fraction}
 use Rattle.ff_frame.specs.declared.packet.Pkt.{Pkt}
 use Rattle.ff_stream.specs.declared.item.Item.{Item}
-use Rattle.ff_stream.specs.Stream.{Stream}
+use Rattle.ff_stream.specs.Stream.{Stream, is_whole}
 use Rattle.ff_stream.specs.Ports.{nothing}
 use Rattle.ff_filter.specs.declared.after.After.{After}
 use Rattle.ff_filter.specs.declared.after.After.TheVariants.{More, Whole, Broke}
@@ -15,7 +15,7 @@ use Rattle.ff_filter.specs.Joins.{Flow, Ports, silence, before, before_if, befor
 use Rattle.ff_filter.specs.Made.{behind, is_over, mark_after}
 use Rattle.ff_filter.specs.Views.{closes}
 use Rattle.ff_node_mux.specs.declared.merge.queue.PacketQueue.{PacketQueue}
-use Rattle.ff_node_mux.specs.merge.Merges.{Placed, is_whole, is_some, packets_in, merge_to, decided, interleaved}
+use Rattle.ff_node_mux.specs.merge.Merges.{Placed, is_some, packets_in, merge_to, decided, interleaved}
 use Rattle.ff_node_mux.specs.merge.Queues.{Waiting, waiting_of, waiting_at, came, all_came, base_at, bases_of, merging, IsNew, Same, Fed, Gave, Waits}
 use Rattle.ff_node_mux.specs.merge.Fronts.{head_of, first_to, base_of, waits_of, next_of, AreNew, known_to}
 use Rattle.ff_node_mux.specs.merge.Fronting.{tail_of, tail_if, without, nexts, Leads, IsLed, led, first-same, interleaved-step, interleaved-unknown}

@@ -4,9 +4,10 @@ use Rattle.std.proofs.Common.{subst, arith, get_or, set}
 use Rattle.std.specs.Prelude.{◌||◌, ◌&&◌, not}
 use Rattle.std.proofs.lemmas.Bool.{cases_eq, and_from, and_left, and_right}
 use Rattle.ff_time.specs.Fraction.{Fraction}
+use Rattle.ff_stream.specs.Stream.{is_whole}
 use Rattle.ff_filter.specs.Made.{mark_after}
 use Rattle.ff_node_mux.specs.declared.merge.queue.PacketQueue.{PacketQueue}
-use Rattle.ff_node_mux.specs.merge.Merges.{is_sooner, is_some, is_whole}
+use Rattle.ff_node_mux.specs.merge.Merges.{is_sooner, is_some}
 use Rattle.ff_node_mux.specs.merge.Queues.{Waiting, no_packets, waiting_of, waiting_at, bases_of}
 use Rattle.ff_node_mux.specs.merge.Fronts.{head_of, sooner_of, first_to, base_of, waits_of, next_of, IsFront, IsFirst, TellsSooner, AreNew, known_to}
 

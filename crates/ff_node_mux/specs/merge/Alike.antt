@@ -3,8 +3,8 @@ use Rattle.std.proofs.Common.{◌≡◌, ℕ, zero, suc, ◌<◌, Bool, cond, �
 use Rattle.std.specs.Prelude.{◌||◌, ◌&&◌}
 use Rattle.ff_time.specs.Fraction.{Fraction}
 use Rattle.ff_frame.specs.declared.packet.Pkt.{Pkt}
-use Rattle.ff_stream.specs.Stream.{Stream}
-use Rattle.ff_node_mux.specs.merge.Merges.{Placed, is_whole, placed, has, others_go_on, decided, merge_to, interleaved}
+use Rattle.ff_stream.specs.Stream.{Stream, is_whole}
+use Rattle.ff_node_mux.specs.merge.Merges.{Placed, placed, has, others_go_on, decided, merge_to, interleaved}
 use Rattle.ff_node_mux.specs.merge.Fronting.{merge-same}
 
 others_alike : (n : ℕ) (rs ss : ℕ → Stream Pkt) (p : ℕ) (xs : List Placed) → ((q : ℕ) → q < n → is_whole (rs q).mark ≡ is_whole (ss q).mark)

@@ -4,8 +4,8 @@ use Rattle.std.specs.Prelude.{◌||◌}
 use Rattle.std.proofs.lemmas.Bool.{eq-eqb, ne_eqb, or_from, or_parts}
 use Rattle.ff_time.specs.Fraction.{Fraction}
 use Rattle.ff_frame.specs.declared.packet.Pkt.{Pkt}
-use Rattle.ff_stream.specs.Stream.{Stream}
-use Rattle.ff_node_mux.specs.merge.Merges.{Placed, is_sooner, is_whole, is_some, placed, has, merged, merge_to, decided, interleaved}
+use Rattle.ff_stream.specs.Stream.{Stream, is_whole}
+use Rattle.ff_node_mux.specs.merge.Merges.{Placed, is_sooner, is_some, placed, has, merged, merge_to, decided, interleaved}
 use Rattle.ff_node_mux.specs.merge.MergeLaws.{has-below, go_on_from, go_on_not, decided-marks}
 use Rattle.ff_node_mux.specs.merge.Fronts.{head_of, sooner_of, first_to}
 

@@ -4,9 +4,10 @@ use Rattle.std.specs.Ordering.{is_lt}
 use Rattle.ff_time.specs.Fraction.{Fraction}
 use Rattle.ff_time.specs.Rescale.{order_of}
 use Rattle.ff_frame.specs.declared.packet.Pkt.{Pkt}
+use Rattle.ff_stream.specs.Stream.{is_whole}
 use Rattle.ff_filter.specs.Made.{mark_after}
 use Rattle.ff_node_mux.specs.declared.merge.queue.PacketQueue.{PacketQueue}
-use Rattle.ff_node_mux.specs.merge.Merges.{Placed, is_sooner, is_whole, is_some}
+use Rattle.ff_node_mux.specs.merge.Merges.{Placed, is_sooner, is_some}
 use Rattle.ff_node_mux.specs.merge.Queues.{no_packets, waiting_at, base_at, bases_of}
 
 abbrev pub head_of : {A : Type 0} → List A → Option A

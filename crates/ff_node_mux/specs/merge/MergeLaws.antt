@@ -4,8 +4,8 @@ use Rattle.std.specs.Prelude.{◌||◌, ◌&&◌}
 use Rattle.std.proofs.lemmas.Bool.{cases_eq, eq-eqb, ne_eqb, and_from, and_left, and_right, or_left, or_from}
 use Rattle.ff_time.specs.Fraction.{Fraction}
 use Rattle.ff_frame.specs.declared.packet.Pkt.{Pkt}
-use Rattle.ff_stream.specs.Stream.{Stream}
-use Rattle.ff_node_mux.specs.merge.Merges.{Placed, is_sooner, is_whole, is_some, placed, has, put_among, merged, merge_to, others_go_on, decided}
+use Rattle.ff_stream.specs.Stream.{Stream, is_whole}
+use Rattle.ff_node_mux.specs.merge.Merges.{Placed, is_sooner, is_some, placed, has, put_among, merged, merge_to, others_go_on, decided}
 
 or_behind : (x a : Bool) → (x || a) ≡ ((x || a) || false)
 or_behind true a = refl

@@ -6,7 +6,7 @@ use Rattle.ff_time.specs.Rescale.{order_of}
 use Rattle.ff_frame.specs.declared.packet.Pkt.{Pkt}
 use Rattle.ff_stream.specs.declared.item.Item.{Item}
 use Rattle.ff_stream.specs.declared.item.Item.TheVariants.{Audio, Video, Packet, Trailer, End, Broken}
-use Rattle.ff_stream.specs.Stream.{Mark, still_open, whole, broken, Stream}
+use Rattle.ff_stream.specs.Stream.{Mark, still_open, whole, broken, Stream, is_whole}
 
 -- the packets among these items
 abbrev pub packets_of : List Item → List Pkt
@@ -24,11 +24,6 @@ packets_in s = record { items = packets_of s.items; mark = s.mark }
 -- a packet of the stream of this number
 abbrev pub Placed : Type 0
 Placed = ℕ × Pkt
-
-abbrev pub is_whole : Mark → Bool
-is_whole still_open = false
-is_whole whole = true
-is_whole broken = false
 
 abbrev pub is_some : {A : Type 0} → List A → Bool
 is_some [] = false

@@ -9,8 +9,8 @@ use mathlib.Core.List.{IsPrefix}
 use Rattle.ff_time.specs.Fraction.{Fraction}
 use Rattle.ff_time.specs.Rescale.{order_of}
 use Rattle.ff_frame.specs.declared.packet.Pkt.{Pkt}
-use Rattle.ff_stream.specs.Stream.{whole, Stream, LiesBelow}
-use Rattle.ff_node_mux.specs.merge.Merges.{Placed, is_sooner, is_whole, is_some, placed, has, put_among, merged, merge_to, decided, interleaved}
+use Rattle.ff_stream.specs.Stream.{whole, Stream, LiesBelow, is_whole}
+use Rattle.ff_node_mux.specs.merge.Merges.{Placed, is_sooner, is_some, placed, has, put_among, merged, merge_to, decided, interleaved}
 use Rattle.ff_node_mux.specs.merge.MergeLaws.{has-above, go_on_from}
 use Rattle.ff_node_mux.specs.merge.Orders.{GoesAfter, StartsAfter, InOrder, put_packet, of_stream, AllBelow}
 use Rattle.ff_node_mux.specs.merge.Fronts.{head_of, first_to}

@@ -4,13 +4,14 @@ ghost use Rattle.std.specs.VecDeque.{deque_len, deque_capacity};
 ghost use Rattle.ff_filter.specs.Joins.{Flow, before};
 ghost use Rattle.ff_filter.specs.Made.{is_over, mark_after};
 ghost use Rattle.ff_filter.specs.Views.{closes};
-ghost use Rattle.ff_node_mux.specs.merge.Merges.{is_whole, is_some};
+ghost use Rattle.ff_node_mux.specs.merge.Merges.{is_some};
 ghost use Rattle.ff_node_mux.specs.merge.Fronts.{TellsSooner};
 ghost use Rattle.ff_node_mux.specs.merge.Queues.{came, waiting_of};
+ghost use Rattle.ff_stream.specs.Stream.{is_whole};
 
-use ff_filter::{After, discard};
+use ff_filter::After;
 use ff_frame::Pkt;
-use ff_stream::{Item, Refused};
+use ff_stream::{Item, Refused, discard};
 use ff_time::{Rational, compare};
 use std::alloc::{AllocError, Global};
 use std::collections::VecDeque;

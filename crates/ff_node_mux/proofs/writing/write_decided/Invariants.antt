@@ -1,4 +1,4 @@
-use Rattle.std.proofs.Common.{◌≡◌, ◌≤◌, ℕ, List, length}
+use Rattle.std.proofs.Common.{◌≡◌, ◌≤◌, List, length}
 use Rattle.ff_filter.specs.Joins.{silence}
 use Rattle.ff_node_mux.specs.merge.Merges.{Placed}
 use Rattle.ff_node_mux.specs.merge.Queues.{merging}
@@ -17,7 +17,7 @@ invariant-packets g l =
       faults : K.faults l.snk ≡ K.faults l.fn.snk;
       name : K.name l.snk ≡ K.name l.fn.snk;
       layout : W.layout l.writer ≡ W.layout l.fn.writer;
-      still : (n : ℕ) → W.counts l.fn.writer n → (m : ℕ) × W.counts l.writer m;
+      still : (ps : List Placed) → W.counts l.fn.writer ps → (qs : List Placed) × W.counts l.writer qs;
     }
 
 abbrev pub decreases-packets : goal.decreases-packets

@@ -1,7 +1,8 @@
-use Rattle.std.proofs.Common.{◌≡◌, ◌≤◌, ℕ, [], length, refl, sym, ◌∙◌, subst, arith}
+use Rattle.std.proofs.Common.{◌≡◌, ◌≤◌, ℕ, List, [], length, refl, sym, ◌∙◌, subst, arith}
+use Rattle.ff_node_mux.specs.merge.Merges.{Placed}
 use Rattle.ff_node_mux.specs.merge.Queues.{merging}
 use Rattle.ff_net.specs.declared.fault.Fault.TheVariants.{NoMemory}
-use Rattle.ff_format.specs.Layouts.{Layout}
+use Rattle.ff_format.specs.Layouts.{Layout, body}
 use Rattle.ff_format.specs.Patches.{replacing}
 use Rattle.ff_node_mux.specs.Writing.{text_before}
 use Rattle.ff_node_mux.proofs.Ends.{header_stands, replaced_inside}
@@ -116,13 +117,14 @@ returns-clause-ok g c = λ none.
     let new = merging c.write_decided.new.merge.queues.items in
     let counts' = W.counts c.write_decided.new.writer in
     let now = K.holds c.write_end.new.snk in
-    let pad = c.pad.result.now in
+    let tail = c.deref-2.result.now in
     let same = c.write_decided.ensures.layout in
-    let pads = subst (λ (l : Layout). (n : ℕ) → counts' n → pad ≡ l.pad n) same c.pad.ensures in
+    let tails = subst (λ (l : Layout). (ps : List Placed) → counts' ps → tail ≡ l.tail ps) same
+    (λ ps h. c.deref-2.ensures.value ∙ c.in-Ok-tail.ensures ps h) in
     let replaced = replacing c.in-Ok-last.patch in
-    let lasts = subst (λ (l : Layout). (n : ℕ) → counts' n → replaced ≡ l.last n c.args.totals) same c.in-Ok-last.ensures in
+    let lasts = subst (λ (l : Layout). (ps : List Placed) → counts' ps → replaced ≡ l.last (length (body l ps)) c.args.totals) same c.in-Ok-last.ensures in
     wrote_to_end layout old before counts c.args.begun c.args.whole new between written counts' text adds is c.in-Ok-write_decided.ensures.ok
-    now pad pads c.if-not-whole.false replaced c.args.totals lasts (c.write_end.ensures.ok none)
+    now tail tails c.if-not-whole.false replaced c.args.totals lasts (c.write_end.ensures.ok none)
 
 pub returns-clause-stuck : goal.returns-clause-stuck
 returns-clause-stuck g c =
@@ -140,8 +142,26 @@ returns-clause-stuck g c =
     let new = merging c.write_decided.new.merge.queues.items in
     let counts' = W.counts c.write_decided.new.writer in
     let now = K.holds c.write_end.new.snk in
-    let pad = c.pad.result.now in
+    let tail = c.deref-2.result.now in
     let same = c.write_decided.ensures.layout in
-    let pads = subst (λ (l : Layout). (n : ℕ) → counts' n → pad ≡ l.pad n) same c.pad.ensures in
+    let tails = subst (λ (l : Layout). (ps : List Placed) → counts' ps → tail ≡ l.tail ps) same
+    (λ ps h. c.deref-2.ensures.value ∙ c.in-Ok-tail.ensures ps h) in
     stuck_last layout old before counts c.args.begun c.args.whole new between written counts' text adds is c.in-Ok-write_decided.ensures.ok
-    now pad pads c.if-not-whole.false c.write_end.result c.write_end.ensures.front c.write_end.ensures.kinds
+    now tail tails c.if-not-whole.false c.write_end.result c.write_end.ensures.front c.write_end.ensures.kinds
+
+pub returns-in_default-tail-clause-stuck : goal.returns-in_default-tail-clause-stuck
+returns-in_default-tail-clause-stuck g c =
+    let K = g.K.Sink in
+    let W = g.W.Writer in
+    let layout = W.layout c.args.writer.now in
+    let old = merging c.args.merge.now.queues.items in
+    let before = K.holds c.args.snk.now in
+    let counts = W.counts c.args.writer.now in
+    let text = c.deref.result.now in
+    let is : text ≡ text_before c.args.begun layout = c.deref.ensures.value ∙ c.in-Ok.ensures in
+    let between = K.holds c.write-fault.new.snk in
+    let adds = c.write-fault.ensures.ok (sym c.is_some.ensures ∙ c.if-is_some.false) in
+    let written = K.holds c.write_decided.new.snk in
+    let new = merging c.write_decided.new.merge.queues.items in
+    let counts' = W.counts c.write_decided.new.writer in
+    stuck_at_end layout old before counts c.args.begun c.args.whole new between written counts' text adds is c.in-Ok-write_decided.ensures.ok

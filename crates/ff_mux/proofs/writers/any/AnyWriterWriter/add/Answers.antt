@@ -1,10 +1,7 @@
 use Rattle.ff_mux.proofs.writers.any.AnyWriterWriter.add.Goals as goal
 
-pub returns-in-Wav-clause-ok : goal.returns-in-Wav-clause-ok
-returns-in-Wav-clause-ok c = rw c.in-Wav.is c.add.ensures.ok
-
-pub returns-in-Wav-clause-err : goal.returns-in-Wav-clause-err
-returns-in-Wav-clause-err c = rw c.in-Wav.is c.add.ensures.err
+pub returns-in-Streams-clause-layout : goal.returns-in-Streams-clause-layout
+returns-in-Streams-clause-layout c = rw c.in-Streams.is c.add-in-Streams.ensures.layout
 
 pub returns-in-Flac-clause-too_large : goal.returns-in-Flac-clause-too_large
 returns-in-Flac-clause-too_large c = rw c.in-Flac.is c.add-in-Flac.ensures.too_large

@@ -11,3 +11,12 @@ returns-in-Hash c = rw c.in-Hash.is c.last-in-Hash.ensures
 
 pub returns-in-Crc : goal.returns-in-Crc
 returns-in-Crc c = rw c.in-Crc.is c.last-in-Crc.ensures
+
+pub returns-in-Joined : goal.returns-in-Joined
+returns-in-Joined c = rw c.in-Joined.is c.last-in-Joined.ensures
+
+pub returns-in-Streams : goal.returns-in-Streams
+returns-in-Streams c = rw c.in-Streams.is c.last-in-Streams.ensures
+
+pub returns-in-Sum : goal.returns-in-Sum
+returns-in-Sum c = rw c.in-Sum.is c.last-in-Sum.ensures

@@ -1,0 +1,22 @@
+use Rattle.ff_mux.proofs.writers.any.AnyWriterWriter.tail.Goals as goal
+
+pub returns-in-Flac : goal.returns-in-Flac
+returns-in-Flac c = rw c.in-Flac.is c.tail-in-Flac.ensures
+
+pub returns-in-Y4m : goal.returns-in-Y4m
+returns-in-Y4m c = rw c.in-Y4m.is c.tail-in-Y4m.ensures
+
+pub returns-in-Hash : goal.returns-in-Hash
+returns-in-Hash c = rw c.in-Hash.is c.tail-in-Hash.ensures
+
+pub returns-in-Crc : goal.returns-in-Crc
+returns-in-Crc c = rw c.in-Crc.is c.tail-in-Crc.ensures
+
+pub returns-in-Joined : goal.returns-in-Joined
+returns-in-Joined c = rw c.in-Joined.is c.tail-in-Joined.ensures
+
+pub returns-in-Streams : goal.returns-in-Streams
+returns-in-Streams c = rw c.in-Streams.is c.tail-in-Streams.ensures
+
+pub returns-in-Sum : goal.returns-in-Sum
+returns-in-Sum c = rw c.in-Sum.is c.tail-in-Sum.ensures
