@@ -19,8 +19,9 @@ use Rattle.ff_stream.specs.Stream.{Mark, whole, broken}
 use Rattle.ff_stream.specs.Times.{HasTime, start_of, end_of, ticks}
 use Rattle.ff_stream.specs.Lanes.{InOrder, IsItemFor, AreInShape}
 use Rattle.ff_filter.specs.declared.range.Range.{Range}
+use Rattle.ff_lasting.specs.Lastings.{lasting}
 use Rattle.ff_filter.specs.Sound.{IsSound}
-use Rattle.ff_afilter.specs.Trims.{count_of, before_stop, kept, kept_all, ends_past, reaches, sound_trimmed}
+use Rattle.ff_afilter.specs.Trims.{count_of, before_stop, kept, kept_all, ends_past, reaches, sound_trimmed, first_kept, sound_lasting}
 
 least_so : (a b : ℕ) → min a b ≤ a
 least_so a b = omega arith
@@ -237,4 +238,10 @@ module _ (tb : Fraction) (rate bits channels : ℕ) (codec : Codec) where
   sound_trim_sound range = record {
     shape = λ s v. shape_so range s.items v.shape;
     unbroken = λ s v u. unbroken_mark (reaches range s.items) s.mark u;
+  }
+
+  pub sound_lasting_sound : (range : Range) (ticks : ℕ) → IsSound (Frames (AudioHead tb rate bits channels codec)) (Frames (AudioHead tb rate bits channels codec)) (λ s. sound_lasting range ticks s)
+  sound_lasting_sound range ticks = record {
+    shape = λ s v. (sound_trim_sound (lasting range ticks (first_kept range.start s.items))).shape s v;
+    unbroken = λ s v u. (sound_trim_sound (lasting range ticks (first_kept range.start s.items))).unbroken s v u;
   }

@@ -16,15 +16,15 @@ use Rattle.ff_filter.specs.Runs.{Stepped, run, run_at, no_more, run_below, run_c
 use Rattle.ff_afilter.specs.Trims.{kept, kept_all, ends_past, reaches, sound_trimmed, after_if}
 
 -- what one frame gives
-abbrev trim_step : Range → Item → Stepped Range
+abbrev pub trim_step : Range → Item → Stepped Range
 trim_step range x = record { made = record { items = kept range x; mark = cond (ends_past range x) whole still_open }; next = range }
 
-step_at : (a : Bool) (ks xs : List Item) (r : Bool) (m : Mark)
+pub step_at : (a : Bool) (ks xs : List Item) (r : Bool) (m : Mark)
     → ◌≡◌ {A = Flow} (joined (record { items = ks; mark = cond a whole still_open }) (record { items = xs; mark = cond r whole m })) (record { items = ks ++ cond a [] xs; mark = cond (cond a true r) whole m })
 step_at true ks xs r m = ap (λ (zs : List Item). let s : Flow = record { items = zs; mark = whole } in s) (sym (append-nil ks))
 step_at false ks xs r m = refl
 
-run_is : (range : Range) (xs : List Item) (m : Mark) → run_at trim_step no_more range xs m ≡ sound_trimmed range (record { items = xs; mark = m })
+pub run_is : (range : Range) (xs : List Item) (m : Mark) → run_at trim_step no_more range xs m ≡ sound_trimmed range (record { items = xs; mark = m })
 run_is range [] still_open = refl
 run_is range [] whole = refl
 run_is range [] broken = refl
@@ -48,7 +48,7 @@ trimmed-bare range m = refl
 next_is : (range : Range) (x : Item) (t : Flow) → closes x ≡ false → sound_trimmed range (before x t) ≡ joined (trim_step range x).made (sound_trimmed range t)
 next_is range x t c = subst (λ (f : Flow → Flow). f (before x t) ≡ joined (trim_step range x).made (f t)) (trimmed-is range) (run_next trim_step no_more range x t c)
 
-made_mark : (b : Bool) (item : Option Item) (opens : (y : Item) → item ≡ Some y → closes y ≡ false) → ◌≡◌ {A = Flow} (record { items = listed_option item; mark = cond b whole still_open }) (made_of item (after_if b))
+pub made_mark : (b : Bool) (item : Option Item) (opens : (y : Item) → item ≡ Some y → closes y ≡ false) → ◌≡◌ {A = Flow} (record { items = listed_option item; mark = cond b whole still_open }) (made_of item (after_if b))
 made_mark true None h = refl
 made_mark false None h = refl
 made_mark b (Some y) h = at b y (h y refl)

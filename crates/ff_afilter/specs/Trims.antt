@@ -1,5 +1,5 @@
 -- Sound within a range of times, cut at the sample frame.
-use Rattle.std.specs.Prelude.{◌≡◌, ℕ, zero, suc, ◌+◌, ◌-◌, ◌/◌, min, pos, Bool, true, false, cond, nat_lt, Option, None, Some, List, [], ◌∷◌, ◌++◌, length, Result, Ok}
+use Rattle.std.specs.Prelude.{◌≡◌, ℕ, zero, suc, ◌+◌, ◌-◌, ◌/◌, min, max, pos, Bool, true, false, cond, nat_lt, Option, None, Some, List, [], ◌∷◌, ◌++◌, length, Result, Ok}
 use Rattle.ff_frame.specs.declared.audio.AFrame.{AFrame}
 use Rattle.ff_frame.specs.declared.config.ConfigError.{ConfigError}
 use Rattle.ff_frame.specs.declared.head.StreamHead.{StreamHead}
@@ -14,13 +14,15 @@ use Rattle.ff_lang.specs.declared.graph.Arg.{Arg}
 use Rattle.ff_filter.specs.declared.after.After.{After}
 use Rattle.ff_filter.specs.declared.after.After.TheVariants.{More, Whole}
 use Rattle.ff_filter.specs.declared.range.Range.{Range}
-use Rattle.ff_filter.specs.declared.range.RangeSettings.{RangeSettings}
+use Rattle.ff_lasting.specs.declared.settings.TrimSettings.{TrimSettings}
 use Rattle.ff_filter.specs.Joins.{Flow}
 use Rattle.ff_filter.specs.Views.{View}
 use Rattle.ff_filter.specs.Options.{is_sound, IsConfigured}
-use Rattle.ff_filter.specs.Ranges.{range_manual, IsRange, is_past}
+use Rattle.ff_filter.specs.Ranges.{IsRange, IsCeiling, is_past}
+use Rattle.ff_lasting.specs.Lastings.{trim_manual, lasting}
+use Rattle.ff_filter.specs.Shifts.{start_ticks}
 use Rattle.ff_filter.specs.Singles.{single_view}
-use Rattle.ff_afilter.specs.declared.atrim.ATrim.{ATrim}
+use Rattle.ff_afilter.specs.declared.lasting_atrim.LastingATrim.{LastingATrim}
 
 -- the number of a frame's sample frames
 abbrev pub count_of : AFrame → ℕ
@@ -71,16 +73,40 @@ abbrev pub after_if : Bool → After
 after_if true = Whole
 after_if false = More
 
--- with a stop at 0 the output ends before anything comes
-abbrev pub at_once : Option ℕ → After
-at_once None = More
-at_once (Some zero) = Whole
-at_once (Some (suc stop)) = More
+-- a frame ends after a time
+abbrev pub ends_after : ℕ → Item → Bool
+ends_after time (Audio f) = nat_lt time (ticks f.pts + count_of f)
+ends_after time (Video f) = false
+ends_after time (Packet p) = false
+ends_after time (Trailer t) = false
+ends_after time End = false
+ends_after time Broken = false
 
--- `atrim` by its arguments: `start` and `end`
-abbrev pub IsATrim : List Arg → List StreamHead → Result ATrim ConfigError → Type 0
-IsATrim args heads r = (all : RangeSettings) × (all.start ≡ 0) × (all.stop ≡ None)
-    × IsConfigured is_sound range_manual all (λ head settings q. (range : Range) × IsRange settings (base_of_head head) range × (q ≡ Ok (record { head = head; range = range }))) args heads r
+-- when the first sample starts that is kept: that of the first frame that ends after the start
+abbrev pub first_kept : ℕ → List Item → Option ℕ
+first_kept start [] = None
+first_kept start (x ∷ xs) = cond (ends_after start x) (Some (max start (start_ticks x))) (first_kept start xs)
 
-abbrev pub atrim_view : ATrim → View
-atrim_view m = single_view (Frames m.head) m.head (λ s. sound_trimmed m.range s) (at_once m.range.stop)
+-- the same with a duration of so many ticks from the first sample kept on, where there are any
+abbrev pub sound_lasting : Range → ℕ → Flow → Flow
+sound_lasting range ticks s = sound_trimmed (lasting range ticks (first_kept range.start s.items)) s
+
+-- with a stop at 0 and no duration the output ends before anything comes
+abbrev pub at_once : ℕ → Option ℕ → After
+at_once (suc ticks) stop = More
+at_once zero None = More
+at_once zero (Some zero) = Whole
+at_once zero (Some (suc stop)) = More
+
+-- a range and a duration, in ticks of the time base
+abbrev pub MakesATrim : StreamHead → TrimSettings → Result LastingATrim ConfigError → Type 0
+MakesATrim head settings q = (m : LastingATrim) × (m.trim.head ≡ head) × IsRange settings.range (base_of_head head) m.trim.range
+    × IsCeiling settings.lasting (base_of_head head) m.lasting × (q ≡ Ok m)
+
+-- `atrim` by its arguments: `start`, `end` and `duration`
+abbrev pub IsATrim : List Arg → List StreamHead → Result LastingATrim ConfigError → Type 0
+IsATrim args heads r = (all : TrimSettings) × (all.range.start ≡ 0) × (all.range.stop ≡ None) × (all.lasting ≡ 0)
+    × IsConfigured is_sound trim_manual all MakesATrim args heads r
+
+abbrev pub atrim_view : LastingATrim → View
+atrim_view m = single_view (Frames m.trim.head) m.trim.head (λ s. sound_lasting m.trim.range m.lasting s) (at_once m.lasting m.trim.range.stop)

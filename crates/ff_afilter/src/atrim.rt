@@ -1,5 +1,5 @@
-//! The filter `atrim`.
-ghost use Rattle.std.specs.Prelude.{◌≡◌, ◌+◌, ◌-◌, ◌*◌, ◌/◌, ◌<◌, ◌≤◌, ◌^◌, pos, length, IfOk, IfErr, IfSome, Some, false};
+//! The audio within a range of times.
+ghost use Rattle.std.specs.Prelude.{◌≡◌, ◌+◌, ◌-◌, ◌*◌, ◌/◌, ◌<◌, ◌≤◌, ◌^◌, pos, length, IfSome, Some, false};
 ghost use Rattle.ff_stream.specs.declared.item.Item.{Item};
 ghost use Rattle.ff_stream.specs.declared.item.Item.TheVariants.{Audio};
 ghost use Rattle.ff_stream.specs.declared.item.Lane.TheVariants.{Frames};
@@ -8,16 +8,11 @@ ghost use Rattle.ff_filter.specs.Views.{closes};
 ghost use Rattle.ff_filter.specs.Made.{listed_option};
 ghost use Rattle.ff_filter.specs.Ranges.{is_past};
 
-use ff_filter::{
-    After, Filter, Given, Limited, Range, RangeSettings, Step, Stepper, machine_of, shared,
-    sound_settings, ticks_of,
-};
-use ff_frame::{AFrame, ConfigError, StreamHead};
-use ff_lang::Arg;
-use ff_stream::{Item, Refused};
-use std::alloc::Global;
+use ff_filter::{After, Given, Range, Step, ticks_of};
+use ff_frame::{AFrame, StreamHead};
+use ff_stream::{Item, Refused, shared};
 
-/// `atrim`: the audio from a start to below an end, cut at the sample frame. The output ends with the first frame that ends
+/// The audio from a start to below an end, cut at the sample frame. The output ends with the first frame that ends
 /// at or past the end.
 #[derive(Drop)]
 pub struct ATrim {
@@ -71,8 +66,8 @@ impl ATrim {
         Some(Item::Audio(frame))
     }
 
-    // What is kept of a frame, and how the output stands after it.
-    fn cut(&self, frame: AFrame) -> Given
+    /// What is kept of a frame, and how the output stands after it.
+    pub fn cut(&self, frame: AFrame) -> Given
         ensures item { listed_option result.item ≡ kept self.now.range (Audio frame) }
         ensures after { result.after ≡ after_if (ends_past self.now.range (Audio frame)) }
         ensures goes_on { IfSome result.item (λ y. closes y ≡ false) }
@@ -130,49 +125,15 @@ impl Step for ATrim {
 
 impl ATrim {
     ghost use Rattle.ff_filter.specs.declared.after.After.TheVariants.{More};
-    ghost use Rattle.ff_filter.specs.Options.{IsMade, IsRefused};
-    ghost use Rattle.ff_afilter.specs.Trims.{IsATrim, atrim_view, at_once as over_at_once};
 
-    // An item that isn't audio stays as it is.
-    fn passed(item: Item) -> Given
+    /// An item that isn't audio stays as it is.
+    pub fn passed(item: Item) -> Given
         ensures item { result.item ≡ Some item }
         ensures after { result.after ≡ More }
     {
         Given {
             item: Some(item),
             after: After::More,
-        }
-    }
-
-    // Where the end is at 0, the output ends before anything comes.
-    fn at_once(stop: Option<u64>) -> After
-        ensures { result ≡ over_at_once stop }
-    {
-        match stop {
-            Some(0) => After::Whole,
-            Some(_) => After::More,
-            None => After::More,
-        }
-    }
-
-    /// The filter by its arguments and the head of its input; the head of its output beside it. The options are `start`,
-    /// which is 0 where it isn't given, and `end`: durations, in this order of places. It refuses in this order: `Pads`,
-    /// `Kind`, `UnknownOption` and `BadOption` by argument.
-    pub fn configure(
-        alloc: Global,
-        args: &[Arg],
-        heads: &[StreamHead],
-    ) -> Result<(Stepper<Limited<ATrim>>, Vec<StreamHead>), ConfigError>
-        ensures made { IfOk result (λ r. IsMade (IsATrim args.now heads.now) atrim_view (λ m. m.head) (⟦<Stepper<Limited<ATrim>> as Filter>⟧.view r.0) r.1.items) }
-        ensures refused { IfErr result (IsRefused (IsATrim args.now heads.now)) }
-    {
-        match sound_settings(RangeSettings::ALL, args, heads) {
-            Err(error) => Err(error),
-            Ok((head, settings)) => {
-                let range = Range::of(settings, &head);
-                let after = ATrim::at_once(range.stop);
-                machine_of(alloc, ATrim { head, range }, &head, after)
-            }
         }
     }
 }

@@ -4,10 +4,10 @@ ghost use Rattle.ff_stream.specs.declared.item.Lane.TheVariants.{Frames};
 ghost use Rattle.ff_frame.specs.declared.config.ConfigError.TheVariants.{NoMemory};
 ghost use Rattle.ff_afilter.specs.Channels.{channel_of, channel_frame, mono_head as head_of_one, channels_in as channels_of_head, channels_view, mono_heads};
 
-use ff_filter::{Filter, NoSettings, Share, Spreader, same_heads, shared, sound_settings};
+use ff_filter::{Filter, NoSettings, Share, Spreader, same_heads, sound_settings};
 use ff_frame::{AFrame, ConfigError, Samples, StreamHead};
 use ff_lang::Arg;
-use ff_stream::Item;
+use ff_stream::{Item, shared};
 use std::alloc::{AllocError, Global};
 
 /// Gives each output one channel.

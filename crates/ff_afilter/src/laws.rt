@@ -18,12 +18,15 @@ ghost use Rattle.ff_filter.specs.Sound.{IsSound};
 ghost use Rattle.ff_filter.specs.spread.Valid.{GivesValid};
 ghost use Rattle.ff_afilter.specs.Channels.{channel_item};
 ghost use Rattle.ff_afilter.specs.Ends.{EndsBefore, EndsFrom, kept_of_each};
-ghost use Rattle.ff_afilter.specs.Trims.{sound_trimmed};
+ghost use Rattle.ff_afilter.specs.Trims.{sound_trimmed, sound_lasting};
 
-/// Of a valid audio stream what lies within a range is in shape for the same way; an unbroken one doesn't break off.
+/// Of a valid audio stream what lies within a range is in shape for the same way, with a duration and without one; an
+/// unbroken one doesn't break off.
 pub fn sound_kept_is_sound()
-    ensures { (tb : Fraction) (rate bits channels : ℕ) (codec : Codec) (range : Range)
+    ensures range { (tb : Fraction) (rate bits channels : ℕ) (codec : Codec) (range : Range)
         → IsSound (Frames (AudioHead tb rate bits channels codec)) (Frames (AudioHead tb rate bits channels codec)) (λ s. sound_trimmed range s) }
+    ensures lasting { (tb : Fraction) (rate bits channels : ℕ) (codec : Codec) (range : Range) (ticks : ℕ)
+        → IsSound (Frames (AudioHead tb rate bits channels codec)) (Frames (AudioHead tb rate bits channels codec)) (λ s. sound_lasting range ticks s) }
 {}
 
 /// What lies within a range closes whole with the first frame that ends at the stop or later, and nothing after that
@@ -56,6 +59,8 @@ pub fn sound_keeps_the_broken_rule()
         → KeepsBrokenRule (λ (ss : List Flow). IsValid lane (stream_at ss 0)) (λ (ss : List Flow). shifted None (stream_at ss 0)) }
     ensures trimmed { (lane : Lane) (range : Range)
         → KeepsBrokenRule (λ (ss : List Flow). IsValid lane (stream_at ss 0)) (λ (ss : List Flow). sound_trimmed range (stream_at ss 0)) }
+    ensures lasting { (lane : Lane) (range : Range) (ticks : ℕ)
+        → KeepsBrokenRule (λ (ss : List Flow). IsValid lane (stream_at ss 0)) (λ (ss : List Flow). sound_lasting range ticks (stream_at ss 0)) }
     ensures channel { (lane : Lane) (q : ℕ)
         → KeepsBrokenRule (λ (ss : List Flow). IsValid lane (stream_at ss 0)) (λ (ss : List Flow). map_stream (channel_item q) (stream_at ss 0)) }
 {}

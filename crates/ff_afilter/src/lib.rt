@@ -15,6 +15,7 @@ mod aset_pts;
 mod asplit;
 mod atrim;
 mod channel_split;
+mod lasting_atrim;
 mod laws;
 
 pub use anull::ANull;
@@ -22,6 +23,7 @@ pub use aset_pts::ASetPts;
 pub use asplit::ASplit;
 pub use atrim::ATrim;
 pub use channel_split::{ChannelSplit, Channels};
+pub use lasting_atrim::LastingATrim;
 pub use laws::{
     channels_are_valid, sound_keeps_the_broken_rule, sound_kept_is_sound,
     trimmed_audio_ends_at_the_stop,

@@ -1,5 +1,5 @@
 -- Each filter is what its function says.
-use Rattle.std.proofs.Common.{◌≡◌, ℕ, ◌==◌, nat_le, Bool, true, false, cond, Option, Some, None, Result, Ok, Err, List, [], ◌∷◌, length, inl, inr, refl, sym, ap}
+use Rattle.std.proofs.Common.{◌≡◌, ℕ, ◌<◌, ◌^◌, ◌==◌, nat_le, Bool, true, false, cond, Option, Some, None, Result, Ok, Err, List, [], ◌∷◌, length, inl, inr, refl, sym, ap}
 use Rattle.std.proofs.Common.{subst, ◌∙◌}
 use Rattle.ff_time.specs.Fraction.{Fraction}
 use Rattle.ff_frame.specs.declared.config.ConfigError.{ConfigError}
@@ -9,22 +9,23 @@ use Rattle.ff_frame.specs.declared.head.StreamHead.TheVariants.{Audio, Video}
 use Rattle.ff_frame.specs.Heads.{base_of_head}
 use Rattle.ff_lang.specs.declared.graph.Arg.{Arg}
 use Rattle.ff_filter.specs.Options.{is_sound, is_video, Manual, AreRead, IsConfigured}
-use Rattle.ff_filter.specs.declared.range.RangeSettings.{RangeSettings}
+use Rattle.ff_lasting.specs.declared.settings.TrimSettings.{TrimSettings}
 use Rattle.ff_filter.specs.declared.range.Range.{Range}
-use Rattle.ff_filter.specs.Ranges.{range_manual, IsRange}
+use Rattle.ff_filter.specs.Ranges.{IsCeiling}
+use Rattle.ff_lasting.specs.Lastings.{trim_manual, near_one}
 use Rattle.ff_filter.specs.declared.rebase.Rebase.{Rebase}
 use Rattle.ff_filter.specs.Plain.{no_manual, expr_manual, IsRebase}
 use Rattle.ff_filter.specs.spread.Splits.{split_manual, IsSplit}
 use Rattle.ff_planes.specs.declared.rectangle.Rectangle.{Rectangle}
-use Rattle.ff_vfilter.specs.declared.trim.Trim.{Trim}
+use Rattle.ff_vfilter.specs.declared.lasting_trim.LastingTrim.{LastingTrim}
 use Rattle.ff_vfilter.specs.declared.crop.CropSettings.{CropSettings}
 use Rattle.ff_vfilter.specs.declared.pad.PadSettings.{PadSettings}
 use Rattle.ff_vfilter.specs.Crops.{crop_manual, crop_makes, IsCrop}
 use Rattle.ff_vfilter.specs.Pads.{pad_manual, Padded, pad_makes, IsPad}
 use Rattle.ff_vfilter.specs.FpsOptions.{fps_manual, IsFps}
-use Rattle.ff_vfilter.specs.Trims.{IsTrim}
-use Rattle.ff_afilter.specs.declared.atrim.ATrim.{ATrim}
-use Rattle.ff_afilter.specs.Trims.{IsATrim}
+use Rattle.ff_vfilter.specs.Trims.{MakesTrim, IsTrim}
+use Rattle.ff_afilter.specs.declared.lasting_atrim.LastingATrim.{LastingATrim}
+use Rattle.ff_afilter.specs.Trims.{MakesATrim, IsATrim}
 use Rattle.ff_fsync.specs.declared.stacks.options.StackSettings.{StackSettings}
 use Rattle.ff_fsync.specs.declared.stacks.shape.Direction.{Direction}
 use Rattle.ff_fsync.specs.stacks.Options.{stack_manual, counted}
@@ -33,16 +34,16 @@ use Rattle.ff_fsync.specs.stacks.Heads.{input_fault, stack_fault}
 use Rattle.ff_joins.specs.ConcatOptions.{concat_manual, concat_set, concat_start, EachIs, AreJoined, IsConcat, segments_said, video_said, sound_said, is_of_kind}
 use Rattle.ff_joins.specs.JoinOptions.{channels_in, join_manual, inputs_said, is_like, AreAlike, IsJoin}
 use Rattle.ff_joins.specs.Arguments.{Checked, GoesOn, AfterRead as AfterArgs, each_head}
-use Rattle.ff_filters.specs.Ticks.{range_in, set_times}
+use Rattle.ff_filters.specs.Ticks.{TrimTimes, set_trim, ticks_at, in_bits, in_bits-near, range_in}
 use Rattle.ff_filters.specs.Heads.{each_is}
 use Rattle.ff_filters.specs.ReadBy.{and_then, unless, read_by, configured_by}
 use Rattle.ff_filters.specs.SetBy.{set_none, set_expr, set_crop, set_pad, set_fps, set_split, set_stack, set_join}
-use Rattle.ff_filters.specs.Configured.{plain_by, rebase_by, trim_by, atrim_by, cropped_as, crop_by, padded_as, pad_by, fps_by, split_by, stacked_as, stack_by}
+use Rattle.ff_filters.specs.Configured.{plain_by, rebase_by, all_times, trimmed_as, trim_by, atrimmed_as, atrim_by, cropped_as, crop_by, padded_as, pad_by, fps_by, split_by, stacked_as, stack_by}
 use Rattle.ff_filters.specs.Configured.{checked, segments_as, concat_by, joined_as, join_by}
 use Rattle.ff_filters.proofs.Readings.{SetsBy, result_of, read_is, configured_is}
 use Rattle.ff_filters.proofs.SameHeads.{each_in, each_out}
 use Rattle.ff_filters.proofs.SettingsBy.{none_set, expr_set, crop_set, pad_set, fps_set, split_set, join_set, concat_sets, stack_set}
-use Rattle.ff_filters.proofs.RangeTicks.{times_of, range_set, range_is}
+use Rattle.ff_filters.proofs.RangeTicks.{times_of, trim_times, trim_set, ceiling_is, in_bits-same, range_is}
 
 -- ---- of one input
 
@@ -82,29 +83,53 @@ split_is wanted args heads r h =
     configured_is split_manual (λ s. s) set_split split_set (λ head s q. q ≡ Ok (head, s.outputs)) (λ head s. Ok (head, s.outputs)) (λ head s q e. sym e)
     wanted (record { outputs = 2 }) args heads r h
 
--- a range of times, of a machine made of a head and a range
-ranged_is : {X : Type 0} (wanted : StreamHead → Bool) (of : StreamHead → Range → X) (all : RangeSettings) (args : List Arg) (heads : List StreamHead)
-    (r : Result X ConfigError)
-    → all.start ≡ 0 → all.stop ≡ None
-    → IsConfigured wanted range_manual all (λ head settings q. (range : Range) × IsRange settings (base_of_head head) range × (q ≡ Ok (of head range))) args heads r
-    → configured_by wanted range_manual set_times (record { start = 0; stop = None }) (λ head s. Ok (of head (range_in (base_of_head head) s))) args heads ≡ r
-ranged_is {X} wanted of all args heads r first last h =
-    subst (λ (n : ℕ). configured_by wanted range_manual set_times (record { start = n; stop = None }) (λ head s. Ok (of head (range_in (base_of_head head) s))) args
-    heads ≡ r) first
-    (subst (λ (o : Option ℕ). configured_by wanted range_manual set_times (record { start = all.start; stop = o })
-    (λ head s. Ok (of head (range_in (base_of_head head) s))) args heads ≡ r) last
-    (configured_is range_manual times_of set_times range_set (λ head settings q. (range : Range) × IsRange settings (base_of_head head) range × (q ≡ Ok (of head range)))
-    (λ head s. Ok (of head (range_in (base_of_head head) s))) made wanted all args heads r h))
+-- settings that are all times are so as they are shown
+all_is : (all : TrimSettings) → all.range.start ≡ 0 → all.range.stop ≡ None → all.lasting ≡ 0 → trim_times all ≡ all_times
+all_is all first last none =
+    ap (λ (n : ℕ). let u : TrimTimes = record { range = record { start = n; stop = all.range.stop }; lasting = all.lasting } in u) first
+    ∙ (ap (λ (o : Option ℕ). let u : TrimTimes = record { range = record { start = 0; stop = o }; lasting = all.lasting } in u) last
+    ∙ ap (λ (n : ℕ). let u : TrimTimes = record { range = record { start = 0; stop = None }; lasting = n } in u) none)
+
+lasting_is : (us : ℕ) (tb : Fraction) (k : ℕ) → k < 2 ^ 63 → IsCeiling us tb k → k ≡ in_bits (ticks_at tb us)
+lasting_is us tb k near is = sym (in_bits-same (ticks_at tb us) k (ceiling_is us tb k is) near)
+
+trim_same : (m : LastingTrim) (h : StreamHead) (r : Range) (k : ℕ) (q : k < 2 ^ 63) → m.trim.head ≡ h → m.trim.range ≡ r → m.lasting ≡ k
+    → m ≡ record { trim = record { head = h; range = r }; lasting = k; near = q }
+trim_same m h r k q e f g =
+    subst (λ j. (q : j < 2 ^ 63) → m ≡ record { trim = record { head = h; range = r }; lasting = j; near = q }) g
+    (λ q. subst (λ (x : StreamHead). m ≡ record { trim = record { head = x; range = r }; lasting = m.lasting; near = q }) e
+    (subst (λ (y : Range). m ≡ record { trim = record { head = m.trim.head; range = y }; lasting = m.lasting; near = q }) f
+    (ap (λ (b : m.lasting < 2 ^ 63). let n : LastingTrim = record { trim = m.trim; lasting = m.lasting; near = b } in n) (near_one m.lasting m.near q)))) q
+
+pub trim_is : (args : List Arg) (heads : List StreamHead) (r : Result LastingTrim ConfigError) → IsTrim args heads r → trim_by args heads ≡ r
+trim_is args heads r h =
+    subst (λ (u : TrimTimes). configured_by is_video trim_manual set_trim u trimmed_as args heads ≡ r) (all_is h.0 h.1 h.2 h.3)
+    (configured_is trim_manual trim_times set_trim trim_set MakesTrim trimmed_as made is_video h.0 args heads r h.4)
   where
-    made : (head : StreamHead) (s : RangeSettings) (q : Result X ConfigError) → (range : Range) × IsRange s (base_of_head head) range × (q ≡ Ok (of head range))
-        → Ok (of head (range_in (base_of_head head) (times_of s))) ≡ q
-    made head s q k = ap (λ (x : Range). Ok (of head x)) (range_is s (base_of_head head) k.0 k.1) ∙ sym k.2
+    made : (head : StreamHead) (s : TrimSettings) (q : Result LastingTrim ConfigError) → MakesTrim head s q → trimmed_as head (trim_times s) ≡ q
+    made head s q k =
+        let tb = base_of_head head in
+        ap Ok (sym (trim_same k.0 head (range_in tb (times_of s.range)) (in_bits (ticks_at tb s.lasting)) (in_bits-near (ticks_at tb s.lasting)) k.1
+        (sym (range_is s.range tb k.0.trim.range k.2)) (lasting_is s.lasting tb k.0.lasting k.0.near k.3))) ∙ sym k.4
 
-pub trim_is : (args : List Arg) (heads : List StreamHead) (r : Result Trim ConfigError) → IsTrim args heads r → trim_by args heads ≡ r
-trim_is args heads r h = ranged_is is_video (λ head range. record { head = head; range = range }) h.0 args heads r h.1 h.2 h.3
+atrim_same : (m : LastingATrim) (h : StreamHead) (r : Range) (k : ℕ) (q : k < 2 ^ 63) → m.trim.head ≡ h → m.trim.range ≡ r → m.lasting ≡ k
+    → m ≡ record { trim = record { head = h; range = r }; lasting = k; near = q }
+atrim_same m h r k q e f g =
+    subst (λ j. (q : j < 2 ^ 63) → m ≡ record { trim = record { head = h; range = r }; lasting = j; near = q }) g
+    (λ q. subst (λ (x : StreamHead). m ≡ record { trim = record { head = x; range = r }; lasting = m.lasting; near = q }) e
+    (subst (λ (y : Range). m ≡ record { trim = record { head = m.trim.head; range = y }; lasting = m.lasting; near = q }) f
+    (ap (λ (b : m.lasting < 2 ^ 63). let n : LastingATrim = record { trim = m.trim; lasting = m.lasting; near = b } in n) (near_one m.lasting m.near q)))) q
 
-pub atrim_is : (args : List Arg) (heads : List StreamHead) (r : Result ATrim ConfigError) → IsATrim args heads r → atrim_by args heads ≡ r
-atrim_is args heads r h = ranged_is is_sound (λ head range. record { head = head; range = range }) h.0 args heads r h.1 h.2 h.3
+pub atrim_is : (args : List Arg) (heads : List StreamHead) (r : Result LastingATrim ConfigError) → IsATrim args heads r → atrim_by args heads ≡ r
+atrim_is args heads r h =
+    subst (λ (u : TrimTimes). configured_by is_sound trim_manual set_trim u atrimmed_as args heads ≡ r) (all_is h.0 h.1 h.2 h.3)
+    (configured_is trim_manual trim_times set_trim trim_set MakesATrim atrimmed_as made is_sound h.0 args heads r h.4)
+  where
+    made : (head : StreamHead) (s : TrimSettings) (q : Result LastingATrim ConfigError) → MakesATrim head s q → atrimmed_as head (trim_times s) ≡ q
+    made head s q k =
+        let tb = base_of_head head in
+        ap Ok (sym (atrim_same k.0 head (range_in tb (times_of s.range)) (in_bits (ticks_at tb s.lasting)) (in_bits-near (ticks_at tb s.lasting)) k.1
+        (sym (range_is s.range tb k.0.trim.range k.2)) (lasting_is s.lasting tb k.0.lasting k.0.near k.3))) ∙ sym k.4
 
 -- ---- of several inputs
 

@@ -4,19 +4,17 @@ use Rattle.ff_time.specs.Fraction.{IsBase, IsBase-unit}
 use Rattle.ff_frame.specs.declared.config.ConfigError.TheVariants.{BadSize, BadOption}
 use Rattle.ff_frame.specs.declared.head.StreamHead.{StreamHead}
 use Rattle.ff_frame.specs.declared.head.StreamHead.TheVariants.{Audio, Video}
-use Rattle.ff_frame.specs.Heads.{base_of_head}
 use Rattle.ff_stream.specs.declared.item.Lane.TheVariants.{Frames}
 use Rattle.ff_filter.specs.Options.{is_sound, is_video}
 use Rattle.ff_filter.specs.declared.pass.Pass.{Pass}
 use Rattle.ff_filter.specs.declared.plain.ExprSettings.{ExprSettings}
 use Rattle.ff_filter.specs.declared.rebase.Rebase.{Rebase}
 use Rattle.ff_filter.specs.Plain.{expr_manual, IsPass, pass_view, IsRebase, rebase_view}
-use Rattle.ff_filter.specs.Ranges.{range_manual}
+use Rattle.ff_lasting.specs.Lastings.{trim_manual}
 use Rattle.ff_planes.specs.declared.rectangle.Rectangle.{Rectangle}
 use Rattle.ff_vfilter.specs.declared.crop.CropSettings.{CropSettings}
 use Rattle.ff_vfilter.specs.declared.pad.PadSettings.{PadSettings}
 use Rattle.ff_vfilter.specs.declared.fps.FpsSettings.{FpsSettings}
-use Rattle.ff_vfilter.specs.declared.trim.Trim.{Trim}
 use Rattle.ff_vfilter.specs.Sizes.{no_sizes}
 use Rattle.ff_vfilter.specs.Trims.{IsTrim, trim_view}
 use Rattle.ff_vfilter.specs.Crops.{crop_manual, crop_part, can_crop, IsCrop, crop_view, crop_head}
@@ -24,12 +22,11 @@ use Rattle.ff_vfilter.specs.Pads.{Padded, pad_manual, pad_of, can_pad, IsPad, pa
 use Rattle.ff_vfilter.specs.HFlips.{IsHFlip, hflip_view}
 use Rattle.ff_vfilter.specs.VFlips.{IsVFlip, vflip_view}
 use Rattle.ff_vfilter.specs.FpsOptions.{fps_manual, IsFps, fps_view, fps_head}
-use Rattle.ff_afilter.specs.declared.atrim.ATrim.{ATrim}
 use Rattle.ff_afilter.specs.Trims.{IsATrim, atrim_view}
 use Rattle.ff_filters.specs.declared.name.FilterName.TheVariants as filter
 use Rattle.ff_filters.specs.SetBy.{set_expr, set_crop, set_pad, set_fps}
-use Rattle.ff_filters.specs.Ticks.{Times, set_times, range_in}
-use Rattle.ff_filters.specs.Configured.{plain_by, rebased_as, rebase_by, all_times, cropped_as, padded_as}
+use Rattle.ff_filters.specs.Ticks.{set_trim}
+use Rattle.ff_filters.specs.Configured.{plain_by, rebased_as, rebase_by, all_times, trim_in, atrim_in, cropped_as, padded_as}
 use Rattle.ff_filters.specs.Definitions.{single, one, definition_of, relation_of}
 use Rattle.ff_filters.proofs.Agreeing.{plain_is, rebase_is, trim_is, atrim_is, crop_is, pad_is, fps_is}
 use Rattle.ff_filters.proofs.Refusing.{cropped-so, padded-so, if_so}
@@ -52,29 +49,23 @@ null_owed takes_sound wanted = plain_owed takes_sound wanted (IsPass wanted) pas
       becomes = itself h [];
     })
 
-abbrev trim_of : StreamHead → Times → Trim
-trim_of h u = record { head = h; range = range_in (base_of_head h) u }
-
 pub trim_owed : Owed (definition_of filter.Trim) (relation_of filter.Trim)
-trim_owed = free_owed false is_video IsTrim range_manual set_times all_times trim_of trim_view (λ m. m.head) trim_is
+trim_owed = free_owed false is_video IsTrim trim_manual set_trim all_times trim_in trim_view (λ m. m.trim.head) trim_is
     (λ h u k. record {
       ins = refl;
       outs = refl;
       new = record { shut = λ p. refl; ended = λ q. refl; stopped = λ q. refl };
-      owes = trim_owes (trim_of h u);
+      owes = trim_owes (trim_in h u);
       becomes = itself h [];
     })
 
-abbrev atrim_of : StreamHead → Times → ATrim
-atrim_of h u = record { head = h; range = range_in (base_of_head h) u }
-
 pub atrim_owed : Owed (definition_of filter.ATrim) (relation_of filter.ATrim)
-atrim_owed = free_owed true is_sound IsATrim range_manual set_times all_times atrim_of atrim_view (λ m. m.head) atrim_is
+atrim_owed = free_owed true is_sound IsATrim trim_manual set_trim all_times atrim_in atrim_view (λ m. m.trim.head) atrim_is
     (λ h u k. record {
       ins = refl;
       outs = refl;
       new = record { shut = λ p. refl; ended = λ q. refl; stopped = λ q. refl };
-      owes = atrim_owes (atrim_of h u) k;
+      owes = atrim_owes (atrim_in h u) k;
       becomes = itself h [];
     })
 

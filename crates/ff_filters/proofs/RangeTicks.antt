@@ -2,7 +2,6 @@
 use Rattle.std.proofs.Common.{◌≡◌, ℕ, zero, suc, ℤ, pos, ◌*◌, ◌<◌, ◌≤◌, ◌^◌, ◌≤ℤ◌, ◌*ℤ◌, ◌-ℤ◌, Bool, true, false, nat_le, cond, ◌&&◌, Option, Some, None, option_map}
 use Rattle.std.proofs.Common.{List, inl, inr, refl, sym, ap, subst, ◌∙◌, arith}
 use Rattle.std.specs.Option.{ForSome}
-use Rattle.std.proofs.Props.{props}
 use Rattle.std.proofs.lemmas.Int.{ints}
 use Rattle.std.proofs.lemmas.Bool.Decides.{nat_tests}
 use Rattle.std.proofs.lemmas.Bool.{cases_lt}
@@ -13,10 +12,12 @@ use Rattle.ff_stream.specs.Times.{ticks}
 use Rattle.ff_filter.specs.Options.{IsTime}
 use Rattle.ff_filter.specs.declared.range.RangeSettings.{RangeSettings}
 use Rattle.ff_filter.specs.declared.range.Range.{Range}
-use Rattle.ff_filter.specs.Ranges.{SetsRange, range_manual, IsCeiling, IsStop, IsRange}
+use Rattle.ff_lasting.specs.declared.settings.TrimSettings.{TrimSettings}
+use Rattle.ff_filter.specs.Ranges.{SetsRange, IsCeiling, IsStop, IsRange}
+use Rattle.ff_lasting.specs.Lastings.{SetsTrim, trim_manual, range_same}
 use Rattle.ff_joins.specs.Arguments.{number_between}
 use Rattle.ff_filters.specs.Texts.{duration_of, time_of}
-use Rattle.ff_filters.specs.Ticks.{Times, set_times, ticks_at, in_bits, in_bits-near, range_in}
+use Rattle.ff_filters.specs.Ticks.{Times, set_times, TrimTimes, set_trim, ticks_at, in_bits, in_bits-near, range_in}
 use Rattle.ff_filters.proofs.Durations.{duration_in, duration_out}
 use Rattle.ff_filters.proofs.Readings.{SetsBy}
 
@@ -46,7 +47,7 @@ time_out text us e = time_back text (duration_of text) us refl e
 abbrev pub times_of : RangeSettings → Times
 times_of s = record { start = s.start; stop = s.stop }
 
-some_out : (f : ℕ → Times) (o : Option ℕ) (u : Times) → option_map f o ≡ Some u → (us : ℕ) × (o ≡ Some us)
+some_out : {A B : Type 0} (f : A → B) (o : Option A) (u : B) → option_map f o ≡ Some u → (us : A) × (o ≡ Some us)
 some_out f None u e = cc
 some_out f (Some us) u e = (us, refl)
 
@@ -74,8 +75,39 @@ range_takes s (suc option) value u e =
     let is = time_out value k.0 k.1 in
     (record { start = s.start; stop = Some k.0; start_near = s.start_near; stop_near = near_some k.0 is.1 }, (refl, (k.0, is, refl)))
 
-pub range_set : SetsBy range_manual times_of set_times
-range_set = record { sets = range_sets; takes = range_takes }
+-- the same with a duration
+abbrev pub trim_times : TrimSettings → TrimTimes
+trim_times s = record { range = times_of s.range; lasting = s.lasting }
+
+trim_sets : (s : TrimSettings) (option : ℕ) (value : List ℕ) (t : TrimSettings) → SetsTrim s option value t
+    → set_trim (trim_times s) option value ≡ Some (trim_times t)
+trim_sets s zero value t h =
+    ap (option_map (λ (r : Times). let m : TrimTimes = record { range = r; lasting = s.lasting } in m)) (range_sets s.range 0 value t.range h.0)
+    ∙ ap (λ (n : ℕ). let m : TrimTimes = record { range = times_of t.range; lasting = n } in Some m) (sym h.1)
+trim_sets s (suc zero) value t h =
+    ap (option_map (λ (r : Times). let m : TrimTimes = record { range = r; lasting = s.lasting } in m)) (range_sets s.range 1 value t.range h.0)
+    ∙ ap (λ (n : ℕ). let m : TrimTimes = record { range = times_of t.range; lasting = n } in Some m) (sym h.1)
+trim_sets s (suc (suc option)) value t h =
+    ap (option_map (λ us. let m : TrimTimes = record { range = times_of s.range; lasting = us } in m)) (time_in value t.lasting h.1)
+    ∙ ap (λ (r : RangeSettings). let m : TrimTimes = record { range = times_of r; lasting = t.lasting } in Some m) (sym h.0)
+
+trim_takes : (s : TrimSettings) (option : ℕ) (value : List ℕ) (u : TrimTimes) → set_trim (trim_times s) option value ≡ Some u
+    → (t : TrimSettings) × SetsTrim s option value t
+trim_takes s zero value u e =
+    let k = some_out (λ (r : Times). let m : TrimTimes = record { range = r; lasting = s.lasting } in m) (set_times (times_of s.range) 0 value) u e in
+    let t = range_takes s.range 0 value k.0 k.1 in
+    (record { range = t.0; lasting = s.lasting; lasting_near = s.lasting_near }, (t.1, refl))
+trim_takes s (suc zero) value u e =
+    let k = some_out (λ (r : Times). let m : TrimTimes = record { range = r; lasting = s.lasting } in m) (set_times (times_of s.range) 1 value) u e in
+    let t = range_takes s.range 1 value k.0 k.1 in
+    (record { range = t.0; lasting = s.lasting; lasting_near = s.lasting_near }, (t.1, refl))
+trim_takes s (suc (suc option)) value u e =
+    let k = some_out (λ us. let m : TrimTimes = record { range = times_of s.range; lasting = us } in m) (time_of value) u e in
+    let is = time_out value k.0 k.1 in
+    (record { range = s.range; lasting = k.0; lasting_near = is.1 }, (refl, is))
+
+pub trim_set : SetsBy trim_manual trim_times set_trim
+trim_set = record { sets = trim_sets; takes = trim_takes }
 
 -- ---- ticks
 
@@ -111,18 +143,7 @@ pub stop_is : (tb : Fraction) (stop out : Option ℕ) → IsStop stop tb out →
 stop_is tb None out e = sym e
 stop_is tb (Some us) out h = ap Some (ceiling_is us tb h.0 h.1) ∙ sym h.2
 
-near_one : (n : ℕ) (p q : n < 2 ^ 63) → p ≡ q
-near_one n p q = (let one : IsProp (n < 2 ^ 63) = hlevel props in one p q)
-
-range_at : (n : ℕ) (stop : Option ℕ) (p q : n < 2 ^ 63) → (let m : Range = record { start = n; stop = stop; near = p } in m) ≡ record { start = n; stop = stop; near = q }
-range_at n stop p q = ap (λ (b : n < 2 ^ 63). let m : Range = record { start = n; stop = stop; near = b } in m) (near_one n p q)
-
-range_same : (r : Range) (n : ℕ) (stop : Option ℕ) (q : n < 2 ^ 63) → r.start ≡ n → r.stop ≡ stop → r ≡ record { start = n; stop = stop; near = q }
-range_same r n stop q e f =
-    subst (λ k. (q : k < 2 ^ 63) → r ≡ record { start = k; stop = stop; near = q }) e
-    (λ q. subst (λ (x : Option ℕ). r ≡ record { start = r.start; stop = x; near = q }) f (range_at r.start r.stop r.near q)) q
-
-in_bits-same : (n k : ℕ) → n ≡ k → k < 2 ^ 63 → in_bits n ≡ k
+pub in_bits-same : (n k : ℕ) → n ≡ k → k < 2 ^ 63 → in_bits n ≡ k
 in_bits-same n k e lt = omega arith
 
 pub range_is : (s : RangeSettings) (tb : Fraction) (r : Range) → IsRange s tb r → range_in tb (times_of s) ≡ r

@@ -12,7 +12,7 @@ use Rattle.ff_filter.specs.declared.plain.ExprSettings.{ExprSettings}
 use Rattle.ff_filter.specs.declared.rebase.Rebase.{Rebase}
 use Rattle.ff_filter.specs.Options.{is_sound, is_video}
 use Rattle.ff_filter.specs.Plain.{no_manual, expr_manual}
-use Rattle.ff_filter.specs.Ranges.{range_manual}
+use Rattle.ff_lasting.specs.Lastings.{trim_manual}
 use Rattle.ff_filter.specs.Views.{View}
 use Rattle.ff_filter.specs.declared.spread.copies.SplitSettings.{SplitSettings}
 use Rattle.ff_filter.specs.spread.Splits.{split_manual}
@@ -20,12 +20,12 @@ use Rattle.ff_planes.specs.declared.rectangle.Rectangle.{Rectangle}
 use Rattle.ff_vfilter.specs.declared.crop.CropSettings.{CropSettings}
 use Rattle.ff_vfilter.specs.declared.pad.PadSettings.{PadSettings}
 use Rattle.ff_vfilter.specs.declared.fps.FpsSettings.{FpsSettings}
-use Rattle.ff_vfilter.specs.declared.trim.Trim.{Trim}
+use Rattle.ff_vfilter.specs.declared.lasting_trim.LastingTrim.{LastingTrim}
 use Rattle.ff_vfilter.specs.Sizes.{no_sizes}
 use Rattle.ff_vfilter.specs.Crops.{crop_manual, crop_part, can_crop}
 use Rattle.ff_vfilter.specs.Pads.{Padded, pad_manual, pad_of, can_pad}
 use Rattle.ff_vfilter.specs.FpsOptions.{fps_manual}
-use Rattle.ff_afilter.specs.declared.atrim.ATrim.{ATrim}
+use Rattle.ff_afilter.specs.declared.lasting_atrim.LastingATrim.{LastingATrim}
 use Rattle.ff_fsync.specs.declared.stacks.options.StackSettings.{StackSettings}
 use Rattle.ff_fsync.specs.declared.stacks.shape.Direction.{Direction}
 use Rattle.ff_fsync.specs.stacks.Heads.{input_fault, stack_fault}
@@ -37,7 +37,7 @@ use Rattle.ff_joins.specs.JoinOptions.{join_manual, inputs_said, is_like, channe
 use Rattle.ff_filters.specs.Heads.{each_is}
 use Rattle.ff_filters.specs.ReadBy.{and_then, unless, read_by, configured_by}
 use Rattle.ff_filters.specs.SetBy.{set_none, set_expr, set_crop, set_pad, set_fps, set_split, set_stack, set_join}
-use Rattle.ff_filters.specs.Ticks.{Times, set_times, range_in}
+use Rattle.ff_filters.specs.Ticks.{TrimTimes, set_trim, ticks_at, in_bits, in_bits-near, range_in}
 
 -- a filter: how it is seen before anything was fed, and the heads of its outputs
 pub record Filtered : Type 0 where
@@ -58,21 +58,36 @@ rebased_as head s = cond s.given (Ok (record { head = head; first = None })) (Er
 abbrev pub rebase_by : (StreamHead → Bool) → List Arg → List StreamHead → Result Rebase ConfigError
 rebase_by wanted args heads = configured_by wanted expr_manual set_expr (record { given = false }) rebased_as args heads
 
--- all times from 0 on
-abbrev pub all_times : Times
-all_times = record { start = 0; stop = None }
+-- all times from 0 on, and no duration
+abbrev pub all_times : TrimTimes
+all_times = record { range = record { start = 0; stop = None }; lasting = 0 }
 
-abbrev pub trimmed_as : StreamHead → Times → Result Trim ConfigError
-trimmed_as head s = Ok (record { head = head; range = range_in (base_of_head head) s })
+-- a range and a duration in ticks of the head's time base
+abbrev pub trim_in : StreamHead → TrimTimes → LastingTrim
+trim_in head s = record {
+  trim = record { head = head; range = range_in (base_of_head head) s.range };
+  lasting = in_bits (ticks_at (base_of_head head) s.lasting);
+  near = in_bits-near (ticks_at (base_of_head head) s.lasting);
+}
 
-abbrev pub trim_by : List Arg → List StreamHead → Result Trim ConfigError
-trim_by args heads = configured_by is_video range_manual set_times all_times trimmed_as args heads
+abbrev pub trimmed_as : StreamHead → TrimTimes → Result LastingTrim ConfigError
+trimmed_as head s = Ok (trim_in head s)
 
-abbrev pub atrimmed_as : StreamHead → Times → Result ATrim ConfigError
-atrimmed_as head s = Ok (record { head = head; range = range_in (base_of_head head) s })
+abbrev pub trim_by : List Arg → List StreamHead → Result LastingTrim ConfigError
+trim_by args heads = configured_by is_video trim_manual set_trim all_times trimmed_as args heads
 
-abbrev pub atrim_by : List Arg → List StreamHead → Result ATrim ConfigError
-atrim_by args heads = configured_by is_sound range_manual set_times all_times atrimmed_as args heads
+abbrev pub atrim_in : StreamHead → TrimTimes → LastingATrim
+atrim_in head s = record {
+  trim = record { head = head; range = range_in (base_of_head head) s.range };
+  lasting = in_bits (ticks_at (base_of_head head) s.lasting);
+  near = in_bits-near (ticks_at (base_of_head head) s.lasting);
+}
+
+abbrev pub atrimmed_as : StreamHead → TrimTimes → Result LastingATrim ConfigError
+atrimmed_as head s = Ok (atrim_in head s)
+
+abbrev pub atrim_by : List Arg → List StreamHead → Result LastingATrim ConfigError
+atrim_by args heads = configured_by is_sound trim_manual set_trim all_times atrimmed_as args heads
 
 abbrev pub cropped_as : StreamHead → CropSettings → Result (StreamHead × Rectangle) ConfigError
 cropped_as (Audio tb rate bits channels codec) s = Err BadSize

@@ -92,7 +92,7 @@ sharing outputs is_apart takes_sound by shown outs = record {
 -- the filter of this name
 abbrev pub definition_of : FilterName → Definition
 definition_of filter.Null = single false (pass_by is_video) pass_view (λ m. m.head)
-definition_of filter.Trim = single false trim_by trim_view (λ m. m.head)
+definition_of filter.Trim = single false trim_by trim_view (λ m. m.trim.head)
 definition_of filter.SetPts = single false (rebase_by is_video) rebase_view (λ m. m.head)
 definition_of filter.Crop = single false crop_by crop_view crop_head
 definition_of filter.Pad = single false pad_by pad_view pad_head
@@ -104,7 +104,7 @@ definition_of filter.HStack = merging (counted false 0 2) (λ args. false) (stac
 definition_of filter.VStack = merging (counted false 0 2) (λ args. false) (stack_by Below) (λ heads. stack_view) head_of
 definition_of filter.Concat = merging segments_said (λ args. sound_said args && not (video_said args)) concat_by (λ heads. concat_view) concat_head
 definition_of filter.ANull = single true (pass_by is_sound) pass_view (λ m. m.head)
-definition_of filter.ATrim = single true atrim_by atrim_view (λ m. m.head)
+definition_of filter.ATrim = single true atrim_by atrim_view (λ m. m.trim.head)
 definition_of filter.ASetPts = single true (rebase_by is_sound) rebase_view (λ m. m.head)
 definition_of filter.ASplit = sharing (last_number split_manual 0 1 16 2) false true (split_by is_sound) split_view split_heads
 definition_of filter.ChannelSplit = sharing (λ args. 0) true true (plain_by is_sound (λ head. head)) channels_view mono_heads
@@ -131,7 +131,7 @@ one is shown head = several is shown (λ m. head m ∷ [])
 
 abbrev pub relation_of : FilterName → Relation
 relation_of filter.Null = one (IsPass is_video) (λ heads. pass_view) (λ m. m.head)
-relation_of filter.Trim = one IsTrim (λ heads. trim_view) (λ m. m.head)
+relation_of filter.Trim = one IsTrim (λ heads. trim_view) (λ m. m.trim.head)
 relation_of filter.SetPts = one (IsRebase is_video) (λ heads. rebase_view) (λ m. m.head)
 relation_of filter.Crop = one IsCrop (λ heads. crop_view) crop_head
 relation_of filter.Pad = one IsPad (λ heads. pad_view) pad_head
@@ -143,7 +143,7 @@ relation_of filter.HStack = one (IsStack Beside) (λ heads. stack_view) head_of
 relation_of filter.VStack = one (IsStack Below) (λ heads. stack_view) head_of
 relation_of filter.Concat = one IsConcat (λ heads. concat_view) concat_head
 relation_of filter.ANull = one (IsPass is_sound) (λ heads. pass_view) (λ m. m.head)
-relation_of filter.ATrim = one IsATrim (λ heads. atrim_view) (λ m. m.head)
+relation_of filter.ATrim = one IsATrim (λ heads. atrim_view) (λ m. m.trim.head)
 relation_of filter.ASetPts = one (IsRebase is_sound) (λ heads. rebase_view) (λ m. m.head)
 relation_of filter.ASplit = several (IsSplit is_sound) (λ heads. split_view) split_heads
 relation_of filter.ChannelSplit = several IsChannelSplit (λ heads. channels_view) mono_heads

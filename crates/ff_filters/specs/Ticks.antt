@@ -16,6 +16,17 @@ abbrev pub set_times : Times → ℕ → List ℕ → Option Times
 set_times s zero value = option_map (λ us. record { start = us; stop = s.stop }) (time_of value)
 set_times s (suc option) value = option_map (λ us. record { start = s.start; stop = Some us }) (time_of value)
 
+-- a range of times and a duration in microseconds
+pub record TrimTimes : Type 0 where
+  pub range : Times
+  pub lasting : ℕ
+
+-- start, stop or duration in microseconds
+abbrev pub set_trim : TrimTimes → ℕ → List ℕ → Option TrimTimes
+set_trim s zero value = option_map (λ t. record { range = t; lasting = s.lasting }) (set_times s.range 0 value)
+set_trim s (suc zero) value = option_map (λ t. record { range = t; lasting = s.lasting }) (set_times s.range 1 value)
+set_trim s (suc (suc option)) value = option_map (λ us. record { range = s.range; lasting = us }) (time_of value)
+
 -- the least number of ticks that is at least so many microseconds
 abbrev pub ticks_at : Fraction → ℕ → ℕ
 ticks_at tb us = div_ceil (us * tb.den) (tb.num * 1000000)

@@ -6,13 +6,13 @@ ghost use Rattle.ff_filters.specs.Makes.{Makes, Refuses, configured_as};
 use crate::any::AnyFilter;
 use crate::name::FilterName;
 use crate::step::{IntoAny, stepping};
-use ff_afilter::{ANull, ASetPts, ASplit, ATrim, ChannelSplit};
+use ff_afilter::{ANull, ASetPts, ASplit, ChannelSplit, LastingATrim};
 use ff_filter::{Filter, Limited, Stepper};
 use ff_frame::{ConfigError, StreamHead};
 use ff_fsync::{HStack, VStack};
 use ff_joins::{Concat, Join};
 use ff_lang::Arg;
-use ff_vfilter::{Crop, Fps, HFlip, Null, Pad, SetPts, Split, Trim, VFlip};
+use ff_vfilter::{Crop, Fps, HFlip, LastingTrim, Null, Pad, SetPts, Split, VFlip};
 use std::alloc::Global;
 
 /// The filter of this name by its arguments and the heads of its inputs; the heads of its outputs beside it. It refuses as the
@@ -62,7 +62,12 @@ fn by_name(
 {
     match name {
         FilterName::Null => single(name, args, heads, Null::configure(alloc, args, heads)),
-        FilterName::Trim => single(name, args, heads, Trim::configure(alloc, args, heads)),
+        FilterName::Trim => single(
+            name,
+            args,
+            heads,
+            LastingTrim::configure(alloc, args, heads),
+        ),
         FilterName::SetPts => single(name, args, heads, SetPts::configure(alloc, args, heads)),
         FilterName::Crop => single(name, args, heads, Crop::configure(alloc, args, heads)),
         FilterName::Pad => single(name, args, heads, Pad::configure(alloc, args, heads)),
@@ -77,7 +82,12 @@ fn by_name(
             Err(error) => Err(error),
         },
         FilterName::ANull => single(name, args, heads, ANull::configure(alloc, args, heads)),
-        FilterName::ATrim => single(name, args, heads, ATrim::configure(alloc, args, heads)),
+        FilterName::ATrim => single(
+            name,
+            args,
+            heads,
+            LastingATrim::configure(alloc, args, heads),
+        ),
         FilterName::ASetPts => single(name, args, heads, ASetPts::configure(alloc, args, heads)),
         FilterName::ASplit => match ASplit::configure(alloc, args, heads) {
             Ok((filter, heads)) => Ok((AnyFilter::Copies(filter), heads)),

@@ -57,7 +57,7 @@ pub static FILTERS: [(&'static str, FilterName, &'static str, &'static str); 18]
         "trim",
         FilterName::Trim,
         "=start:end",
-        "the pictures from one time to before another",
+        "the pictures from one time to before another, or for a duration",
     ),
     (
         "setpts",
@@ -109,7 +109,7 @@ pub static FILTERS: [(&'static str, FilterName, &'static str, &'static str); 18]
         "atrim",
         FilterName::ATrim,
         "=start:end",
-        "the samples from one time to before another",
+        "the samples from one time to before another, or for a duration",
     ),
     (
         "asetpts",

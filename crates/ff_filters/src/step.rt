@@ -4,14 +4,14 @@ ghost use Rattle.std.specs.Prelude.{◌≡◌, refl};
 ghost use Rattle.ff_stream.specs.Stream.{opened, still_open, whole, broken};
 ghost use Rattle.ff_stream.specs.Order.{below_self};
 ghost use Rattle.ff_filter.specs.Shifts.{shifted, shifted-below, shifted-bare};
-ghost use Rattle.ff_vfilter.specs.TrimLaws.{trimmed-below, trimmed-calm, trimmed-settles, trimmed-bare};
+ghost use Rattle.ff_vfilter.specs.LastingLaws.{lasting-below, lasting-calm, lasting-settles, lasting-bare};
 ghost use Rattle.ff_vfilter.specs.Pictures.{repainted, repainted-below};
-ghost use Rattle.ff_afilter.specs.TrimLaws.{trimmed-below as sound-below, trimmed-calm as sound-calm, trimmed-settles as sound-settles, trimmed-bare as sound-bare};
+ghost use Rattle.ff_afilter.specs.LastingLaws.{lasting-below as sound-below, lasting-calm as sound-calm, lasting-settles as sound-settles, lasting-bare as sound-bare};
 
-use ff_afilter::ATrim;
+use ff_afilter::LastingATrim;
 use ff_filter::{Filter, Given, Limited, Pass, Rebase, Step, Stepper};
 use ff_stream::{Item, Refused};
-use ff_vfilter::{Crop, HFlip, Pad, Paint, Repaint, Trim, VFlip};
+use ff_vfilter::{Crop, HFlip, LastingTrim, Pad, Paint, Repaint, VFlip};
 
 /// Any function of one stream.
 #[derive(Drop)]
@@ -21,9 +21,9 @@ pub enum AnyStep {
     /// Takes the time of the first item from each.
     Rebase(Rebase),
     /// The frames of a range of times.
-    Trim(Trim),
+    Trim(LastingTrim),
     /// The audio of a range of times.
-    ATrim(ATrim),
+    ATrim(LastingATrim),
     /// A part of each frame.
     Crop(Repaint<Crop>),
     /// Each frame on black.
@@ -40,8 +40,8 @@ impl Step for AnyStep {
     ghost lane_in = { elim [
       | any.Pass m ↦ ⟦<Pass as Step>⟧.lane_in m
       | any.Rebase m ↦ ⟦<Rebase as Step>⟧.lane_in m
-      | any.Trim m ↦ ⟦<Trim as Step>⟧.lane_in m
-      | any.ATrim m ↦ ⟦<ATrim as Step>⟧.lane_in m
+      | any.Trim m ↦ ⟦<LastingTrim as Step>⟧.lane_in m
+      | any.ATrim m ↦ ⟦<LastingATrim as Step>⟧.lane_in m
       | any.Crop m ↦ ⟦<Repaint<Crop> as Step>⟧.lane_in m
       | any.Pad m ↦ ⟦<Repaint<Pad> as Step>⟧.lane_in m
       | any.HFlip m ↦ ⟦<Repaint<HFlip> as Step>⟧.lane_in m
@@ -51,8 +51,8 @@ impl Step for AnyStep {
     ghost lane_out = { elim [
       | any.Pass m ↦ ⟦<Pass as Step>⟧.lane_out m
       | any.Rebase m ↦ ⟦<Rebase as Step>⟧.lane_out m
-      | any.Trim m ↦ ⟦<Trim as Step>⟧.lane_out m
-      | any.ATrim m ↦ ⟦<ATrim as Step>⟧.lane_out m
+      | any.Trim m ↦ ⟦<LastingTrim as Step>⟧.lane_out m
+      | any.ATrim m ↦ ⟦<LastingATrim as Step>⟧.lane_out m
       | any.Crop m ↦ ⟦<Repaint<Crop> as Step>⟧.lane_out m
       | any.Pad m ↦ ⟦<Repaint<Pad> as Step>⟧.lane_out m
       | any.HFlip m ↦ ⟦<Repaint<HFlip> as Step>⟧.lane_out m
@@ -62,8 +62,8 @@ impl Step for AnyStep {
     ghost runs = { elim [
       | any.Pass m ↦ ⟦<Pass as Step>⟧.runs m
       | any.Rebase m ↦ ⟦<Rebase as Step>⟧.runs m
-      | any.Trim m ↦ ⟦<Trim as Step>⟧.runs m
-      | any.ATrim m ↦ ⟦<ATrim as Step>⟧.runs m
+      | any.Trim m ↦ ⟦<LastingTrim as Step>⟧.runs m
+      | any.ATrim m ↦ ⟦<LastingATrim as Step>⟧.runs m
       | any.Crop m ↦ ⟦<Repaint<Crop> as Step>⟧.runs m
       | any.Pad m ↦ ⟦<Repaint<Pad> as Step>⟧.runs m
       | any.HFlip m ↦ ⟦<Repaint<HFlip> as Step>⟧.runs m
@@ -86,8 +86,8 @@ impl Step for AnyStep {
     ghost waits = { elim [
       | any.Pass m ↦ refl
       | any.Rebase m ↦ shifted-bare m.first still_open
-      | any.Trim m ↦ trimmed-bare m.range still_open
-      | any.ATrim m ↦ sound-bare m.range still_open
+      | any.Trim m ↦ lasting-bare m.trim.range m.lasting still_open
+      | any.ATrim m ↦ sound-bare m.trim.range m.lasting still_open
       | any.Crop m ↦ refl
       | any.Pad m ↦ refl
       | any.HFlip m ↦ refl
@@ -97,8 +97,8 @@ impl Step for AnyStep {
     ghost below = { elim [
       | any.Pass m ↦ λ r s h. h
       | any.Rebase m ↦ λ r s h. shifted-below m.first r s h
-      | any.Trim m ↦ λ r s h. trimmed-below m.range r s h
-      | any.ATrim m ↦ λ r s h. sound-below m.range r s h
+      | any.Trim m ↦ λ r s h. lasting-below m.trim.range m.lasting r s h
+      | any.ATrim m ↦ λ r s h. sound-below m.trim.range m.lasting r s h
       | any.Crop m ↦ λ r s h. repainted-below (⟦<Crop as Paint>⟧.painted m.paint) r s h
       | any.Pad m ↦ λ r s h. repainted-below (⟦<Pad as Paint>⟧.painted m.paint) r s h
       | any.HFlip m ↦ λ r s h. repainted-below (⟦<HFlip as Paint>⟧.painted m.paint) r s h
@@ -108,8 +108,8 @@ impl Step for AnyStep {
     ghost calm = { elim [
       | any.Pass m ↦ λ r. below_self (opened r)
       | any.Rebase m ↦ λ r. below_self (opened (shifted m.first r))
-      | any.Trim m ↦ λ r. trimmed-calm m.range r
-      | any.ATrim m ↦ λ r. sound-calm m.range r
+      | any.Trim m ↦ λ r. lasting-calm m.trim.range m.lasting r
+      | any.ATrim m ↦ λ r. sound-calm m.trim.range m.lasting r
       | any.Crop m ↦ λ r. below_self (opened (repainted (⟦<Crop as Paint>⟧.painted m.paint) r))
       | any.Pad m ↦ λ r. below_self (opened (repainted (⟦<Pad as Paint>⟧.painted m.paint) r))
       | any.HFlip m ↦ λ r. below_self (opened (repainted (⟦<HFlip as Paint>⟧.painted m.paint) r))
@@ -119,8 +119,8 @@ impl Step for AnyStep {
     ghost settles = { elim [
       | any.Pass m ↦ λ r c. c
       | any.Rebase m ↦ λ r c. c
-      | any.Trim m ↦ λ r c. trimmed-settles m.range r c
-      | any.ATrim m ↦ λ r c. sound-settles m.range r c
+      | any.Trim m ↦ λ r c. lasting-settles m.trim.range m.lasting r c
+      | any.ATrim m ↦ λ r c. sound-settles m.trim.range m.lasting r c
       | any.Crop m ↦ λ r c. c
       | any.Pad m ↦ λ r c. c
       | any.HFlip m ↦ λ r c. c
@@ -130,8 +130,8 @@ impl Step for AnyStep {
     ghost ends = { elim [
       | any.Pass m ↦ refl
       | any.Rebase m ↦ shifted-bare m.first whole
-      | any.Trim m ↦ trimmed-bare m.range whole
-      | any.ATrim m ↦ sound-bare m.range whole
+      | any.Trim m ↦ lasting-bare m.trim.range m.lasting whole
+      | any.ATrim m ↦ sound-bare m.trim.range m.lasting whole
       | any.Crop m ↦ refl
       | any.Pad m ↦ refl
       | any.HFlip m ↦ refl
@@ -141,8 +141,8 @@ impl Step for AnyStep {
     ghost breaks = { elim [
       | any.Pass m ↦ refl
       | any.Rebase m ↦ shifted-bare m.first broken
-      | any.Trim m ↦ trimmed-bare m.range broken
-      | any.ATrim m ↦ sound-bare m.range broken
+      | any.Trim m ↦ lasting-bare m.trim.range m.lasting broken
+      | any.ATrim m ↦ sound-bare m.trim.range m.lasting broken
       | any.Crop m ↦ refl
       | any.Pad m ↦ refl
       | any.HFlip m ↦ refl
@@ -171,13 +171,13 @@ impl IntoAny for Rebase {
     }
 }
 
-impl IntoAny for Trim {
+impl IntoAny for LastingTrim {
     fn into_any(self) -> AnyStep {
         AnyStep::Trim(self)
     }
 }
 
-impl IntoAny for ATrim {
+impl IntoAny for LastingATrim {
     fn into_any(self) -> AnyStep {
         AnyStep::ATrim(self)
     }

@@ -12,7 +12,7 @@ use Rattle.ff_stream.specs.declared.item.Item.{Item}
 use Rattle.ff_stream.specs.declared.item.Item.TheVariants.{Audio, Video, Packet, Trailer, End, Broken}
 use Rattle.ff_stream.specs.declared.item.Lane.TheVariants.{Frames}
 use Rattle.ff_stream.specs.Ports.{nothing}
-use Rattle.ff_stream.specs.Stream.{Mark, still_open, whole, broken}
+use Rattle.ff_stream.specs.Stream.{Mark, still_open, whole, broken, has_closed}
 use Rattle.ff_stream.specs.Within.{some_pass, passes_limits}
 use Rattle.ff_filter.specs.declared.after.After.{After}
 use Rattle.ff_filter.specs.declared.after.After.TheVariants.{More, Whole, Broke}
@@ -28,7 +28,6 @@ use Rattle.ff_vfilter.specs.declared.showing.Showing.{Showing}
 use Rattle.ff_vfilter.specs.declared.span.Span.{Span}
 use Rattle.ff_vfilter.specs.RateCuts.{span_by, span_of, span_at, span_then, span_ahead, is_end, is_late, is_cut}
 use Rattle.ff_vfilter.specs.Rates.{Held, number_of, shown, shows, shows_to_end, rate_step, rated}
-use Rattle.ff_vfilter.specs.RateSeen.{has_closed}
 use Rattle.ff_vfilter.specs.RateViews.{ahead_then}
 
 -- so many pictures from a number on --------------------------------------------------------------------------------------

@@ -1,14 +1,15 @@
 -- A trim gives valid streams.
-use Rattle.std.proofs.Common.{◌≡◌, ◌≢◌, inl, Bool, true, false, cond, nat_le, List, [], ◌∷◌, refl}
+use Rattle.std.proofs.Common.{◌≡◌, ◌≢◌, ℕ, inl, Bool, true, false, cond, nat_le, List, [], ◌∷◌, refl}
 use Rattle.ff_stream.specs.declared.item.Item.{Item}
 use Rattle.ff_stream.specs.declared.item.Lane.{Lane}
 use Rattle.ff_stream.specs.Stream.{Mark, whole, broken}
 use Rattle.ff_filter.specs.declared.range.Range.{Range}
 use Rattle.ff_filter.specs.Ranges.{is_past}
+use Rattle.ff_lasting.specs.Lastings.{lasting}
 use Rattle.ff_filter.specs.Shifts.{start_ticks}
 use Rattle.ff_filter.specs.Sound.{IsSound}
 use Rattle.ff_filter.proofs.Parts.{IsPart, part_later, shape_part}
-use Rattle.ff_vfilter.specs.Trims.{before_stop, reaches, from_start, trimmed}
+use Rattle.ff_vfilter.specs.Trims.{before_stop, reaches, from_start, trimmed, first_kept, lasting_trimmed}
 
 kept_part : (range : Range) (xs : List Item) → IsPart (from_start range.start (before_stop range.stop xs)) xs
 kept_part range [] = tt
@@ -27,4 +28,10 @@ pub trim_sound : (lane : Lane) (range : Range) → IsSound lane lane (λ s. trim
 trim_sound lane range = record {
   shape = λ s v. shape_part lane (trimmed range s).items s.items (kept_part range s.items) v.shape;
   unbroken = λ s v u. unbroken_mark (reaches range.stop s.items) s.mark u;
+}
+
+pub lasting_sound : (lane : Lane) (range : Range) (ticks : ℕ) → IsSound lane lane (λ s. lasting_trimmed range ticks s)
+lasting_sound lane range ticks = record {
+  shape = λ s v. (trim_sound lane (lasting range ticks (first_kept range.start s.items))).shape s v;
+  unbroken = λ s v u. (trim_sound lane (lasting range ticks (first_kept range.start s.items))).unbroken s v u;
 }

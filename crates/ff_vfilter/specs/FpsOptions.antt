@@ -8,6 +8,7 @@ use Rattle.ff_frame.specs.declared.head.StreamHead.TheVariants.{Audio, Video}
 use Rattle.ff_frame.specs.Heads.{base_of_head}
 use Rattle.ff_stream.specs.declared.item.Lane.TheVariants.{Frames}
 use Rattle.ff_stream.specs.Within.{within, passes_limits}
+use Rattle.ff_stream.specs.Times.{with_base}
 use Rattle.ff_lang.specs.declared.graph.Arg.{Arg}
 use Rattle.ff_filter.specs.Views.{View}
 use Rattle.ff_filter.specs.Options.{Manual, number_of, is_video, IsConfigured}
@@ -51,11 +52,7 @@ IsFps args heads r = IsConfigured is_video fps_manual (record { base = record { 
 
 -- the same pictures in another time base
 abbrev pub fps_head : StreamHead × Fraction → StreamHead
-fps_head m = in_base m.1 m.0
-  where
-    in_base : Fraction → StreamHead → StreamHead
-    in_base base (Audio tb rate bits channels codec) = Audio base rate bits channels codec
-    in_base base (Video tb format width height sar_num sar_den) = Video base format width height sar_num sar_den
+fps_head m = with_base m.1 m.0
 
 abbrev pub fps_view : StreamHead × Fraction → View
 fps_view m = record {

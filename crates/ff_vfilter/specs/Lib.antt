@@ -1,6 +1,7 @@
 pub mod Crops
 pub mod FpsOptions
 pub mod HFlips
+pub mod LastingLaws
 pub mod Pads
 pub mod Pictures
 pub mod RateCuts

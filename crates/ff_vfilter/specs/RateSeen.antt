@@ -2,7 +2,7 @@
 use Rattle.std.specs.Prelude.{◌≡◌, Bool, true, false, ◌||◌, None, []}
 use Rattle.ff_stream.specs.declared.item.Lane.TheVariants.{Frames}
 use Rattle.ff_stream.specs.Ports.{nothing}
-use Rattle.ff_stream.specs.Stream.{Mark, still_open, whole, broken}
+use Rattle.ff_stream.specs.Stream.{Mark, still_open, whole, broken, has_closed}
 use Rattle.ff_stream.specs.Within.{passes_limits}
 use Rattle.ff_filter.specs.Limits.{limited}
 use Rattle.ff_filter.specs.Made.{waiting, is_over}
@@ -13,11 +13,6 @@ use Rattle.ff_vfilter.specs.RateViews.{still_shown, rate_view}
 
 abbrev pub seen : Rate → View
 seen m = rate_view m.head m.given m.showing m.input.queue.items m.input.after m.ended m.stopped
-
-abbrev pub has_closed : Mark → Bool
-has_closed still_open = false
-has_closed whole = true
-has_closed broken = true
 
 -- how what is still given ends, where nothing more is fed
 abbrev pub fed_mark : Rate → Mark

@@ -4,14 +4,14 @@ use Rattle.std.proofs.Common.{inl, inr, sym, ◌∙◌, arith}
 use Rattle.std.proofs.lemmas.Bool.{or_cases, or_left, or_right}
 use Rattle.ff_stream.specs.declared.item.Lane.TheVariants.{Frames}
 use Rattle.ff_stream.specs.Ports.{nothing, IsClosed}
-use Rattle.ff_stream.specs.Stream.{Mark, still_open, whole, broken}
+use Rattle.ff_stream.specs.Stream.{Mark, still_open, whole, broken, has_closed}
 use Rattle.ff_stream.specs.Within.{passes_limits}
 use Rattle.ff_filter.specs.Joins.{Flow}
 use Rattle.ff_filter.specs.Limits.{limited}
 use Rattle.ff_filter.specs.Made.{waiting, is_over}
 use Rattle.ff_filter.specs.Views.{IsSpent, IsOver, AllDone}
 use Rattle.ff_vfilter.specs.declared.rate.Rate.{Rate}
-use Rattle.ff_vfilter.specs.RateSeen.{seen, has_closed, fed_mark, rate_spent}
+use Rattle.ff_vfilter.specs.RateSeen.{seen, fed_mark, rate_spent}
 use Rattle.ff_vfilter.specs.RateViews.{still_shown}
 
 closed_is : (m : Mark) → has_closed m ≡ true → m ≢ still_open

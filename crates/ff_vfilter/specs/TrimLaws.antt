@@ -16,7 +16,7 @@ use Rattle.ff_filter.specs.Shifts.{start_ticks}
 use Rattle.ff_vfilter.specs.Trims.{before_stop, reaches, from_start, trimmed}
 
 -- what one picture gives
-abbrev trim_step : Range → Item → Stepped Range
+abbrev pub trim_step : Range → Item → Stepped Range
 trim_step range x = record {
   made = cond (is_past range.stop (start_ticks x)) (record { items = []; mark = whole })
       (cond (nat_le range.start (start_ticks x)) (record { items = x ∷ []; mark = still_open }) nothing);
@@ -35,7 +35,7 @@ kept_at : (a : Bool) (range : Range) (x : Item) (xs : List Item) (r : Bool) (m :
 kept_at true range x xs r m = refl
 kept_at false range x xs r m = refl
 
-run_is : (range : Range) (xs : List Item) (m : Mark) → run_at trim_step no_more range xs m ≡ trimmed range (record { items = xs; mark = m })
+pub run_is : (range : Range) (xs : List Item) (m : Mark) → run_at trim_step no_more range xs m ≡ trimmed range (record { items = xs; mark = m })
 run_is range [] still_open = refl
 run_is range [] whole = refl
 run_is range [] broken = refl

@@ -7,9 +7,10 @@ ghost use Rattle.ff_vfilter.specs.FpsOptions.{ratio_of, fps_head, fps_view};
 use crate::rate::Rate;
 use crate::scale::Scale;
 use crate::showing::{Ahead, Showing};
-use ff_filter::{Filter, Inlet, Settings, read_number, time_base, video_settings};
+use ff_filter::{Filter, Inlet, Settings, read_number, video_settings};
 use ff_frame::{ConfigError, StreamHead};
 use ff_lang::Arg;
+use ff_stream::{time_base, with_base};
 use ff_time::Rational;
 use std::alloc::Global;
 
@@ -87,42 +88,6 @@ impl Settings for FpsSettings {
     }
 }
 
-// The same frames in another time base.
-fn in_base(head: &StreamHead, base: Rational) -> StreamHead
-    ensures { result ≡ fps_head (head.now, base) }
-{
-    match *head {
-        StreamHead::Audio {
-            rate,
-            bits,
-            channels,
-            codec,
-            ..
-        } => StreamHead::Audio {
-            tb: base,
-            rate,
-            bits,
-            channels,
-            codec,
-        },
-        StreamHead::Video {
-            format,
-            width,
-            height,
-            sar_num,
-            sar_den,
-            ..
-        } => StreamHead::Video {
-            tb: base,
-            format,
-            width,
-            height,
-            sar_num,
-            sar_den,
-        },
-    }
-}
-
 // The machine to which nothing was done.
 fn rate_of(alloc: Global, head: &StreamHead, base: Rational) -> Rate
     ensures { ⟦<Rate as Filter>⟧.view result ≡ fps_view (head.now, base) }
@@ -130,7 +95,7 @@ fn rate_of(alloc: Global, head: &StreamHead, base: Rational) -> Rate
     Rate {
         alloc,
         head: *head,
-        given: in_base(head, base),
+        given: with_base(base, head),
         showing: Showing {
             scale: Scale {
                 from: time_base(head),
@@ -159,7 +124,7 @@ fn rate_and_head(
 {
     let machine = rate_of(alloc, head, base);
     let mut heads = Vec::new(alloc);
-    match heads.push(in_base(head, base)) {
+    match heads.push(with_base(base, head)) {
         Ok(()) => Ok((machine, heads)),
         Err(_) => Err(ConfigError::NoMemory),
     }

@@ -24,11 +24,13 @@ ghost use Rattle.ff_vfilter.specs.Crops.{crop_frame};
 ghost use Rattle.ff_vfilter.specs.Pads.{pad_frame};
 ghost use Rattle.ff_filter.specs.declared.range.Range.{Range};
 ghost use Rattle.ff_filter.specs.Sound.{IsSound};
-ghost use Rattle.ff_vfilter.specs.Trims.{trimmed};
+ghost use Rattle.ff_vfilter.specs.Trims.{trimmed, lasting_trimmed};
 
-/// Of a valid stream the frames within a range are in shape for the same way; an unbroken one doesn't break off.
+/// Of a valid stream the frames within a range are in shape for the same way, with a duration and without one; an
+/// unbroken one doesn't break off.
 pub fn pictures_kept_are_sound()
-    ensures { (lane : Lane) (range : Range) → IsSound lane lane (λ s. trimmed range s) }
+    ensures range { (lane : Lane) (range : Range) → IsSound lane lane (λ s. trimmed range s) }
+    ensures lasting { (lane : Lane) (range : Range) (ticks : ℕ) → IsSound lane lane (λ s. lasting_trimmed range ticks s) }
 {}
 
 /// Of a valid video stream `hflip`, `vflip`, `crop` and `pad` make items in shape for their output. These are frames
@@ -60,6 +62,8 @@ pub fn pictures_keep_the_broken_rule()
         → KeepsBrokenRule (λ (ss : List Flow). IsValid lane (stream_at ss 0)) (λ (ss : List Flow). shifted None (stream_at ss 0)) }
     ensures trimmed { (lane : Lane) (range : Range)
         → KeepsBrokenRule (λ (ss : List Flow). IsValid lane (stream_at ss 0)) (λ (ss : List Flow). trimmed range (stream_at ss 0)) }
+    ensures lasting { (lane : Lane) (range : Range) (ticks : ℕ)
+        → KeepsBrokenRule (λ (ss : List Flow). IsValid lane (stream_at ss 0)) (λ (ss : List Flow). lasting_trimmed range ticks (stream_at ss 0)) }
     ensures painted { (lane : Lane) (paint : VFrame → VFrame)
         → KeepsBrokenRule (λ (ss : List Flow). IsValid lane (stream_at ss 0)) (λ (ss : List Flow). repainted paint (stream_at ss 0)) }
     ensures even { (lane : Lane) (scale : Scale)

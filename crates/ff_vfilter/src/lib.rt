@@ -12,6 +12,7 @@
 mod crop;
 mod fps;
 mod hflip;
+mod lasting_trim;
 mod laws;
 mod null;
 mod pad;
@@ -29,6 +30,7 @@ mod vflip;
 pub use crop::{Crop, CropSettings};
 pub use fps::{Fps, FpsSettings};
 pub use hflip::HFlip;
+pub use lasting_trim::LastingTrim;
 pub use laws::{
     pictures_at_an_even_rate, pictures_at_an_even_rate_are_sound, pictures_keep_the_broken_rule,
     pictures_kept_are_sound, pictures_painted_are_valid,

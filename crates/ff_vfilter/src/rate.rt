@@ -4,18 +4,19 @@ ghost use Rattle.ff_stream.specs.declared.item.Item.{Item as AnItem};
 ghost use Rattle.ff_stream.specs.declared.item.Lane.TheVariants.{Frames};
 ghost use Rattle.ff_frame.specs.declared.video.VFrame.{VFrame as AFrame};
 ghost use Rattle.ff_stream.specs.Within.{passes_limits};
+ghost use Rattle.ff_stream.specs.Stream.{has_closed};
 ghost use Rattle.ff_filter.specs.Views.{Fed, Gave, Waits, Same, Stopped, IsSpent};
 ghost use Rattle.ff_filter.specs.Made.{is_over};
 ghost use Rattle.ff_vfilter.specs.Rates.{number_of, shown};
 ghost use Rattle.ff_vfilter.specs.RateViews.{limit_of, work_left};
-ghost use Rattle.ff_vfilter.specs.RateSeen.{seen, has_closed, fed_mark, rate_spent, KeepsNothing};
+ghost use Rattle.ff_vfilter.specs.RateSeen.{seen, fed_mark, rate_spent, KeepsNothing};
 ghost use Rattle.ff_vfilter.specs.RateCuts.{span_of, span_ahead, is_late as is_late_by, is_cut as is_cut_by};
 
 use crate::showing::{Ahead, Showing};
 use crate::span::Span;
-use ff_filter::{Filter, Inlet, Next, closing_of, discard, time_base};
+use ff_filter::{Filter, Inlet, Next, closing_of};
 use ff_frame::{StreamHead, VFrame};
-use ff_stream::{Item, Refused};
+use ff_stream::{Item, Refused, discard, time_base};
 use std::alloc::{AllocError, Global};
 use std::mem::replace;
 

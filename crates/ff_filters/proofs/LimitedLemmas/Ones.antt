@@ -38,7 +38,7 @@ use Rattle.ff_planes.specs.declared.rectangle.Rectangle.{Rectangle}
 use Rattle.ff_vfilter.specs.declared.crop.CropSettings.{CropSettings}
 use Rattle.ff_vfilter.specs.declared.pad.PadSettings.{PadSettings}
 use Rattle.ff_vfilter.specs.declared.scale.Scale.{Scale}
-use Rattle.ff_vfilter.specs.declared.trim.Trim.{Trim}
+use Rattle.ff_vfilter.specs.declared.lasting_trim.LastingTrim.{LastingTrim}
 use Rattle.ff_vfilter.specs.Crops.{crop_frame, crop_part, can_crop, crop_view}
 use Rattle.ff_vfilter.specs.Pads.{Padded, pad_frame, pad_of, can_pad, pad_view}
 use Rattle.ff_vfilter.specs.FpsOptions.{fps_view}
@@ -47,16 +47,16 @@ use Rattle.ff_vfilter.specs.VFlips.{vflip_frame, vflip_view}
 use Rattle.ff_vfilter.specs.Pictures.{repainted, repainted-below}
 use Rattle.ff_vfilter.specs.Rates.{Held, rate_step, shows_to_end, rated, none_held}
 use Rattle.ff_vfilter.specs.Sizes.{is_side}
-use Rattle.ff_vfilter.specs.Trims.{trimmed, at_once, trim_view}
-use Rattle.ff_vfilter.specs.TrimLaws.{trimmed-below, trimmed-calm}
+use Rattle.ff_vfilter.specs.Trims.{lasting_trimmed, at_once, trim_view}
+use Rattle.ff_vfilter.specs.LastingLaws.{lasting-below, lasting-calm}
 use Rattle.ff_vfilter.proofs.Keeping.{hflip_sound, vflip_sound, crop_sound, pad_sound}
-use Rattle.ff_vfilter.proofs.TrimSound.{trim_sound}
+use Rattle.ff_vfilter.proofs.TrimSound.{lasting_sound}
 use Rattle.ff_vfilter.proofs.RateShape.{rate_sound}
-use Rattle.ff_afilter.specs.declared.atrim.ATrim.{ATrim}
+use Rattle.ff_afilter.specs.declared.lasting_atrim.LastingATrim.{LastingATrim}
 use Rattle.ff_afilter.specs.Channels.{channel_item, channels_view}
-use Rattle.ff_afilter.specs.Trims.{sound_trimmed, atrim_view, at_once as sound_at_once}
-use Rattle.ff_afilter.specs.TrimLaws.{trimmed-below as sound-below, trimmed-calm as sound-calm}
-use Rattle.ff_afilter.proofs.TrimSound.{sound_trim_sound}
+use Rattle.ff_afilter.specs.Trims.{sound_lasting, atrim_view, at_once as sound_at_once}
+use Rattle.ff_afilter.specs.LastingLaws.{lasting-below as sound-below, lasting-calm as sound-calm}
+use Rattle.ff_afilter.proofs.TrimSound.{sound_lasting_sound}
 use Rattle.ff_afilter.proofs.ChannelSound.{channel_valid}
 use Rattle.ff_node_filter.specs.Limiting.{IsLimited}
 use Rattle.ff_node_filter.proofs.Limits.{single_limited, ended_limited, spread_limited}
@@ -86,29 +86,33 @@ pub rebase_owes : (m : Rebase) → Owes (rebase_view m).ins (rebase_view m).outs
 rebase_owes m = single_owes (Frames m.head) m.head (λ s. shifted None s) More (λ e. cc) (shifted-below None) (λ r. below_self (opened (shifted None r)))
     (shift_sound m.head)
 
-not_broke : (stop : Option ℕ) → at_once stop ≡ Broke → ⊥
-not_broke None e = cc
-not_broke (Some zero) e = cc
-not_broke (Some (suc n)) e = cc
+not_broke : (ticks : ℕ) (stop : Option ℕ) → at_once ticks stop ≡ Broke → ⊥
+not_broke (suc ticks) stop e = cc
+not_broke zero None e = cc
+not_broke zero (Some zero) e = cc
+not_broke zero (Some (suc n)) e = cc
 
-pub trim_owes : (m : Trim) → Owes (trim_view m).ins (trim_view m).outs (trim_view m).rest
+pub trim_owes : (m : LastingTrim) → Owes (trim_view m).ins (trim_view m).outs (trim_view m).rest
 trim_owes m =
-    single_owes (Frames m.head) m.head (λ s. trimmed m.range s) (at_once m.range.stop) (not_broke m.range.stop) (trimmed-below m.range) (trimmed-calm m.range)
-    (trim_sound (Frames m.head) m.range)
+    single_owes (Frames m.trim.head) m.trim.head (λ s. lasting_trimmed m.trim.range m.lasting s) (at_once m.lasting m.trim.range.stop)
+    (not_broke m.lasting m.trim.range.stop) (lasting-below m.trim.range m.lasting) (lasting-calm m.trim.range m.lasting)
+    (lasting_sound (Frames m.trim.head) m.trim.range m.lasting)
 
-sound_not_broke : (stop : Option ℕ) → sound_at_once stop ≡ Broke → ⊥
-sound_not_broke None e = cc
-sound_not_broke (Some zero) e = cc
-sound_not_broke (Some (suc n)) e = cc
+sound_not_broke : (ticks : ℕ) (stop : Option ℕ) → sound_at_once ticks stop ≡ Broke → ⊥
+sound_not_broke (suc ticks) stop e = cc
+sound_not_broke zero None e = cc
+sound_not_broke zero (Some zero) e = cc
+sound_not_broke zero (Some (suc n)) e = cc
 
-sound_sound : (head : StreamHead) (range : Range) → is_sound head ≡ true → IsSound (Frames head) (Frames head) (λ s. sound_trimmed range s)
-sound_sound (Audio tb rate bits channels codec) range k = sound_trim_sound tb rate bits channels codec range
-sound_sound (Video tb format width height sar_num sar_den) range k = cc
+sound_sound : (head : StreamHead) (range : Range) (ticks : ℕ) → is_sound head ≡ true → IsSound (Frames head) (Frames head) (λ s. sound_lasting range ticks s)
+sound_sound (Audio tb rate bits channels codec) range ticks k = sound_lasting_sound tb rate bits channels codec range ticks
+sound_sound (Video tb format width height sar_num sar_den) range ticks k = cc
 
-pub atrim_owes : (m : ATrim) → is_sound m.head ≡ true → Owes (atrim_view m).ins (atrim_view m).outs (atrim_view m).rest
+pub atrim_owes : (m : LastingATrim) → is_sound m.trim.head ≡ true → Owes (atrim_view m).ins (atrim_view m).outs (atrim_view m).rest
 atrim_owes m k =
-    single_owes (Frames m.head) m.head (λ s. sound_trimmed m.range s) (sound_at_once m.range.stop) (sound_not_broke m.range.stop) (sound-below m.range)
-    (sound-calm m.range) (sound_sound m.head m.range k)
+    single_owes (Frames m.trim.head) m.trim.head (λ s. sound_lasting m.trim.range m.lasting s) (sound_at_once m.lasting m.trim.range.stop)
+    (sound_not_broke m.lasting m.trim.range.stop) (sound-below m.trim.range m.lasting) (sound-calm m.trim.range m.lasting)
+    (sound_sound m.trim.head m.trim.range m.lasting k)
 
 pub hflip_owes : (head : StreamHead) → is_video head ≡ true → Owes (hflip_view head).ins (hflip_view head).outs (hflip_view head).rest
 hflip_owes (Audio tb rate bits channels codec) k = cc
