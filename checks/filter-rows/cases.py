@@ -3,7 +3,7 @@
 import itertools
 from fractions import Fraction
 
-from filters import BROKEN, OPEN, WHOLE, Pictures, Sound, end_of
+from filters import BROKEN, OPEN, WHOLE, Pictures, Sound, Stream, end_of
 from rows import Row, at_end, fronts, picture, pictures, sound, steps
 
 SECONDS = Fraction(1)
@@ -63,7 +63,7 @@ def times_refused():
             "end=1 s", "end=00\\:01", "end=59\\:59", "end=60\\:00", "end=00\\:60", "end=1\\:1", "end=001\\:00", "end=1\\:2\\:3",
             "end=999999\\:59\\:59.999", "end=1000000\\:00\\:00", "end=1000000000", "end=1000000000.0000009", "end=1000000001",
             "end=1000000000000ms", "end=1000000000000001us", "end=1000000000000000us", "end=" + "0" * 63 + "1", "end=" + "0" * 64 + "1",
-            "bogus=1:end=x", "end=x:bogus=1", "duration=1", "start=1:bogus=1:end=x")))
+            "bogus=1:end=x", "end=x:bogus=1", "duration=1", "1:2:duration=3", "duration=0", "duration=x", "duration=", "duration=1:duration=x", "duration=1:2", "d=1", "start=1:bogus=1:end=x")))
     return rows
 
 
@@ -231,6 +231,11 @@ def ranges_of_pictures():
     four = pictures(head, [(2, 1), (3, 4), (6, 2), (9, 1)])
     for args in ("=0.12:0.24", "=0.24:0.12", "=0:0", "=end=0", "=0.12:0.12", "=start=1", "=end=1", "", "=0.08", "=0.2:10", "=0.16:0.2"):
         rows += fronts(f"trim{args}", f"trim{args}", head, four)
+    for args in ("=duration=0.04", "=duration=0.041", "=duration=0.2", "=0.12:duration=0.16", "=0.1:duration=0.16", "=end=0:duration=0.04", "=end=0.28:duration=0.04",
+                 "=start=1:duration=1", "=duration=0", "=end=0:duration=0", "=0.12:0.16:duration=0.12", "=0.12:0.36:duration=0.12", "=duration=9"):
+        rows += fronts(f"trim{args}", f"trim{args}", head, four)
+    for n in range(0, 10):
+        rows.append(steps(f"trim for {n} ticks", f"trim=0.12:duration={n * 40}ms", [head], [(0, i) for i in four] + [(0, WHOLE)]))
     rows.append(Row("what comes behind the end of the output", "trim=end=0.04", [head]).feed(0, picture(head, 0, 1, 1), picture(head, 1, 1, 2)).look()
                 .feed(0, picture(head, 2, 1, 3)).look().feed(0, BROKEN).look())
     return rows
@@ -325,8 +330,13 @@ def of_sound():
         rows += fronts(text, text, head, items)
     for args in ("=0.0005:0.0015", "=end=0.001", "=0.001", "=end=0", "=0.0005:0.000625", "=0.00075:0.00075", "=0.002:0.001", "=1", "=end=0.00025", "=end=0.0005"):
         rows += fronts(f"atrim{args}", f"atrim{args}", head, items)
+    for args in ("=duration=0.0005", "=0.0005:duration=0.0005", "=end=0:duration=0.001", "=end=0.001:duration=0.00025", "=1:duration=1", "=duration=0", "=end=0:duration=0",
+                 "=0.000875:duration=0.000125", "=0.001:0.0015:duration=0.000126", "=0.001:0.0012:duration=0.001"):
+        rows += fronts(f"atrim{args}", f"atrim{args}", head, items)
     for n in range(0, 20):
         order = [(0, i) for i in items] + [(0, WHOLE)]
+        rows.append(steps(f"atrim for {n} samples", f"atrim=duration={n * 125}us", [head], order))
+        rows.append(steps(f"atrim for 4 samples from sample {n}", f"atrim={n * 125}us:duration=0.0005", [head], order))
         rows.append(steps(f"atrim to sample {n}", f"atrim=end={n * 125}us", [head], order))
         rows.append(at_end(f"atrim from sample {n}", f"atrim={n * 125}us", [head], order))
         rows.append(at_end(f"atrim of sample {n} alone", f"atrim={n * 125}us:{n * 125 + 1}us", [head], order))
@@ -600,6 +610,51 @@ def of_shortest():
     return rows
 
 
+# Sources -------------------------------------------------------------------------------------------------------------------------------
+
+def sources_refused():
+    """The arguments of source filters: the head of the stream, or why they are refused."""
+    own = {
+        "color": ("", "=", "=d=1", "=duration=1", "=black:2x2:25:1", "=white:2x2:30000/1001:1", "=black:2x2:25", "=black:2x2:25:1:9", "=d=1:black", "=d=1:z=1",
+                  "=z=1", "=z=1:c=red", "=c=red:z=1", "=D=1:d=1", "=d=x:d=1", "=d=1:d=x", "=c=white:c=black:d=1", "=color=white:size=3x5:rate=5:d=1",
+                  "=c=Black:d=1", "=c=red:d=1", "=c=:d=1", "=c=0x000000:d=1", "=s=0x0", "=r=0", "=s=0x0:d=x", "=s=0x1:d=1", "=s=1x0:d=1", "=s=0x0:d=1",
+                  "=s=16384x16384:d=1", "=s=16385x1:d=1", "=s=1x16385:d=1", "=s=99999x99999:d=1", "=s=00000x2:d=1", "=s=00001x00002:d=1", "=s=000001x2:d=1",
+                  "=s=1x100000:d=1", "=s=2X2:d=1", "=s=2x:d=1", "=s=x2:d=1", "=s=2:d=1", "=s=2x2x2:d=1", "=s=-2x2:d=1", "=s=:d=1", "=s=x:d=1",
+                  "=s=9x9:d=1:s=0x9", "=s=0x9:d=1:s=9x9", "=r=0:d=1", "=r=1/2147483647:d=1", "=r=1/2147483648:d=1", "=r=2147483647:d=1", "=r=2147483648:d=1",
+                  "=r=4294967294/2:d=1", "=r=25.0:d=1", "=r=00000000025:d=1", "=d=-1", "=d=1000000000", "=d=1000000001", "=d=0", "=cl=mono:d=1"),
+        "anullsrc": ("", "=", "=d=1", "=duration=1", "=mono:8000:1", "=stereo:1:1", "=mono:8000", "=mono:8000:1:9", "=d=1:mono", "=n=1024:d=1", "=z=1:r=0",
+                     "=r=0:z=1", "=D=1", "=d=x:d=1", "=channel_layout=mono:sample_rate=5:d=1", "=cl=Mono:d=1", "=cl=5.1:d=1", "=cl=1:d=1", "=cl=:d=1",
+                     "=r=0:d=1", "=r=1:d=1", "=r=2147483647:d=1", "=r=2147483648:d=1", "=r=9999999999:d=1", "=r=0000000001:d=1", "=r=00000000001:d=1",
+                     "=r=8000/1:d=1", "=r=8000.0:d=1", "=r=-1:d=1", "=r=:d=1", "=d=0", "=d=1000000000", "=d=1000000001", "=s=2x2:d=1"),
+    }
+    return [Row(name + args, name + args, []) for name in own for args in own[name]]
+
+
+def source_frames():
+    rows = []
+    sides = [f"color=s={width}x{height}:d=0.08" for width, height in ((1, 1), (2, 2), (3, 3), (3, 2), (2, 3), (1, 5), (17, 1))]
+    rates = [f"color=s=1x1:r={rate}:d={d}" for rate in ("1", "25", "50/2", "1/2", "2/3", "30000/1001", "1000") for d in ("0", "1us", "40ms", "40001us", "80ms")]
+    lengths = [f"anullsrc={layout}:1000:{ms}ms" for layout in ("mono", "stereo") for ms in (0, 1, 1023, 1024, 1025, 2048, 2049)]
+    parts = [f"anullsrc=mono:{rate}:{us}us" for rate in (1, 8000, 44100) for us in (1, 125, 126, 1000000, 1000001)]
+    texts = [*sides, "color=white:3x1:5:0.4", *rates, *lengths, *parts, "anullsrc=mono:2147483647:1us"]
+    rows += [Row(f"all of {text}", text, []).gives(0).next(0) for text in texts]
+    rows += [Row(f"one by one of {text}", text, []).next(0).next(0).next(0).gives(0) for text in (sides[1], rates[9], lengths[6])]
+    return rows + long_sources()
+
+
+def long_sources():
+    """Sources of which a few frames are asked for: the others are never made."""
+    few = (("color=s=1x1:r=2147483647:d=1000000000", lambda n: (n, 1, [[[16]], [[128]], [[128]]])),
+           ("color=white:1x1:2/3:1000000000", lambda n: (n, 1, [[[235]], [[128]], [[128]]])),
+           ("anullsrc=mono:2147483647:1000000000", lambda n: (1024 * n, [[0] * 1024])))
+    rows = []
+    for text, make in few:
+        row = Row(f"the first of {text}", text, [])
+        row.function = lambda streams: [Stream([make(n) for n in range(4)], OPEN)]
+        rows.append(row.next(0).next(0).next(0))
+    return rows
+
+
 TABLES = {
     "refusals": ("Each filter's arguments and inputs: the heads of its outputs, or why it is refused, at each end of each range and in order.", refusals),
     "pictures": ("null, trim, setpts, crop, pad, hflip, vflip and split on small pictures.", of_pictures),
@@ -609,4 +664,5 @@ TABLES = {
     "concats": ("concat of 2 to 16 segments of pictures and of sound.", of_concat),
     "joins": ("join of unequal lengths, in frames of 1,024.", of_join),
     "shortest": ("The streams of one output, each up to the end of the shortest: `shortest` stands here for the part that does it.", of_shortest),
+    "sources": ("color and anullsrc: the head of the stream or why they are refused, and the frames one after another.", lambda: sources_refused() + source_frames()),
 }

@@ -89,8 +89,9 @@ def split_args(text):
     return args
 
 
-def given(args, options):
-    """Which option each argument gives, by key or by place: None where it gives none."""
+def given(args, options, places=None):
+    """Which option each argument gives, by key or by place, where no more than so many are given by place: None where it gives none."""
+    places = len(options) if places is None else places
     keyed = False
     found = []
     for place, (key, _) in enumerate(args):
@@ -98,14 +99,14 @@ def given(args, options):
             found.append(next((name for name, keys, _ in options if key in keys), None))
             keyed = True
         else:
-            found.append(options[place][0] if place < len(options) and not keyed else None)
+            found.append(options[place][0] if place < places and not keyed else None)
     return found
 
 
-def read_args(args, options):
+def read_args(args, options, places=None):
     """The values by option, the last one of each. The first argument at fault refuses."""
     values = {}
-    for name, (_, value) in zip(given(args, options), args):
+    for name, (_, value) in zip(given(args, options, places), args):
         if name is None:
             raise Refused("unknown option")
         values[name] = next(read for n, _, read in options if n == name)(value)
@@ -178,24 +179,29 @@ def null(args, heads, sound=False):
     return on_ports(heads, heads, each(lambda item: item))
 
 
-TIMES = [("start", ["start"], duration_of), ("end", ["end"], duration_of)]
+TIMES = [("start", ["start"], duration_of), ("end", ["end"], duration_of), ("duration", ["duration"], duration_of)]
 
 
 def trim(args, heads, sound=False):
     """Pictures with a pts from the start to below the end, and sound cut at the sample. Whole at the first picture at or past the end, at
-    the first frame of sound that ends at or past it, and at once where the end is 0."""
+    the first frame of sound that ends at or past it, and at once where the end is 0. With a duration, which is given by name alone and
+    isn't 0, the end is the later of its own and so many ticks from the first picture or sample kept on; before that one there is none."""
     check_inputs(heads, 1, sound)
-    values = read_args(args, TIMES)
+    values = read_args(args, TIMES, 2)
     base = heads[0].base
     start = ceil_units(values.get("start", 0), base)
-    end = ceil_units(values["end"], base) if "end" in values else None
+    own = ceil_units(values["end"], base) if "end" in values else None
+    duration = ceil_units(values.get("duration", 0), base)
 
     def function(streams):
         items, mark = streams[0]
         kept = []
+        end = None if duration else own
         if end == 0:
             return [Stream([], WHOLE)]
         for item in items:
+            if duration and end is None and end_of(item, heads[0]) > start and (sound or item[0] >= start):
+                end = max(own or 0, max(item[0], start) + duration)
             if not sound:
                 if end is not None and item[0] >= end:
                     return [Stream(kept, WHOLE)]
@@ -507,6 +513,62 @@ def shortest(args, heads):
     return on_ports(heads, heads, function, onwards)
 
 
+# Source filters: no input, and one whole stream of frames that are made --------------------------------------------------------------------
+
+def named(values):
+    """One of these names."""
+    def read(text):
+        if text not in values:
+            raise Refused("bad option")
+        return values[text]
+    return read
+
+
+def size(text):
+    """WxH, of whole numbers of 1 to 5 digits."""
+    found = re.fullmatch(r"([0-9]{1,5})x([0-9]{1,5})", text)
+    if not found:
+        raise Refused("bad option")
+    return int(found[1]), int(found[2])
+
+
+def with_duration(args, options):
+    """The values by option; a duration has to be among them."""
+    values = read_args(args, [*options, ("duration", ["d", "duration"], duration_of)])
+    if "duration" not in values:
+        raise Refused("bad option")
+    return values
+
+
+def color(args, heads):
+    """Pictures 0, 1, .. below the duration, each of one tick: Y of the colour, and 128 in Cb and Cr."""
+    values = with_duration(args, [("color", ["c", "color"], named({"black": 16, "white": 235})), ("size", ["s", "size"], size),
+                                  ("rate", ["r", "rate"], ratio)])
+    width, height = values.get("size", (320, 240))
+    if not (1 <= width <= 16384 and 1 <= height <= 16384):
+        raise Refused("bad size")
+    head = Pictures(values.get("rate", Fraction(1, 25)), "420", width, height, "1:1")
+
+    def function(streams):
+        shades = (values.get("color", 16), 128, 128)
+        planes = [[[shade] * columns] * rows for shade, (columns, rows) in zip(shades, sizes("420", width, height))]
+        return [Stream([frame(head, n, 1, planes) for n in range(ceil_units(values["duration"], head.base))], WHOLE)]
+    return [head], function
+
+
+def anullsrc(args, heads):
+    """Zeros below the duration, in frames of 1,024; the last one has the rest."""
+    values = with_duration(args, [("layout", ["cl", "channel_layout"], named({"mono": 1, "stereo": 2})),
+                                  ("rate", ["r", "sample_rate"], number(10, 1, 2 ** 31 - 1))])
+    rate = values.get("rate", 44100)
+    head = Sound(Fraction(1, rate), rate, 16, values.get("layout", 2), "pcm_s16le")
+
+    def function(streams):
+        count = ceil_units(values["duration"], head.base)
+        return [Stream([(at, [[0] * min(1024, count - at)] * head.channels) for at in range(0, count, 1024)], WHOLE)]
+    return [head], function
+
+
 FILTERS = {
     "null": null,
     "trim": trim,
@@ -527,6 +589,8 @@ FILTERS = {
     "concat": concat,
     "join": join,
     "shortest": shortest,
+    "color": color,
+    "anullsrc": anullsrc,
 }
 
 

@@ -1,15 +1,17 @@
 //! A row, run on its filter.
-use crate::play::Play;
+use crate::play::{Play, Steps};
 use crate::row::Row;
+use crate::sources::run_source;
 use crate::table::Stop;
-use ff_afilter::{ANull, ASetPts, ASplit, ATrim, ChannelSplit};
+use ff_afilter::{ANull, ASetPts, ASplit, ChannelSplit, LastingATrim};
 use ff_filter::Filter;
 use ff_frame::{ConfigError, StreamHead};
 use ff_fsync::{HStack, VStack};
 use ff_joins::{Concat, Join};
 use ff_lang::{Filter as Named, read_graph};
 use ff_node_sync::Shortest;
-use ff_vfilter::{Crop, Fps, HFlip, Null, Pad, SetPts, Split, Trim, VFlip};
+use ff_source::SourceName;
+use ff_vfilter::{Crop, Fps, HFlip, LastingTrim, Null, Pad, SetPts, Split, VFlip};
 use std::alloc::{AllocError, Global};
 
 // Why a filter is refused, as a line of a table.
@@ -26,8 +28,8 @@ fn refusal(error: ConfigError) -> &'static str {
     }
 }
 
-// Notes where the answer of `configure` isn't the row's.
-fn check_answer(row: &mut Row, came: &str) -> Result<bool, Stop> {
+/// Notes where the answer of `configure` isn't the row's.
+pub fn check_answer(row: &mut Row, came: &str) -> Result<bool, Stop> {
     if row.answer.as_str() == came {
         return Ok(true);
     }
@@ -37,22 +39,8 @@ fn check_answer(row: &mut Row, came: &str) -> Result<bool, Stop> {
     Ok(false)
 }
 
-// Does what the lines of a row say, up to the first that can't be done.
-fn play<F: Filter>(row: &mut Row, filter: F, outs: Vec<StreamHead>) -> Result<(), Stop>
-where
-    F: Drop,
-{
-    let ins = row.ins.clone()?;
-    let mut play = Play {
-        alloc: row.alloc,
-        filter,
-        ins: ins.as_slice(),
-        outs,
-    };
-    let heads = play.heads()?;
-    if !check_answer(row, heads.as_str())? {
-        return Ok(());
-    }
+/// Does what the lines of a row say, up to the first that can't be done.
+pub fn do_steps<P: Steps>(row: &mut Row, play: &mut P) -> Result<(), Stop> {
     for line in row.steps.clone()?.iter() {
         let text = format!(in row.alloc; "{} {}", line.kind, line.rest)?;
         match play.step(line.kind, line.rest) {
@@ -70,6 +58,34 @@ where
     Ok(())
 }
 
+// Says what comes of the row on this filter.
+fn play<F: Filter>(row: &mut Row, filter: F, outs: Vec<StreamHead>) -> Result<(), Stop>
+where
+    F: Drop,
+{
+    let ins = row.ins.clone()?;
+    let mut play = Play {
+        alloc: row.alloc,
+        filter,
+        ins: ins.as_slice(),
+        outs,
+    };
+    let heads = play.heads()?;
+    if !check_answer(row, heads.as_str())? {
+        return Ok(());
+    }
+    do_steps(row, &mut play)
+}
+
+/// A filter that the row has refused, and that is refused.
+pub fn end_refused(row: &mut Row, error: ConfigError) -> Result<(), Stop> {
+    if check_answer(row, refusal(error))? && !row.steps.is_empty() {
+        let number = row.number;
+        return row.add_problem(number, "steps", "a filter that is refused");
+    }
+    Ok(())
+}
+
 // Runs a row on what `configure` made of it.
 fn run<F: Filter>(
     row: &mut Row,
@@ -80,13 +96,7 @@ where
 {
     match made {
         Ok((filter, outs)) => play(row, filter, outs),
-        Err(error) => {
-            if check_answer(row, refusal(error))? && !row.steps.is_empty() {
-                let number = row.number;
-                return row.add_problem(number, "steps", "a filter that is refused");
-            }
-            Ok(())
-        }
+        Err(error) => end_refused(row, error),
     }
 }
 
@@ -117,7 +127,7 @@ fn run_sound(row: &mut Row, named: &Named, heads: &[StreamHead]) -> Result<(), S
     let (alloc, args) = (row.alloc, named.args.as_slice());
     match named.name.as_str() {
         "anull" => run(row, ANull::configure(alloc, args, heads)),
-        "atrim" => run(row, ATrim::configure(alloc, args, heads)),
+        "atrim" => run(row, LastingATrim::configure(alloc, args, heads)),
         "asetpts" => run(row, ASetPts::configure(alloc, args, heads)),
         "asplit" => run(row, ASplit::configure(alloc, args, heads)),
         "channelsplit" => run(row, ChannelSplit::configure(alloc, args, heads)),
@@ -130,7 +140,7 @@ fn run_any(row: &mut Row, named: &Named, heads: &[StreamHead]) -> Result<(), Sto
     let (alloc, args) = (row.alloc, named.args.as_slice());
     match named.name.as_str() {
         "null" => run(row, Null::configure(alloc, args, heads)),
-        "trim" => run(row, Trim::configure(alloc, args, heads)),
+        "trim" => run(row, LastingTrim::configure(alloc, args, heads)),
         "setpts" => run(row, SetPts::configure(alloc, args, heads)),
         "crop" => run(row, Crop::configure(alloc, args, heads)),
         "pad" => run(row, Pad::configure(alloc, args, heads)),
@@ -154,5 +164,8 @@ pub fn run_row(row: &mut Row) -> Result<(), Stop> {
     let [named] = chain.filters.as_slice() else {
         return Err(Stop::Unreadable);
     };
-    run_any(row, named, heads.as_slice())
+    match SourceName::read(named.name.as_str()) {
+        Some(name) => run_source(row, name, named.args.as_slice()),
+        None => run_any(row, named, heads.as_slice()),
+    }
 }

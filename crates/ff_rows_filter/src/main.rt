@@ -12,6 +12,7 @@ mod play;
 mod row;
 mod runner;
 mod sound;
+mod sources;
 mod table;
 
 use runner::Runner;

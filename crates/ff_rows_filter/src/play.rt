@@ -7,7 +7,13 @@ use ff_frame::StreamHead;
 use std::alloc::Global;
 
 /// So many items at most are taken from an output in one line.
-const MOST: u64 = 1 << 20;
+pub const MOST: u64 = 1 << 20;
+
+/// What does the lines of a row.
+pub trait Steps {
+    /// Does what a line says, and answers with the rest that it should have.
+    fn step(&mut self, kind: &str, rest: &str) -> Result<String, Stop>;
+}
 
 /// A filter with the heads of its inputs and of its outputs.
 #[derive(Drop)]
@@ -143,9 +149,10 @@ impl<F: Filter> Play<'_, F> {
         }
         Ok(text)
     }
+}
 
-    /// Does what a line says, and answers with the rest that it should have.
-    pub fn step(&mut self, kind: &str, rest: &str) -> Result<String, Stop> {
+impl<F: Filter> Steps for Play<'_, F> {
+    fn step(&mut self, kind: &str, rest: &str) -> Result<String, Stop> {
         match kind {
             "feed" => self.feed(rest),
             "gives" | "next" => self.pulled(kind, rest),
