@@ -64,7 +64,7 @@ taken _ = []
 abbrev pub effect : Kind → List ℕ
 effect kind.Nothing = codes "no effect"
 effect kind.NoStats = codes "no line on standard error says how far the run has come"
-effect kind.Level = codes "no effect: quiet, panic, fatal, error, warning, info, verbose, debug, trace or a number"
+effect kind.Level = codes "how much standard error has: quiet, panic, fatal, error, warning, info, verbose, debug, trace or a number"
 effect kind.Word = codes "no effect"
 effect kind.Number = codes "no effect: a whole number of 1 to 9 digits"
 effect kind.FrameMode = codes "no effect: passthrough"

@@ -82,7 +82,7 @@ fn effect(kind: Kind) -> &'static str
         Kind::Nothing => "no effect",
         Kind::NoStats => "no line on standard error says how far the run has come",
         Kind::Level =>
-            "no effect: quiet, panic, fatal, error, warning, info, verbose, debug, trace or a number",
+            "how much standard error has: quiet, panic, fatal, error, warning, info, verbose, debug, trace or a number",
         Kind::Word => "no effect",
         Kind::Number => "no effect: a whole number of 1 to 9 digits",
         Kind::FrameMode => "no effect: passthrough",

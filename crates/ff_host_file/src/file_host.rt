@@ -2,6 +2,7 @@
 ghost use Rattle.std.specs.Prelude.{◌≡◌, ◌+◌, ◌<◌, ◌≤◌, ℕ, List, Some, None, IsTrue, string_bytes};
 ghost use Rattle.ff_host.specs.Tally.{marks_at};
 
+use crate::cause::{Cause, Causes};
 use crate::file_id::{FileId, id_of, is_among, let_go, note};
 use crate::file_sink::FileSink;
 use crate::file_source::FileSource;
@@ -34,6 +35,10 @@ pub struct FileHost<R: Drop> {
     written: Vec<FileId>,
     /// The line on standard error that says how far the reading is, where it is asked for.
     progress: Option<Progress<R>>,
+    /// Why calls failed.
+    causes: Causes,
+    /// Whether a sink was ever created.
+    has_created: bool,
 }
 
 // A file that was opened: which one it is, and how long, where it is a plain one.
@@ -55,34 +60,46 @@ impl<R: Files + Drop> FileHost<R> {
             read: Vec::new(alloc),
             written: Vec::new(alloc),
             progress: None,
+            causes: Causes::new(alloc),
+            has_created: false,
         }
+    }
+
+    /// Why the first call on a file of this name failed, where that is known.
+    pub fn cause(&self, name: &str) -> Option<Cause> {
+        self.causes.of(name)
+    }
+
+    /// Whether a sink was ever created.
+    pub fn has_created(&self) -> bool {
+        self.has_created
     }
 }
 
 impl<R: Files + Drop> FileHost<R> {
     // Opens a file that nothing writes.
-    fn open_other(&self, name: &str) -> Option<Opened<R::File>> {
-        let file = fs::open(&self.files, name).ok()?;
-        let about = file.metadata().ok()?;
+    fn open_other(&self, name: &str) -> Result<Opened<R::File>, Cause> {
+        let file = fs::open(&self.files, name)?;
+        let about = file.metadata()?;
         let id = id_of(&about);
         if is_among(id, self.written.as_slice()) {
-            return None;
+            return Err(Cause::InUse);
         }
         let size = id.map(|_| about.len());
-        Some(Opened { file, id, size })
+        Ok(Opened { file, id, size })
     }
 
     // Makes a file empty that nothing reads or writes.
-    fn create_other(&self, name: &str) -> Option<(R::File, Option<FileId>)> {
+    fn create_other(&self, name: &str) -> Result<(R::File, Option<FileId>), Cause> {
         if let Ok(there) = fs::metadata(&self.files, name) {
             let id = id_of(&there);
             if is_among(id, self.read.as_slice()) || is_among(id, self.written.as_slice()) {
-                return None;
+                return Err(Cause::InUse);
             }
         }
-        let file = fs::create(&self.files, name).ok()?;
-        let id = id_of(&file.metadata().ok()?);
-        Some((file, id))
+        let file = fs::create(&self.files, name)?;
+        let id = id_of(&file.metadata()?);
+        Ok((file, id))
     }
 }
 
@@ -148,10 +165,14 @@ where
         let own_name = String::from_str(self.alloc, name)?;
         self.read.reserve(1)?;
         let was = marks_of(&self.table, name);
-        let Some(Opened { file, id, size }) = self.open_other(name) else {
-            let in_faults = was.in_faults.saturating_add(1);
-            set_marks(&mut self.table, name, Marks { in_faults, ..was });
-            return Err(HostError::Failed);
+        let Opened { file, id, size } = match self.open_other(name) {
+            Ok(opened) => opened,
+            Err(cause) => {
+                let in_faults = was.in_faults.saturating_add(1);
+                set_marks(&mut self.table, name, Marks { in_faults, ..was });
+                self.causes.note(name, Some(cause));
+                return Err(HostError::Failed);
+            }
         };
         let Ok(file) = BufReader::with_capacity(self.alloc, BUFFER, file) else {
             return Err(HostError::NoMemory);
@@ -172,10 +193,14 @@ where
         self.written.reserve(1)?;
         look_for_room(self.alloc)?;
         let was = marks_of(&self.table, name);
-        let Some((file, id)) = self.create_other(name) else {
-            let out_faults = was.out_faults.saturating_add(1);
-            set_marks(&mut self.table, name, Marks { out_faults, ..was });
-            return Err(HostError::Failed);
+        let (file, id) = match self.create_other(name) {
+            Ok(created) => created,
+            Err(cause) => {
+                let out_faults = was.out_faults.saturating_add(1);
+                set_marks(&mut self.table, name, Marks { out_faults, ..was });
+                self.causes.note(name, Some(cause));
+                return Err(HostError::Failed);
+            }
         };
         let Ok(file) = BufWriter::with_capacity(self.alloc, BUFFER, file) else {
             return Err(HostError::NoMemory);
@@ -184,6 +209,7 @@ where
         let created = true;
         set_marks(&mut self.table, name, Marks { created, ..was });
         self.sinks = sinks;
+        self.has_created = true;
         Ok(FileSink::new(file, own_name, id))
     }
 
@@ -194,6 +220,7 @@ where
         self.sources = self.sources.saturating_sub(1);
         let_go(&mut self.read, src.id());
         self.clear_at_last();
+        self.causes.note(name, src.cause());
     }
 
     fn close_sink(&mut self, name: &str, snk: FileSink<R::File>) -> Result<(), Failed> {
@@ -202,7 +229,9 @@ where
         let_go(&mut self.written, snk.id());
         let was = marks_of(&self.table, name);
         let out_faults = was.out_faults.saturating_add(snk.faults());
-        if snk.finish() {
+        let is_whole = snk.finish();
+        self.causes.note(name, snk.cause());
+        if is_whole {
             set_marks(&mut self.table, name, Marks { out_faults, ..was });
             return Ok(());
         }

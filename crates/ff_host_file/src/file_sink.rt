@@ -1,8 +1,10 @@
 //! A file that is written.
 ghost use Rattle.std.specs.Prelude.{◌≡◌, ◌+◌, ◌≤◌, ℕ, List, None, Some, false, string_bytes};
 
+use crate::cause::Cause;
 use crate::file_id::FileId;
 use ff_host::{Failed, Sink, SinkError};
+use std::io;
 use std::io::{BufWriter, Seek, SeekFrom, Write};
 
 /// A file that is written through a buffer. It tells no content, and counts each failure. A write that fails is seen
@@ -16,6 +18,8 @@ pub struct FileSink<F: Write + Drop> {
     written: u64,
     faults: u64,
     failed: bool,
+    /// Why the first call failed.
+    cause: Option<Cause>,
 }
 
 impl<F: Write + Drop> FileSink<F> {
@@ -32,7 +36,13 @@ impl<F: Write + Drop> FileSink<F> {
             written: 0,
             faults: 0,
             failed: false,
+            cause: None,
         }
+    }
+
+    /// Why the first call failed, where one did.
+    pub fn cause(&self) -> Option<Cause> {
+        self.cause
     }
 
     /// Which plain file it is, if it is one.
@@ -51,8 +61,26 @@ impl<F: Write + Drop> FileSink<F> {
     pub fn finish(&mut self) -> bool
         ensures { self.new.faults ≡ self.old.faults }
     {
-        self.file.flush().is_ok()
+        match self.file.flush() {
+            Ok(()) => true,
+            Err(error) => {
+                self.cause = self.cause.or(Some(Cause::System(error)));
+                false
+            }
+        }
     }
+}
+
+// Writes over what stands at a place, and goes on at the end.
+fn write_over<F: Write + Seek + Drop>(
+    file: &mut BufWriter<F>,
+    at: u64,
+    bytes: &[u8],
+) -> io::Result<()> {
+    file.seek(SeekFrom::Start(at))?;
+    file.write_all(bytes)?;
+    file.seek(SeekFrom::End(0))?;
+    Ok(())
 }
 
 impl<F: Write + Seek + Drop> Sink for FileSink<F> {
@@ -69,10 +97,14 @@ impl<F: Write + Seek + Drop> Sink for FileSink<F> {
     fn append(&mut self, bytes: &[u8]) -> Result<(), SinkError> {
         if !self.failed
             && let Some(written) = self.written.checked_add(bytes.len() as u64)
-            && self.file.write_all(bytes).is_ok()
         {
-            self.written = written;
-            return Ok(());
+            match self.file.write_all(bytes) {
+                Ok(()) => {
+                    self.written = written;
+                    return Ok(());
+                }
+                Err(error) => self.cause = Some(Cause::System(error)),
+            }
         }
         self.failed = true;
         self.faults = self.faults.saturating_add(1);
@@ -80,12 +112,11 @@ impl<F: Write + Seek + Drop> Sink for FileSink<F> {
     }
 
     fn patch(&mut self, at: u64, bytes: &[u8]) -> Result<(), Failed> {
-        if !self.failed
-            && self.file.seek(SeekFrom::Start(at)).is_ok()
-            && self.file.write_all(bytes).is_ok()
-            && self.file.seek(SeekFrom::End(0)).is_ok()
-        {
-            return Ok(());
+        if !self.failed {
+            match write_over(&mut self.file, at, bytes) {
+                Ok(()) => return Ok(()),
+                Err(error) => self.cause = Some(Cause::System(error)),
+            }
         }
         self.failed = true;
         self.faults = self.faults.saturating_add(1);

@@ -1,9 +1,11 @@
 //! A file that is read.
-ghost use Rattle.std.specs.Prelude.{◌≡◌, ◌+◌, ◌<◌, ◌≤◌, ℕ, List, None, Some, false, IfSome, length, string_bytes};
+ghost use Rattle.std.specs.Prelude.{◌≡◌, ◌+◌, ◌<◌, ◌≤◌, ℕ, List, None, Some, false, IfOk, length, string_bytes};
 
+use crate::cause::Cause;
 use crate::file_id::FileId;
 use crate::progress::Meter;
 use ff_host::{Failed, Source};
+use std::io;
 use std::io::{BufReader, Eprint, ErrorKind, Read};
 use std::time::Clock;
 
@@ -18,6 +20,8 @@ pub struct FileSource<F: Read + Drop, R: Drop> {
     meter: Option<Meter<R>>,
     faults: u64,
     failed: bool,
+    /// Why the first read failed.
+    cause: Option<Cause>,
 }
 
 impl<F: Read + Drop, R: Drop> FileSource<F, R> {
@@ -39,7 +43,13 @@ impl<F: Read + Drop, R: Drop> FileSource<F, R> {
             meter,
             faults: 0,
             failed: false,
+            cause: None,
         }
+    }
+
+    /// Why the first read failed, where one did.
+    pub fn cause(&self) -> Option<Cause> {
+        self.cause
     }
 
     /// Which plain file it is, if it is one.
@@ -56,17 +66,17 @@ impl<F: Read + Drop, R: Drop> FileSource<F, R> {
 }
 
 // Reads once, and again where a signal came in between.
-fn read_some<F: Read>(file: &mut BufReader<F>, buf: &mut [u8]) -> Option<usize>
-    ensures { IfSome result (λ count. count ≤ length buf.new) }
+fn read_some<F: Read>(file: &mut BufReader<F>, buf: &mut [u8]) -> io::Result<usize>
+    ensures { IfOk result (λ count. count ≤ length buf.new) }
 {
     for _ in 0..u64::MAX {
         match file.read(buf) {
-            Ok(count) => return Some(count),
+            Ok(count) => return Ok(count),
             Err(e) if e.kind() == ErrorKind::Interrupted => {}
-            Err(_) => return None,
+            Err(e) => return Err(e),
         }
     }
-    None
+    Err(io::Error::from(ErrorKind::Interrupted))
 }
 
 impl<F: Read + Drop, R: Clock + Eprint + Drop> Source for FileSource<F, R> {
@@ -79,13 +89,16 @@ impl<F: Read + Drop, R: Clock + Eprint + Drop> Source for FileSource<F, R> {
     ghost name = { λ s. Some (string_bytes s.name) };
 
     fn read(&mut self, buf: &mut [u8]) -> Result<usize, Failed> {
-        if !self.failed
-            && let Some(count) = read_some(&mut self.file, buf)
-        {
-            if let Some(meter) = &self.meter {
-                meter.add(count);
+        if !self.failed {
+            match read_some(&mut self.file, buf) {
+                Ok(count) => {
+                    if let Some(meter) = &self.meter {
+                        meter.add(count);
+                    }
+                    return Ok(count);
+                }
+                Err(error) => self.cause = Some(Cause::System(error)),
             }
-            return Ok(count);
         }
         self.failed = true;
         self.faults = self.faults.saturating_add(1);

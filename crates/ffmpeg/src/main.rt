@@ -2,11 +2,14 @@
 //! of the report. The command itself is `ff_run::ffmpeg`, the files are those of `ff_host_file`.
 #![tactic(auto)]
 
+mod fault;
 mod words;
 
 ghost use Rattle.std.specs.Prelude.{◌≢◌};
 
+use fault::{tell, tell_end};
 use ff_command::{Status, exit_number, fault_line, status_number};
+use ff_explain::tells_progress;
 use ff_host::Sink;
 use ff_host_file::{FileHost, LogSink};
 use ff_run::ffmpeg;
@@ -40,25 +43,23 @@ fn status_of(end: WordsEnd) -> Status
     }
 }
 
-// Whether it is said on standard error how far the run is: where that is a terminal, and no argument is `-nostats`.
-fn shows_progress(rt: &HostRuntime, words: &[String]) -> bool {
-    rt.stderr().is_terminal() && !words.iter().any(|word| word.as_str() == "-nostats")
-}
-
 fn main(rt: HostRuntime) -> ExitCode {
     let alloc = rt.alloc();
     let mut log = LogSink::new(io::writer(&rt));
-    let words = match read_words(&rt, alloc) {
-        Ok(words) => words,
-        Err(end) => return ExitCode::from(refuse(alloc, &mut log, &status_of(end))),
-    };
+    let mut words = Vec::new(alloc);
+    if let Err(end) = read_words(&rt, alloc, &mut words) {
+        let number = refuse(alloc, &mut log, &status_of(end));
+        tell_end(&rt, alloc, words.as_slice(), end);
+        return ExitCode::from(number);
+    }
     let Ok(files) = rt.clone() else {
         return ExitCode::from(refuse(alloc, &mut log, &Status::NoMemory));
     };
     let mut host = FileHost::new(alloc, files);
-    if shows_progress(&rt, &words) {
+    if rt.stderr().is_terminal() && tells_progress(words.as_slice()) {
         host.show_progress();
     }
     let report = ffmpeg(&rt, alloc, &words, &mut host, &mut log);
+    tell(&rt, alloc, words.as_slice(), &host, &report);
     ExitCode::from(exit_number(&report))
 }

@@ -7,6 +7,7 @@ use std::str;
 const LONGEST: usize = 131_072;
 
 /// Why the arguments couldn't be handed in.
+#[derive(Clone, Copy)]
 pub enum WordsEnd {
     /// This argument, from 0 and without the program's name, isn't UTF-8, or is longer than any that the system passes.
     NotText { word: u32 },
@@ -20,9 +21,8 @@ impl From<AllocError> for WordsEnd {
     }
 }
 
-/// The arguments of the command line, without the program's name.
-pub fn read_words(env: &impl Env, alloc: Global) -> Result<Vec<String>, WordsEnd> {
-    let mut words = Vec::new(alloc);
+/// Adds the arguments of the command line, without the program's name; at an end those before it.
+pub fn read_words(env: &impl Env, alloc: Global, words: &mut Vec<String>) -> Result<(), WordsEnd> {
     let mut buffer = vec![in alloc; 0; LONGEST]?;
     for word in 0..u32::MAX {
         let length = match env.arg(word as usize + 1, &mut buffer) {
@@ -37,5 +37,5 @@ pub fn read_words(env: &impl Env, alloc: Global) -> Result<Vec<String>, WordsEnd
             return Err(WordsEnd::NoMemory);
         }
     }
-    Ok(words)
+    Ok(())
 }
