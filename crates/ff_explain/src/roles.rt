@@ -18,6 +18,8 @@ pub(crate) enum Role {
 fn is_bare(kind: Kind) -> bool {
     match kind {
         Kind::Nothing
+        | Kind::Keeps
+        | Kind::Replaces
         | Kind::NoStats
         | Kind::NoVideo
         | Kind::NoAudio

@@ -112,6 +112,7 @@ fn show_job(alloc: Global, job: &Job) -> Result<String, Stop> {
         let name = trace.as_str();
         out.push_str(format!(in alloc; " trace <{name}>")?.as_str())?;
     }
+    add_if(&mut out, job.keeps, "keeps")?;
     for graph in job.graphs.as_slice() {
         add_graph(alloc, &mut out, "graph", graph)?;
     }

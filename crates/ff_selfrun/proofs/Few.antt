@@ -65,6 +65,8 @@ level-few v false text h = makes-few (λ n. value.Nothing) (ReadsWhole 0 9999999
 
 reads-few : (k : Kind) (text : List ℕ) (v : Value) → Reads k text (Ok v) → Few v
 reads-few kind.Nothing text v h = absurd h
+reads-few kind.Keeps text v h = absurd h
+reads-few kind.Replaces text v h = absurd h
 reads-few kind.NoStats text v h = absurd h
 reads-few kind.NoVideo text v h = absurd h
 reads-few kind.NoAudio text v h = absurd h
@@ -104,6 +106,8 @@ reads-few kind.Rf64 text v h =
 
 switched-few : (k : Kind) (w : Value) → switched k ≡ Some w → Few w
 switched-few kind.Nothing w e = (let same : value.Nothing ≡ w = cc in subst Few same tt)
+switched-few kind.Keeps w e = (let same : value.Keeps true ≡ w = cc in subst Few same tt)
+switched-few kind.Replaces w e = (let same : value.Keeps false ≡ w = cc in subst Few same tt)
 switched-few kind.NoStats w e = (let same : value.Nothing ≡ w = cc in subst Few same tt)
 switched-few kind.NoVideo w e = (let same : value.NoVideo ≡ w = cc in subst Few same tt)
 switched-few kind.NoAudio w e = (let same : value.NoAudio ≡ w = cc in subst Few same tt)
@@ -171,6 +175,7 @@ FewAsked (Some s) = FewSolo s
 asked-few : (v : Value) → Few v → FewAsked (as_solo v)
 asked-few (value.Solo s) h = h
 asked-few value.Nothing h = tt
+asked-few (value.Keeps b) h = tt
 asked-few value.NoVideo h = tt
 asked-few value.NoAudio h = tt
 asked-few value.Shortest h = tt

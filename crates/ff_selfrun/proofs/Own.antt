@@ -150,7 +150,7 @@ made =
     (reads-format FrameHash) in
     let r8 = with_output (codes "out") FrameHash r7 in
     let g8 = goes-output ws few (codes "out") [] r7 FrameHash g7 refl (omega arith) (λ ending. refl) refl in
-    let job : Job = record { queue = r8.queue; trace = r8.trace; graphs = r8.graphs; inputs = r8.inputs; outputs = r8.outputs } in
+    let job : Job = record { queue = r8.queue; trace = r8.trace; keeps = r8.keeps; graphs = r8.graphs; inputs = r8.inputs; outputs = r8.outputs } in
     (job, ended ws g8.at r8 g8.stands (Ok (Run job)) (none_left ws g8.at g8.behind) (refl, refl))
 
 -- the job that they ask for

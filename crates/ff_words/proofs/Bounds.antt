@@ -82,6 +82,8 @@ of-level v false text h = of-made (λ n. value.Nothing) (ReadsWhole 0 999999999 
 
 reads-kind : (k : Kind) (text : List ℕ) (v : Value) → Reads k text (Ok v) → OfKind v k
 reads-kind kind.Nothing text v h = absurd h
+reads-kind kind.Keeps text v h = absurd h
+reads-kind kind.Replaces text v h = absurd h
 reads-kind kind.NoStats text v h = absurd h
 reads-kind kind.NoVideo text v h = absurd h
 reads-kind kind.NoAudio text v h = absurd h
@@ -121,6 +123,8 @@ reads-kind kind.Rf64 text v h =
 
 switched-kind : (k : Kind) (w : Value) → switched k ≡ Some w → OfKind w k
 switched-kind kind.Nothing w e = (let same : value.Nothing ≡ w = cc in subst (λ x. OfKind x kind.Nothing) same tt)
+switched-kind kind.Keeps w e = (let same : value.Keeps true ≡ w = cc in subst (λ x. OfKind x kind.Keeps) same tt)
+switched-kind kind.Replaces w e = (let same : value.Keeps false ≡ w = cc in subst (λ x. OfKind x kind.Replaces) same tt)
 switched-kind kind.NoStats w e = (let same : value.Nothing ≡ w = cc in subst (λ x. OfKind x kind.NoStats) same tt)
 switched-kind kind.NoVideo w e = (let same : value.NoVideo ≡ w = cc in subst (λ x. OfKind x kind.NoVideo) same tt)
 switched-kind kind.NoAudio w e = (let same : value.NoAudio ≡ w = cc in subst (λ x. OfKind x kind.NoAudio) same tt)
@@ -232,6 +236,7 @@ kind-room es token rule k fine dashed named is valued =
 small-option : (es : List Entry) (token : Token) (at : ℕ) (concern : Concern) (v : Value) → is_file v ≡ false → early es token ≡ None → HasRule token v
     → Small (reader es) → Small (optioned (entry at concern v) (reader es))
 small-option es token at concern value.Nothing plain fine h s = s
+small-option es token at concern (value.Keeps b) plain fine h s = s
 small-option es token at concern value.NoVideo plain fine h s = s
 small-option es token at concern value.NoAudio plain fine h s = s
 small-option es token at concern value.Shortest plain fine h s = s
@@ -296,6 +301,7 @@ by-value : (P : Reader → Type 0) (es : List Entry) (token : Token) (at : ℕ) 
     → ((name : List ℕ) (ending : Option FileFormat) (format : FileFormat) → late es token.at (value.Output name ending) ≡ None → P (with_output name format (reader es)))
     → P (reader (es ++ entry at concern v ∷ []))
 by-value P es token at concern value.Nothing before reads fine option ins outs = subst P (sym (reader-snoc es (entry at concern value.Nothing) refl)) (option refl (token-rule token (is_dashed token.word) concern value.Nothing refl refl reads))
+by-value P es token at concern (value.Keeps b) before reads fine option ins outs = subst P (sym (reader-snoc es (entry at concern (value.Keeps b)) refl)) (option refl (token-rule token (is_dashed token.word) concern (value.Keeps b) refl refl reads))
 by-value P es token at concern value.NoVideo before reads fine option ins outs = subst P (sym (reader-snoc es (entry at concern value.NoVideo) refl)) (option refl (token-rule token (is_dashed token.word) concern value.NoVideo refl refl reads))
 by-value P es token at concern value.NoAudio before reads fine option ins outs = subst P (sym (reader-snoc es (entry at concern value.NoAudio) refl)) (option refl (token-rule token (is_dashed token.word) concern value.NoAudio refl refl reads))
 by-value P es token at concern value.Shortest before reads fine option ins outs = subst P (sym (reader-snoc es (entry at concern value.Shortest) refl)) (option refl (token-rule token (is_dashed token.word) concern value.Shortest refl refl reads))

@@ -12,7 +12,7 @@ use Rattle.ff_words.specs.declared.job.OutputJob.{OutputJob}
 use Rattle.ff_words.specs.declared.job.Job.{Job}
 use Rattle.ff_frame.specs.Codecs.{codec_name}
 use Rattle.ff_format.specs.Formats.{format_name}
-use Rattle.ff_words.specs.Writing.{given, micros_text, where_some, where_true, format_words, start_words, length_words, input_words, map_words, audio_words, video_words, vf_words, af_words, hash_words, rf64_words, output_words, graph_words, trace_words, queue_words, job_words, IsFineOutput, IsFineJob, IsPlainOutput}
+use Rattle.ff_words.specs.Writing.{given, micros_text, where_some, where_true, format_words, start_words, length_words, input_words, map_words, audio_words, video_words, vf_words, af_words, hash_words, rf64_words, output_words, graph_words, trace_words, keeps_words, queue_words, job_words, IsFineOutput, IsFineJob, IsPlainOutput}
 
 abbrev Words : Type 0
 Words = List (List ℕ)
@@ -90,9 +90,11 @@ few j fine plain =
     let y4 : Words = flat_map output_words j.outputs ++ [] in
     let y3 : Words = flat_map input_words j.inputs ++ y4 in
     let y2 : Words = flat_map graph_words j.graphs ++ y3 in
-    let y1 : Words = trace_words j.trace ++ y2 in
+    let y1 : Words = keeps_words j.keeps ++ y2 in
+    let y0 : Words = trace_words j.trace ++ y1 in
     let h4 : length y4 ≤ 832 = omega (arith, length-append (flat_map output_words j.outputs) [], outputs-count j.outputs fine.outputs plain, fine.few_outputs) in
     let h3 : length y3 ≤ 960 = omega (arith, length-append (flat_map input_words j.inputs) y4, inputs-count j.inputs, fine.few_inputs, h4) in
     let h2 : length y2 ≤ 992 = omega (arith, length-append (flat_map graph_words j.graphs) y3, graphs-count j.graphs, fine.few_graphs, h3) in
-    let h1 : length y1 ≤ 994 = joined (trace_words j.trace) y2 2 992 (some-count (codes "-sched_trace") (λ name. name) j.trace) h2 in
-    omega (arith, length-append (queue_words j.queue) y1, h1)
+    let h1 : length y1 ≤ 993 = joined (keeps_words j.keeps) y2 1 992 (true-count (codes "-n") j.keeps) h2 in
+    let h0 : length y0 ≤ 995 = joined (trace_words j.trace) y1 2 993 (some-count (codes "-sched_trace") (λ name. name) j.trace) h1 in
+    omega (arith, length-append (queue_words j.queue) y0, h0)

@@ -48,6 +48,10 @@ pub line-trace : IsLine (codes "-sched_trace") All kind.Trace
 unfolding option_named
 line-trace = refl
 
+pub line-keeps : IsLine (codes "-n") All kind.Keeps
+unfolding option_named
+line-keeps = refl
+
 pub line-help : IsLine (codes "-h") Alone kind.Help
 unfolding option_named
 line-help = refl

@@ -38,9 +38,9 @@ use Rattle.ff_words.specs.declared.error.Fault.{Fault}
 use Rattle.ff_words.specs.Words.{IsAnswer, or_else, cut_of, start_of, length_of, ends_early, fault, bad_at, same_name}
 use Rattle.ff_format.specs.Formats.{format_name, is_read, short_name}
 use Rattle.ff_words.specs.Options.{hash_name, rf64_name}
-use Rattle.ff_words.specs.Writing.{given, micros_text, map_text, format_words, start_words, length_words, input_words, map_words, audio_words, video_words, vf_words, af_words, hash_words, rf64_words, where_some, where_true, output_words, graph_words, trace_words, queue_words, job_words, IsFineText, IsFineGraph, IsFineMap, IsReadFormat, IsSoundCodec, WhereSome, IsFineInput, IsFineOutput, IsFineJob, IsFineSolo, IsFineCommand, solo_words, command_words}
+use Rattle.ff_words.specs.Writing.{given, micros_text, map_text, format_words, start_words, length_words, input_words, map_words, audio_words, video_words, vf_words, af_words, hash_words, rf64_words, where_some, where_true, output_words, graph_words, trace_words, keeps_words, queue_words, job_words, IsFineText, IsFineGraph, IsFineMap, IsReadFormat, IsSoundCodec, WhereSome, IsFineInput, IsFineOutput, IsFineJob, IsFineSolo, IsFineCommand, solo_words, command_words}
 use Rattle.ff_words.proofs.Spellings.{is-number, number-short, micros-short, map-short}
-use Rattle.ff_words.proofs.Known.{line-queue, line-help, line-version, line-self_run, line-trace, line-complex, line-format, line-start, line-length, line-input, line-map, line-audio, line-video, line-vf, line-af, line-no_audio, line-no_video, line-shortest, line-hash, line-rf64, reads-format, reads-audio, reads-video, reads-hash, reads-rf64, reads-map, reads-complex, reads-vf, reads-af, reads-start, reads-length}
+use Rattle.ff_words.proofs.Known.{line-queue, line-keeps, line-help, line-version, line-self_run, line-trace, line-complex, line-format, line-start, line-length, line-input, line-map, line-audio, line-video, line-vf, line-af, line-no_audio, line-no_video, line-shortest, line-hash, line-rf64, reads-format, reads-audio, reads-video, reads-hash, reads-rf64, reads-map, reads-complex, reads-vf, reads-af, reads-start, reads-length}
 use Rattle.ff_words.proofs.Goes.{Goes, goes-start, goes-by, goes-option, goes-input, goes-switch, goes-output}
 use Rattle.ff_words.proofs.Tokens.{ended}
 
@@ -488,6 +488,12 @@ trace-read ws few rest None r fine g = g
 trace-read ws few rest (Some name) r fine g =
     goes-option ws few (codes "-sched_trace") name rest (in_hand (record r { trace = None }) (pending [])) All kind.Trace (value.Trace name) g refl line-trace refl (omega arith) fine refl refl refl
 
+keeps-read : (ws : List Text) (few : length ws ≤ 1024) (rest : List Text) (b : Bool) (r : Reader)
+    → Goes ws (keeps_words b ++ rest) (in_hand (record r { keeps = false }) (pending [])) → Goes ws rest (in_hand (record r { keeps = b }) (pending []))
+keeps-read ws few rest false r g = g
+keeps-read ws few rest true r g =
+    goes-switch ws few (codes "-n") rest (in_hand (record r { keeps = false }) (pending [])) All kind.Keeps (value.Keeps true) g refl line-keeps refl refl (omega arith) refl
+
 queue-read : (ws : List Text) (few : length ws ≤ 1024) (rest : List Text) (n : ℕ) (r : Reader) → 1 ≤ n → n ≤ 1024
     → Goes ws (queue_words n ++ rest) (in_hand r (pending [])) → Goes ws rest (in_hand (record r { queue = n }) (pending []))
 queue-read ws few rest n r low high g =
@@ -497,11 +503,11 @@ queue-read ws few rest n r low high g =
 
 -- ---- the job
 
-abbrev state : ℕ → Option Text → List Graph → List InputJob → List OutputJob → Reader
-state q t gs is os = record { queue = q; trace = t; solo = None; graphs = gs; inputs = is; outputs = os; pending = pending [] }
+abbrev state : ℕ → Option Text → Bool → List Graph → List InputJob → List OutputJob → Reader
+state q t k gs is os = record { queue = q; trace = t; keeps = k; solo = None; graphs = gs; inputs = is; outputs = os; pending = pending [] }
 
 abbrev done : Job → Reader
-done j = state j.queue j.trace j.graphs j.inputs j.outputs
+done j = state j.queue j.trace j.keeps j.graphs j.inputs j.outputs
 
 all-read : (j : Job) → IsFineJob j → length (job_words j) ≤ 1024 → Goes (job_words j) [] (done j)
 all-read j fine few =
@@ -509,12 +515,14 @@ all-read j fine few =
     let y4 : List Text = flat_map output_words j.outputs ++ [] in
     let y3 : List Text = flat_map input_words j.inputs ++ y4 in
     let y2 : List Text = flat_map graph_words j.graphs ++ y3 in
-    let y1 : List Text = trace_words j.trace ++ y2 in
-    let g1 : Goes ws y1 (state j.queue None [] [] []) = queue-read ws few y1 j.queue (state 8 None [] [] []) fine.some_queue fine.short_queue (goes-start ws) in
-    let g2 : Goes ws y2 (state j.queue j.trace [] [] []) = trace-read ws few y2 j.trace (state j.queue None [] [] []) fine.trace g1 in
-    let g3 : Goes ws y3 (state j.queue j.trace j.graphs [] []) = graphs-read ws few y3 j.graphs (state j.queue j.trace [] [] []) fine.graphs (omega (arith, fine.few_graphs)) g2 in
-    let g4 : Goes ws y4 (state j.queue j.trace j.graphs j.inputs []) = inputs-read ws few y4 j.inputs (state j.queue j.trace j.graphs [] []) fine.inputs (omega (arith, fine.few_inputs)) g3 in
-    outputs-read ws few [] j.outputs (state j.queue j.trace j.graphs j.inputs []) fine.outputs (omega (arith, fine.few_outputs)) g4
+    let y1 : List Text = keeps_words j.keeps ++ y2 in
+    let y0 : List Text = trace_words j.trace ++ y1 in
+    let g0 : Goes ws y0 (state j.queue None false [] [] []) = queue-read ws few y0 j.queue (state 8 None false [] [] []) fine.some_queue fine.short_queue (goes-start ws) in
+    let g1 : Goes ws y1 (state j.queue j.trace false [] [] []) = trace-read ws few y1 j.trace (state j.queue None false [] [] []) fine.trace g0 in
+    let g2 : Goes ws y2 (state j.queue j.trace j.keeps [] [] []) = keeps-read ws few y2 j.keeps (state j.queue j.trace false [] [] []) g1 in
+    let g3 : Goes ws y3 (state j.queue j.trace j.keeps j.graphs [] []) = graphs-read ws few y3 j.graphs (state j.queue j.trace j.keeps [] [] []) fine.graphs (omega (arith, fine.few_graphs)) g2 in
+    let g4 : Goes ws y4 (state j.queue j.trace j.keeps j.graphs j.inputs []) = inputs-read ws few y4 j.inputs (state j.queue j.trace j.keeps j.graphs [] []) fine.inputs (omega (arith, fine.few_inputs)) g3 in
+    outputs-read ws few [] j.outputs (state j.queue j.trace j.keeps j.graphs j.inputs []) fine.outputs (omega (arith, fine.few_outputs)) g4
 
 none_left : (ws : List Text) (at : ℕ) → drop at ws ≡ [] → length ws ≤ at
 none_left [] at h = omega arith
@@ -539,20 +547,20 @@ job-read j fine few =
 
 -- a word that stands alone
 abbrev alone : Solo → ℕ → Reader
-alone s at = record (state 8 None [] [] []) { solo = Some s; pending = record (pending []) { before_input = Some at; before_output = Some at; at_end = Some at } }
+alone s at = record (state 8 None false [] [] []) { solo = Some s; pending = record (pending []) { before_input = Some at; before_output = Some at; at_end = Some at } }
 
 help-read : IsAnswer (solo_words Help) (Ok (asked.Solo Help))
 help-read =
     let ws : List Text = solo_words Help in
     let start : Goes ws ws (reader []) = goes-start ws in
-    let g : Goes ws [] (alone Help start.at) = goes-switch ws (omega arith) (codes "-h") [] (state 8 None [] [] []) Alone kind.Help (value.Solo Help) start refl line-help refl refl (omega arith) refl in
+    let g : Goes ws [] (alone Help start.at) = goes-switch ws (omega arith) (codes "-h") [] (state 8 None false [] [] []) Alone kind.Help (value.Solo Help) start refl line-help refl refl (omega arith) refl in
     ended ws g.at (alone Help start.at) g.stands (Ok (asked.Solo Help)) (none_left ws g.at g.behind) (refl, refl)
 
 version-read : IsAnswer (solo_words Version) (Ok (asked.Solo Version))
 version-read =
     let ws : List Text = solo_words Version in
     let start : Goes ws ws (reader []) = goes-start ws in
-    let g : Goes ws [] (alone Version start.at) = goes-switch ws (omega arith) (codes "-version") [] (state 8 None [] [] []) Alone kind.Version (value.Solo Version) start refl line-version refl refl (omega arith) refl in
+    let g : Goes ws [] (alone Version start.at) = goes-switch ws (omega arith) (codes "-version") [] (state 8 None false [] [] []) Alone kind.Version (value.Solo Version) start refl line-version refl refl (omega arith) refl in
     ended ws g.at (alone Version start.at) g.stands (Ok (asked.Solo Version)) (none_left ws g.at g.behind) (refl, refl)
 
 self_run-read : (n : ℕ) → n ≤ 3600 → IsAnswer (solo_words (SelfRun n)) (Ok (asked.Solo (SelfRun n)))
@@ -560,7 +568,7 @@ self_run-read n high =
     let ws : List Text = solo_words (SelfRun n) in
     let small : n < 10 ^ 9 = omega (arith, high) in
     let start : Goes ws ws (reader []) = goes-start ws in
-    let old : Reader = state 8 None [] [] [] in
+    let old : Reader = state 8 None false [] [] [] in
     let after : Reader = alone (SelfRun n) start.at in
     let g : Goes ws [] after =
     goes-option ws (omega arith) (codes "-selfrun") (decimal n) [] old Alone kind.SelfRun (value.Solo (SelfRun n)) start refl line-self_run refl (omega arith) (omega (arith, number-short n small)) refl refl

@@ -9,7 +9,7 @@ use Rattle.ff_words.specs.declared.reader.Pending.{Pending}
 use Rattle.ff_words.specs.declared.reader.Reader.{Reader}
 use Rattle.ff_format.specs.declared.format.FileFormat.{FileFormat}
 use Rattle.ff_format.specs.declared.format.FileFormat.TheVariants.{FrameHash}
-use Rattle.ff_words.specs.Words.{not_before_input, not_before_output, not_at_end, as_format, as_start, as_length, as_end, as_map, as_audio, as_video, as_vf, as_af, as_no_audio, as_no_video, as_shortest, as_hash, as_rf64, as_queue, as_trace, as_graph, as_solo, Entry, Group, Groups, groups, led, is_file, or_else, last, each, first_place, last_place, unread_place, unwritten_place, inputs, outputs, group_input, group_output}
+use Rattle.ff_words.specs.Words.{not_before_input, not_before_output, not_at_end, as_format, as_start, as_length, as_end, as_map, as_audio, as_video, as_vf, as_af, as_no_audio, as_no_video, as_shortest, as_hash, as_rf64, as_queue, as_trace, as_keeps, as_graph, as_solo, Entry, Group, Groups, groups, led, is_file, or_else, last, each, first_place, last_place, unread_place, unwritten_place, inputs, outputs, group_input, group_output}
 use Rattle.std.specs.Prelude.{flat_map}
 use Rattle.ff_words.specs.Words.{output_format, late}
 use Rattle.ff_words.specs.Reading.{with_input, with_output, input_wrong, output_wrong, pending_format, valued, noted, whole, pending, reader, waiting, optioned, kept}
@@ -146,6 +146,7 @@ merged-is own e =
 
 waits : (at : ℕ) (concern : Concern) (v : Value) (own : List Entry) → merged at concern v own ≡ valued at v (noted at concern (pending own))
 waits at concern value.Nothing own = refl
+waits at concern (value.Keeps b) own = refl
 waits at concern value.NoVideo own = refl
 waits at concern value.NoAudio own = refl
 waits at concern value.Shortest own = refl
@@ -177,6 +178,7 @@ joined v es p =
     record {
       queue = unwrap_or (or_else (as_queue v) (last as_queue es)) 8;
       trace = or_else (as_trace v) (last as_trace es);
+      keeps = unwrap_or (or_else (as_keeps v) (last as_keeps es)) false;
       solo = or_else (as_solo v) (last as_solo es);
       graphs = pushed (as_graph v) (each as_graph es);
       inputs = inputs es;
@@ -189,10 +191,11 @@ same_files es e plain = groups-snoc es e ∙ ap (λ b. groups_added b e (groups 
 
 joined-is : (es : List Entry) (e : Entry) → is_file e.value ≡ false → reader (es ++ e ∷ []) ≡ joined e.value es (waiting e (pending (groups es).behind))
 joined-is es e plain =
-    simp (last-snoc as_queue es e, last-snoc as_trace es e, last-snoc as_solo es e, each-pushed as_graph es e, same_files es e plain, pending-snoc (groups es).behind e) refl
+    simp (last-snoc as_queue es e, last-snoc as_trace es e, last-snoc as_keeps es e, last-snoc as_solo es e, each-pushed as_graph es e, same_files es e plain, pending-snoc (groups es).behind e) refl
 
 joins : (e : Entry) (v : Value) (es : List Entry) (p : Pending) → is_file v ≡ false → joined v es p ≡ whole v (record (reader es) { pending = p })
 joins e value.Nothing es p plain = refl
+joins e (value.Keeps b) es p plain = refl
 joins e value.NoVideo es p plain = refl
 joins e value.NoAudio es p plain = refl
 joins e value.Shortest es p plain = refl
@@ -233,6 +236,7 @@ filed v es =
     record {
       queue = unwrap_or (or_else (as_queue v) (last as_queue es)) 8;
       trace = or_else (as_trace v) (last as_trace es);
+      keeps = unwrap_or (or_else (as_keeps v) (last as_keeps es)) false;
       solo = or_else (as_solo v) (last as_solo es);
       graphs = pushed (as_graph v) (each as_graph es);
       inputs = inputs es ++ group_input (groups es).behind v;
@@ -245,6 +249,7 @@ filed-is es e file =
     simp (
       last-snoc as_queue es e,
       last-snoc as_trace es e,
+      last-snoc as_keeps es e,
       last-snoc as_solo es e,
       each-pushed as_graph es e,
       ended es e file,
@@ -282,6 +287,7 @@ taken-input es at concern v name old new is stands fine made = (
 
 plain_late : (es : List Entry) (at : ℕ) (v : Value) → is_file v ≡ false → late es at v ≡ None
 plain_late es at value.Nothing plain = refl
+plain_late es at (value.Keeps b) plain = refl
 plain_late es at value.NoVideo plain = refl
 plain_late es at value.NoAudio plain = refl
 plain_late es at value.Shortest plain = refl
@@ -310,6 +316,7 @@ taken-option es at concern v old new plain stands made =
 
 pub not_file : (v : Value) → ((name : List ℕ) → v ≡ value.Input name → ⊥) → ((name : List ℕ) (ending : Option FileFormat) → v ≡ value.Output name ending → ⊥) → is_file v ≡ false
 not_file value.Nothing i o = refl
+not_file (value.Keeps b) i o = refl
 not_file value.NoVideo i o = refl
 not_file value.NoAudio i o = refl
 not_file value.Shortest i o = refl

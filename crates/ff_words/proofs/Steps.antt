@@ -91,6 +91,8 @@ taken-steps es t concern v (Err NoMemory) new before reads h = tt
 
 pub full-is : (es : List Entry) (k : Kind) → full k (reader es) ≡ is_full es k
 full-is es kind.Nothing = refl
+full-is es kind.Keeps = refl
+full-is es kind.Replaces = refl
 full-is es kind.NoStats = refl
 full-is es kind.NoVideo = refl
 full-is es kind.NoAudio = refl

@@ -89,6 +89,8 @@ level-one false text r s h j = number-one text r s h j
 
 reads-one : (k : Kind) (text : List ℕ) (r s : Result Value WordKind) → Reads k text r → Reads k text s → r ≡ s
 reads-one kind.Nothing text r s h j = absurd h
+reads-one kind.Keeps text r s h j = absurd h
+reads-one kind.Replaces text r s h j = absurd h
 reads-one kind.NoStats text r s h j = absurd h
 reads-one kind.NoVideo text r s h j = absurd h
 reads-one kind.NoAudio text r s h j = absurd h

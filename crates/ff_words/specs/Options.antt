@@ -14,7 +14,8 @@ use Rattle.ff_words.specs.declared.table.Kind.TheVariants as kind
 -- each option, whom it concerns, and its kind of value
 abbrev pub options : List (List ℕ × Concern × Kind)
 options =
-    (codes "-y", All, kind.Nothing) ∷
+    (codes "-n", All, kind.Keeps) ∷
+    (codes "-y", All, kind.Replaces) ∷
     (codes "-hide_banner", All, kind.Nothing) ∷
     (codes "-nostdin", All, kind.Nothing) ∷
     (codes "-bitexact", All, kind.Nothing) ∷

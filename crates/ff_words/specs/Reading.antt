@@ -28,7 +28,7 @@ use Rattle.ff_words.specs.Words.{AreRead, is_too_much, is_dashed}
 use Rattle.ff_words.specs.Words.{IsAnswer, end_by, is_output, takes_value, tokens, Token, written, fault, misplaced, bad_at, late, unwritable, cut_of, start_of, ends_early, last_place}
 use Rattle.ff_words.specs.Words.{IsEntry, IsFaultAt, Entry, groups, last, each, first_place, not_before_input, not_before_output, not_at_end, or_else}
 use Rattle.ff_words.specs.Words.{unreadable, as_format, as_start, as_length, as_end, as_map, as_audio, as_video, as_vf, as_af, as_no_audio, as_no_video}
-use Rattle.ff_words.specs.Words.{as_shortest, as_hash, as_rf64, as_queue, as_trace, as_graph, as_solo, stands_alone, inputs, outputs}
+use Rattle.ff_words.specs.Words.{as_shortest, as_hash, as_rf64, as_queue, as_trace, as_keeps, as_graph, as_solo, stands_alone, inputs, outputs}
 
 -- the options that wait for their file
 abbrev pub pending : List Entry → Pending
@@ -61,6 +61,7 @@ reader es =
     record {
       queue = unwrap_or (last as_queue es) 8;
       trace = last as_trace es;
+      keeps = unwrap_or (last as_keeps es) false;
       solo = last as_solo es;
       graphs = each as_graph es;
       inputs = inputs es;
@@ -108,6 +109,7 @@ waiting e p = valued e.at e.value (noted e.at e.concern p)
 abbrev pub whole : Value → Reader → Reader
 whole (value.Queue n) r = record r { queue = n }
 whole (value.Trace name) r = record r { trace = Some name }
+whole (value.Keeps b) r = record r { keeps = b }
 whole (value.Solo s) r = record r { solo = Some s }
 whole (value.Complex g) r = record r { graphs = r.graphs ++ g ∷ [] }
 whole _ r = r
@@ -218,7 +220,7 @@ pub record Stands (words : List (List ℕ)) (at : ℕ) (r : Reader) : Type 0 whe
 
 abbrev pub command_of : Option Solo → Reader → Command
 command_of (Some s) r = asked.Solo s
-command_of None r = asked.Run (record { queue = r.queue; trace = r.trace; graphs = r.graphs; inputs = r.inputs; outputs = r.outputs })
+command_of None r = asked.Run (record { queue = r.queue; trace = r.trace; keeps = r.keeps; graphs = r.graphs; inputs = r.inputs; outputs = r.outputs })
 
 abbrev pub end_wrong : ℕ → Reader → Option Fault
 end_wrong count r =

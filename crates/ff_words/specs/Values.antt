@@ -97,6 +97,8 @@ ReadsLevel false text r = ReadsNumber text r
 -- what an option reads as that has no value
 abbrev pub switched : Kind → Option Value
 switched kind.Nothing = Some value.Nothing
+switched kind.Keeps = Some (value.Keeps true)
+switched kind.Replaces = Some (value.Keeps false)
 switched kind.NoStats = Some value.Nothing
 switched kind.NoVideo = Some value.NoVideo
 switched kind.NoAudio = Some value.NoAudio
@@ -138,6 +140,8 @@ IsSmall _ = ⊥
 -- the text, as the value of an option of this kind, reads so
 abbrev pub Reads : Kind → List ℕ → Result Value WordKind → Type 0
 Reads kind.Nothing text r = ⊥
+Reads kind.Keeps text r = ⊥
+Reads kind.Replaces text r = ⊥
 Reads kind.NoStats text r = ⊥
 Reads kind.NoVideo text r = ⊥
 Reads kind.NoAudio text r = ⊥

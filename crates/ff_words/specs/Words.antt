@@ -195,6 +195,10 @@ abbrev pub as_trace : Value → Option (List ℕ)
 as_trace (value.Trace name) = Some name
 as_trace _ = None
 
+abbrev pub as_keeps : Value → Option Bool
+as_keeps (value.Keeps b) = Some b
+as_keeps _ = None
+
 abbrev pub as_graph : Value → Option Graph
 as_graph (value.Complex g) = Some g
 as_graph _ = None
@@ -290,6 +294,7 @@ job es =
     record {
       queue = unwrap_or (last as_queue es) 8;
       trace = last as_trace es;
+      keeps = unwrap_or (last as_keeps es) false;
       graphs = each as_graph es;
       inputs = inputs es;
       outputs = outputs es;

@@ -131,6 +131,9 @@ graph_words g = given (codes "-filter_complex") (printed g)
 abbrev pub trace_words : Option (List ℕ) → List (List ℕ)
 trace_words trace = where_some (given (codes "-sched_trace")) trace
 
+abbrev pub keeps_words : Bool → List (List ℕ)
+keeps_words keeps = where_true (codes "-n") keeps
+
 abbrev pub queue_words : ℕ → List (List ℕ)
 queue_words n = given (codes "-thread_queue_size") (decimal n)
 
@@ -139,6 +142,7 @@ job_words j =
     all_of (
     queue_words j.queue ∷
     trace_words j.trace ∷
+    keeps_words j.keeps ∷
     flat_map graph_words j.graphs ∷
     flat_map input_words j.inputs ∷
     flat_map output_words j.outputs ∷

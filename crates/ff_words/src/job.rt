@@ -54,6 +54,8 @@ pub struct Job {
     pub queue: u32,
     /// The file that gets the scheduler's history.
     pub trace: Option<Text>,
+    /// Whether outputs that are there are kept, by `-n`; else they are replaced.
+    pub keeps: bool,
     /// The complex graphs.
     pub graphs: Sequence<Graph>,
     /// The inputs in their order.

@@ -59,6 +59,7 @@ pub(crate) struct Pending {
 pub(crate) struct Reader {
     queue: u32,
     trace: Option<Text>,
+    keeps: bool,
     solo: Option<Solo>,
     graphs: Sequence<Graph>,
     inputs: Sequence<InputJob>,
@@ -195,6 +196,7 @@ impl Reader {
         Reader {
             queue: 8,
             trace: None,
+            keeps: false,
             solo: None,
             graphs: Sequence::new(alloc),
             inputs: Sequence::new(alloc),
@@ -212,6 +214,7 @@ impl Reader {
         match value {
             Value::Queue(size) => self.queue = size,
             Value::Trace(name) => self.trace = Some(name),
+            Value::Keeps(keeps) => self.keeps = keeps,
             Value::Solo(solo) => self.solo = Some(solo),
             Value::Complex(graph) => self.graphs.push(graph)?,
             value => self.pending.set(at, value)?,
@@ -542,6 +545,7 @@ impl Reader {
         Ok(Command::Run(Job {
             queue: self.queue,
             trace: self.trace,
+            keeps: self.keeps,
             graphs: self.graphs,
             inputs: self.inputs,
             outputs: self.outputs,
@@ -629,6 +633,8 @@ fn valueless(kind: Kind) -> Option<Value>
 {
     match kind {
         Kind::Nothing | Kind::NoStats => Some(Value::Nothing),
+        Kind::Keeps => Some(Value::Keeps(true)),
+        Kind::Replaces => Some(Value::Keeps(false)),
         Kind::NoVideo => Some(Value::NoVideo),
         Kind::NoAudio => Some(Value::NoAudio),
         Kind::Shortest => Some(Value::Shortest),

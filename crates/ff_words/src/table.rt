@@ -24,11 +24,15 @@ pub enum Concern {
     Itself,
 }
 
-/// Which kind of value an option has; the first seven have none.
+/// Which kind of value an option has; the first nine have none.
 #[derive(Clone, Copy, Debug, PartialEq, Eq)]
 pub enum Kind {
     /// It is read and has no effect.
     Nothing,
+    /// A file that is there is kept.
+    Keeps,
+    /// A file that is there is replaced.
+    Replaces,
     /// Nothing on standard error says how far the run is; the job is the same.
     NoStats,
     /// The output has no video.
@@ -41,7 +45,7 @@ pub enum Kind {
     Help,
     /// Which program it is is asked for.
     Version,
-    /// How much is logged, which has no effect.
+    /// How much is said on standard error; the job is the same.
     Level,
     /// Any word, which has no effect.
     Word,
@@ -106,8 +110,9 @@ pub struct Named {
 }
 
 /// Each option, whom it concerns, and its kind of value.
-pub static OPTIONS: [(&'static str, Concern, Kind); 53] = [
-    ("-y", Concern::All, Kind::Nothing),
+pub static OPTIONS: [(&'static str, Concern, Kind); 54] = [
+    ("-n", Concern::All, Kind::Keeps),
+    ("-y", Concern::All, Kind::Replaces),
     ("-hide_banner", Concern::All, Kind::Nothing),
     ("-nostdin", Concern::All, Kind::Nothing),
     ("-bitexact", Concern::All, Kind::Nothing),

@@ -20,6 +20,8 @@ pub struct Micros {
 pub enum Value {
     /// It has no effect.
     Nothing,
+    /// Whether a file that is there is kept.
+    Keeps(bool),
     /// The output has no video.
     NoVideo,
     /// The output has no audio.
