@@ -59,7 +59,7 @@ fn value_text(kind: Kind) -> &'static str
     match kind {
         Kind::Level => " LEVEL",
         Kind::Word => " WORD",
-        Kind::Number => " N",
+        Kind::Number | Kind::Frames => " N",
         Kind::FrameMode | Kind::SyncMode => " MODE",
         Kind::Complex | Kind::VideoGraph | Kind::AudioGraph => " GRAPH",
         Kind::Queue => " SIZE",
@@ -108,6 +108,7 @@ fn effect(kind: Kind) -> &'static str
         Kind::NoVideo => "no video from the inputs",
         Kind::NoAudio => "no audio from the inputs",
         Kind::Shortest => "all streams end where the shortest does",
+        Kind::Frames => "each video stream ends after N frames, 0 to 999999999",
         Kind::Hash => "the digest of packets, SHA256 or MD5; without it that of the format",
         Kind::Rf64 => "whether a WAV is RF64, never, auto (past 4 GiB) or always; never without it",
     }

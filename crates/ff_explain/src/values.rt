@@ -74,7 +74,7 @@ fn described(kind: Kind) -> &'static str {
         Kind::Level =>
             "quiet, panic, fatal, error, warning, info, verbose, debug, trace or a number",
         Kind::Word => "any word",
-        Kind::Number => "a whole number of 1 to 9 digits",
+        Kind::Number | Kind::Frames => "a whole number of 1 to 9 digits",
         Kind::Queue => "a whole number from 1 to 1024",
         Kind::SelfRun => "a whole number of seconds from 0 to 3600",
         Kind::Start | Kind::Length | Kind::End => "a time, as 90, 1:30, 2.5 or 500ms",

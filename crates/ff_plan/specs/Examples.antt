@@ -59,13 +59,14 @@ example_output cut f maps = record {
   no_audio = false;
   no_video = false;
   cut = cut;
+  frames = None;
   shortest = false;
   hash = hash.Sha256;
   rf64 = rf64.Never;
 }
 
 abbrev pub example_job : TimeCut → List Graph → FileFormat → List MapSpec → Job
-example_job cut graphs f maps = record { queue = 8; trace = None; graphs = graphs; inputs = []; outputs = example_output cut f maps ∷ [] }
+example_job cut graphs f maps = record { queue = 8; trace = None; keeps = false; graphs = graphs; inputs = []; outputs = example_output cut f maps ∷ [] }
 
 abbrev pub sound : Fraction → ℕ → StreamHead
 sound t channels = stream_head.Audio t 8000 8 channels codec.PcmU8

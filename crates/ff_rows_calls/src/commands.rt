@@ -97,6 +97,9 @@ fn add_output(alloc: Global, out: &mut String, output: &OutputJob) -> Result<(),
     add_if(out, output.no_audio, "no-audio")?;
     add_if(out, output.no_video, "no-video")?;
     add_cut(alloc, out, output.cut)?;
+    if let Some(frames) = output.frames {
+        out.push_str(format!(in alloc; " frames {frames}")?.as_str())?;
+    }
     add_if(out, output.shortest, "shortest")?;
     add_if(out, output.hash == HashKind::Md5, "md5")?;
     add_if(out, output.rf64 == Rf64::Auto, "rf64-auto")?;

@@ -2,13 +2,13 @@
 use Rattle.std.proofs.Common.{◌≡◌, ℕ, zero, suc, ◌+◌, ◌<◌, ◌≤◌, List, [], ◌∷◌, ◌++◌, length, take, get_or, slice_get, Option, Some, None, refl, sym, ap, ◌∙◌, arith}
 use Rattle.std.specs.List.{filter_map, cons_option}
 use Rattle.std.proofs.lemmas.Option.{slice_get-get_or}
-use Rattle.ff_time.specs.declared.cut.TimeCut.{TimeCut}
+use Rattle.ff_trim.specs.declared.counted.OutputCut.{OutputCut}
 use Rattle.ff_stream.specs.declared.item.Lane.{Lane}
 use Rattle.ff_words.specs.declared.job.OutputJob.{OutputJob}
 use Rattle.ff_stream.specs.declared.edges.edge.Edge.{Edge}
 use Rattle.ff_stream.specs.edges.Ports.{edges_from, shape_of, lane_of, lanes_out_of}
 use Rattle.ff_plan.specs.declared.planned.PlanNode.{PlanNode}
-use Rattle.ff_run_plan.specs.Cuts.{cut_at_end, cut_on, cuts_out_of}
+use Rattle.ff_run_plan.specs.Cuts.{cut_at_end, cut_on, cuts_out_of, for_lane}
 use Rattle.ff_run_plan.proofs.Tally.{one_kept, one_passed}
 
 none_there : {A : Type 0} (xs : List A) (w : ℕ) → length xs ≤ w → slice_get xs w ≡ None
@@ -26,22 +26,22 @@ lane_is (e ∷ es) zero = refl
 lane_is (e ∷ es) (suc w) = lane_is es w
 
 module _ (outputs : List OutputJob) (nodes : List PlanNode) (edges : List Edge) where
-  abbrev at_edge : ℕ → Option TimeCut
+  abbrev at_edge : ℕ → Option OutputCut
   at_edge w = cut_on outputs nodes (slice_get edges w)
 
-  pub cut_more : (numbers : List ℕ) (k : ℕ) → k < length numbers → (w : ℕ) (d : Edge) (cuts : List TimeCut) → w ≡ get_or numbers k 0 → w < length edges
+  pub cut_more : (numbers : List ℕ) (k : ℕ) → k < length numbers → (w : ℕ) (d : Edge) (cuts : List OutputCut) → w ≡ get_or numbers k 0 → w < length edges
       → cuts ≡ filter_map (λ v. cut_on outputs nodes (slice_get edges v)) (take k numbers)
-      → cuts ++ cut_at_end outputs (slice_get nodes (get_or edges w d).to) ∷ [] ≡ filter_map (λ v. cut_on outputs nodes (slice_get edges v)) (take (k + 1) numbers)
+      → cuts ++ for_lane (get_or edges w d).lane (cut_at_end outputs (slice_get nodes (get_or edges w d).to)) ∷ [] ≡ filter_map (λ v. cut_on outputs nodes (slice_get edges v)) (take (k + 1) numbers)
   cut_more numbers k lt w d cuts e there h =
-      one_kept at_edge numbers k lt (cut_at_end outputs (slice_get nodes (get_or edges w d).to)) cuts
+      one_kept at_edge numbers k lt (for_lane (get_or edges w d).lane (cut_at_end outputs (slice_get nodes (get_or edges w d).to))) cuts
       (sym (ap at_edge e) ∙ ap (cut_on outputs nodes) (slice_get-get_or edges w d there)) h
 
-  pub cut_passed : (numbers : List ℕ) (k : ℕ) → k < length numbers → (w : ℕ) (cuts : List TimeCut) → w ≡ get_or numbers k 0 → length edges ≤ w
+  pub cut_passed : (numbers : List ℕ) (k : ℕ) → k < length numbers → (w : ℕ) (cuts : List OutputCut) → w ≡ get_or numbers k 0 → length edges ≤ w
       → cuts ≡ filter_map (λ v. cut_on outputs nodes (slice_get edges v)) (take k numbers) → cuts ≡ filter_map (λ v. cut_on outputs nodes (slice_get edges v)) (take (k + 1) numbers)
   cut_passed numbers k lt w cuts e there h =
       one_passed at_edge numbers k lt cuts (sym (ap at_edge e) ∙ ap (cut_on outputs nodes) (none_there edges w there)) h
 
-  many_step : (o : Option Edge) (cuts : List TimeCut) (lanes : List Lane) → length cuts ≡ length lanes → length (cons_option (cut_on outputs nodes o) cuts) ≡ length (cons_option (lane_by o) lanes)
+  many_step : (o : Option Edge) (cuts : List OutputCut) (lanes : List Lane) → length cuts ≡ length lanes → length (cons_option (cut_on outputs nodes o) cuts) ≡ length (cons_option (lane_by o) lanes)
   many_step None cuts lanes e = e
   many_step (Some d) cuts lanes e = ap suc e
 

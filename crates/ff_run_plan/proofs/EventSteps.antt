@@ -8,6 +8,7 @@ use Rattle.std.proofs.lemmas.List.Elements.{All-head, All-tail}
 use Rattle.ff_stream.specs.declared.item.Lane.{Lane}
 use Rattle.ff_stream.specs.Lanes.{head_of}
 use Rattle.ff_time.specs.declared.cut.TimeCut.{TimeCut}
+use Rattle.ff_trim.specs.declared.counted.OutputCut.{OutputCut}
 use Rattle.ff_frame.specs.declared.head.StreamHead.{StreamHead}
 use Rattle.ff_frame.specs.declared.event.Event.{Event}
 use Rattle.ff_frame.specs.declared.event.Event.TheVariants.{Grant, Sent, Finished, Best, Exited}
@@ -121,7 +122,7 @@ module _ {H : Type 0} (is : KindsOf H) (own : TellOfThemselves is) (asked : Aske
   enc_none kind (Some head) None = refl
   enc_none kind (Some head) (Some coded) = ap (filter kind) (own.encoder head coded feeds)
 
-  graph_none : (kind : Event → Bool) (g : ℕ) (text : Option Graph) (framed : List StreamHead) (cuts : List TimeCut) → ((i : ℕ) → kind (Best g i) ≡ false)
+  graph_none : (kind : Event → Bool) (g : ℕ) (text : Option Graph) (framed : List StreamHead) (cuts : List OutputCut) → ((i : ℕ) → kind (Best g i) ≡ false)
       → filter kind ((graph_by is g text framed cuts).tells feeds) ≡ []
   graph_none kind g None framed cuts apart = refl
   graph_none kind g (Some text) framed cuts apart = change_none kind g 0 ((is.graph_task g text framed cuts).tells feeds) apart (own.graph g text framed cuts feeds)

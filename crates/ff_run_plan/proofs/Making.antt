@@ -1,7 +1,7 @@
 -- A part that was made, as the part of its node.
 use Rattle.std.proofs.Common.{◌≡◌, ℕ, List, [], map, slice_get, slice_index_or, Option, Some, None, IfSome, sym, ap, ◌∙◌, subst}
 use Rattle.std.proofs.lemmas.Option.{slice_get_within, get_or_from_slice_get}
-use Rattle.ff_time.specs.declared.cut.TimeCut.{TimeCut}
+use Rattle.ff_trim.specs.declared.counted.OutputCut.{OutputCut}
 use Rattle.ff_frame.specs.declared.head.StreamHead.{StreamHead}
 use Rattle.ff_stream.specs.declared.item.Lane.{Lane}
 use Rattle.ff_stream.specs.declared.item.Lane.TheVariants.{Frames, Packets}
@@ -22,7 +22,7 @@ if_both P Q R None p q f = tt
 if_both P Q R (Some x) p q f = f x p q
 
 module _ {H S K : Type 0} (is : KindsOf H) (left named : S → Option (List ℕ)) (failed : S → ℕ) (holds called : K → Option (List ℕ)) (faulted : K → ℕ)
-    (asked : Asked) (heads : List H) (srcs : List S) (snks : List K) (first : ℕ) (cuts : List TimeCut) (ins outs : List Lane) (v : View) where
+    (asked : Asked) (heads : List H) (srcs : List S) (snks : List K) (first : ℕ) (cuts : List OutputCut) (ins outs : List Lane) (v : View) where
   pub demux_part : (i : ℕ) (fits : FitsDemux is heads ins outs i) (src : S) → slice_get srcs i ≡ Some src → IsNew (Some i) ins outs (named src) (failed src) v
       → ((head : H) → slice_get heads i ≡ Some head → (bytes : List ℕ) → left src ≡ Some bytes → v.stands (start (is.demux_task i head bytes)))
       → IsPart is left named failed holds called faulted asked heads srcs snks first cuts ins outs (node.Demux i) v

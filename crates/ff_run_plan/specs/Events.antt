@@ -1,6 +1,7 @@
 -- Which events the nodes of a plan have to tell, each of its own output streams or input alone.
 use Rattle.std.specs.Prelude.{◌≡◌, ◌≢◌, ℕ, ◌+◌, ◌<◌, ◌&&◌, nat_eq, nat_le, nat_lt, Bool, true, false, All, List, [], ◌∷◌, length, slice_get, Some}
 use Rattle.ff_time.specs.declared.cut.TimeCut.{TimeCut}
+use Rattle.ff_trim.specs.declared.counted.OutputCut.{OutputCut}
 use Rattle.ff_frame.specs.declared.head.StreamHead.{StreamHead}
 use Rattle.ff_frame.specs.declared.event.Event.{Event}
 use Rattle.ff_frame.specs.declared.event.Event.TheVariants.{Grant, Sent, Finished, Best, Exited}
@@ -61,7 +62,7 @@ module _ {H : Type 0} (is : KindsOf H) where
   pub record TellOfThemselves : Type 0 where
     pub demuxer : (i : ℕ) (head : H) (bytes : List ℕ) (feeds : List Feed) → (is.demux_task i head bytes).tells feeds ≡ Exited i ∷ []
     pub decoder : (head : StreamHead) (cut : TimeCut) (outputs : ℕ) (feeds : List Feed) → (is.dec_task head cut outputs).tells feeds ≡ []
-    pub graph : (g : ℕ) (text : Graph) (heads : List StreamHead) (cuts : List TimeCut) (feeds : List Feed)
+    pub graph : (g : ℕ) (text : Graph) (heads : List StreamHead) (cuts : List OutputCut) (feeds : List Feed)
         → ChangeBest g 0 ((is.graph_task g text heads cuts).tells feeds)
     pub shortest : (ends : Bool) (heads : List StreamHead) (feeds : List Feed) → (is.shortest_task ends heads).tells feeds ≡ []
     pub encoder : (head coded : StreamHead) (feeds : List Feed) → (is.enc_task head coded).tells feeds ≡ []

@@ -2,6 +2,7 @@
 use Rattle.std.specs.Prelude.{◌≡◌, ℕ, ◌+◌, ◌<◌, ◌≤◌, nat_eq, Bool, false, List, [], ◌∷◌, filter, length, map, slice_get, Option, None, Some, IsSome, Ok}
 use Rattle.std.specs.List.{AllByRecursion, range_with_len}
 use Rattle.ff_time.specs.declared.cut.TimeCut.{TimeCut}
+use Rattle.ff_trim.specs.declared.counted.OutputCut.{OutputCut}
 use Rattle.ff_frame.specs.declared.head.StreamHead.{StreamHead}
 use Rattle.ff_frame.specs.declared.event.Event.{Event}
 use Rattle.ff_frame.specs.declared.event.Event.TheVariants.{Grant, Sent, Finished, Best, Exited}
@@ -35,7 +36,7 @@ pub record KindsOf (H : Type 0) : Type 1 where
   -- the graphs of a text that can be had with frames of these heads at their inputs and of those at their outputs, and what the
   -- graph of this number is there for, with a cut behind each of its outputs
   pub CanFilter : Graph → List StreamHead → List StreamHead → Type 0
-  pub graph_task : ℕ → Graph → List StreamHead → List TimeCut → Task
+  pub graph_task : ℕ → Graph → List StreamHead → List OutputCut → Task
   -- the frames that can go to an output together, and what a node of these is there for, where they end with the shortest or are
   -- given as they are
   pub CanJoin : List StreamHead → Type 0

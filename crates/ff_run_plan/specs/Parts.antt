@@ -1,6 +1,6 @@
 -- The parts of a plan's nodes, and the sources and sinks that are in them or stand aside.
 use Rattle.std.specs.Prelude.{◌≡◌, ℕ, ◌+◌, ◌-◌, ◌<◌, ◌≤◌, List, [], ◌∷◌, length, map, replicate, slice_get, Option, None, Some}
-use Rattle.ff_time.specs.declared.cut.TimeCut.{TimeCut}
+use Rattle.ff_trim.specs.declared.counted.OutputCut.{OutputCut}
 use Rattle.ff_frame.specs.declared.head.StreamHead.{StreamHead}
 use Rattle.ff_stream.specs.declared.item.Lane.{Lane}
 use Rattle.ff_stream.specs.declared.item.Lane.TheVariants.{Frames, Packets}
@@ -130,7 +130,7 @@ pub record HasEnds (n : PlanNode) (v : View) : Type 0 where
 module _ {H S K : Type 0} (is : KindsOf H) (left named : S → Option (List ℕ)) (failed : S → ℕ) (holds called : K → Option (List ℕ)) (faulted : K → ℕ) where
   -- a part with these lanes at its ports that nothing was done with, as this node of a plan over these sources and sinks, where the
   -- node's first output stream has this number, and what it gives to graphs and outputs has these cuts
-  pub record IsPart (asked : Asked) (heads : List H) (srcs : List S) (snks : List K) (first : ℕ) (cuts : List TimeCut) (ins outs : List Lane) (n : PlanNode)
+  pub record IsPart (asked : Asked) (heads : List H) (srcs : List S) (snks : List K) (first : ℕ) (cuts : List OutputCut) (ins outs : List Lane) (n : PlanNode)
       (v : View) : Type 0 where
     pub source_is : v.source ≡ source_in n
     pub in_lanes : v.in_lanes ≡ ins

@@ -1,6 +1,7 @@
 -- What each node of a plan is there for, by the heads and the bytes of the inputs and the lanes at its ports.
 use Rattle.std.specs.Prelude.{ℕ, ◌-◌, false, List, [], ◌∷◌, length, map, slice_get, slice_index_or, Option, None, Some}
 use Rattle.ff_time.specs.declared.cut.TimeCut.{TimeCut}
+use Rattle.ff_trim.specs.declared.counted.OutputCut.{OutputCut}
 use Rattle.ff_frame.specs.declared.head.StreamHead.{StreamHead}
 use Rattle.ff_stream.specs.declared.item.Lane.{Lane}
 use Rattle.ff_stream.specs.Lanes.{head_of}
@@ -24,7 +25,7 @@ abbrev pub first_at : Asked → List PlanNode → List Edge → ℕ → ℕ
 first_at asked nodes edges k = first_stream (length nodes - length asked.outputs) edges k
 
 -- the cuts of the frames at the outputs of a node, as many as its lanes there
-abbrev pub cuts_at : Asked → List PlanNode → List Edge → ℕ → List TimeCut
+abbrev pub cuts_at : Asked → List PlanNode → List Edge → ℕ → List OutputCut
 cuts_at asked nodes edges k = cuts_out_of asked.outputs nodes edges k
 
 -- the heads of the streams on some lanes
@@ -45,7 +46,7 @@ module _ {H : Type 0} (is : KindsOf H) where
   dec_by None cut outputs = idle
   dec_by (Some head) cut outputs = is.dec_task head cut outputs
 
-  abbrev pub graph_by : ℕ → Option Graph → List StreamHead → List TimeCut → Task
+  abbrev pub graph_by : ℕ → Option Graph → List StreamHead → List OutputCut → Task
   graph_by g None heads cuts = idle
   graph_by g (Some text) heads cuts = is.graph_task g text heads cuts
 
@@ -64,7 +65,7 @@ module _ {H : Type 0} (is : KindsOf H) where
 
   -- of a node with these lanes at its inputs and at its outputs, where its first output stream has this number, and what it gives to graphs
   -- and outputs has these cuts
-  abbrev pub task_of : Asked → List H → List (List ℕ) → ℕ → List TimeCut → List Lane → List Lane → PlanNode → Task
+  abbrev pub task_of : Asked → List H → List (List ℕ) → ℕ → List OutputCut → List Lane → List Lane → PlanNode → Task
   task_of asked heads bytes first cuts ins outs (node.Demux i) = demux_by i (slice_get heads i) (slice_index_or bytes i [])
   task_of asked heads bytes first cuts ins outs (node.Dec at) = dec_by (first_head ins) (asked.cut at.input) (length outs)
   task_of asked heads bytes first cuts ins outs (node.Graph g) = graph_by g (asked.text g) (heads_on ins) cuts

@@ -24,7 +24,7 @@ use ff_net::Machine;
 use ff_plan::PlanNode;
 use ff_plan_layout::GraphText;
 use ff_stream::{Edge, Lane};
-use ff_time::TimeCut;
+use ff_trim::OutputCut;
 use ff_words::{Job, OutputJob};
 use std::alloc::Global;
 
@@ -112,7 +112,7 @@ fn part_at<
     alloc: Global,
     node: PlanNode,
     first: u32,
-    cuts: &[TimeCut],
+    cuts: &[OutputCut],
     ins: &[Lane],
     outs: &[Lane],
     heads: &[K::Head],

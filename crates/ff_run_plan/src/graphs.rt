@@ -17,7 +17,7 @@ use ff_lang::{Chain, Filter, Graph, Sequence, Text};
 use ff_map::Kind;
 use ff_net::Machine;
 use ff_plan_layout::{GraphText, simple_graph};
-use ff_time::TimeCut;
+use ff_trim::OutputCut;
 use ff_words::{Job, OutputJob};
 use std::alloc::{AllocError, Global};
 
@@ -53,7 +53,7 @@ fn graph_by<
     job: &Job,
     stands: GraphText,
     heads: &[StreamHead],
-    cuts: &[TimeCut],
+    cuts: &[OutputCut],
 ) -> Option<M>
     requires { (text : Graph) × (graph_text job.now stands ≡ Some text)
         × (made : List StreamHead) × K.is.CanFilter text heads.now made × (length cuts.now ≡ length made) }
@@ -92,7 +92,7 @@ pub(crate) fn graph_at<
     job: &Job,
     texts: &[GraphText],
     heads: &[StreamHead],
-    cuts: &[TimeCut],
+    cuts: &[OutputCut],
 ) -> Option<M>
     requires { (text : Graph) × ((asked_of job.now texts.now).text number ≡ Some text)
         × (made : List StreamHead) × K.is.CanFilter text heads.now made × (length cuts.now ≡ length made) }

@@ -27,6 +27,7 @@ use ff_net::Machine;
 use ff_plan::Plan;
 use ff_plan_layout::PlanError;
 use ff_time::TimeCut;
+use ff_trim::OutputCut;
 use ff_words::{Job, OutputJob};
 use std::alloc::{AllocError, Global};
 
@@ -86,7 +87,7 @@ pub trait Kinds<Src: Source + Send + Drop, Snk: Sink + Send + Drop, Part: Machin
         number: u32,
         text: &Graph,
         heads: &[StreamHead],
-        cuts: &[TimeCut],
+        cuts: &[OutputCut],
     ) -> Result<Part, AllocError>
         requires { (made : List StreamHead) × is.CanFilter text.now heads.now made × (length cuts.now ≡ length made) }
         ensures new { IfOk result (λ m. (made : List StreamHead) → is.CanFilter text.now heads.now made

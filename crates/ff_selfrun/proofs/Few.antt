@@ -92,6 +92,7 @@ reads-few kind.AudioCodec text v h = named-few v (codec_value value.AudioCodec (
 reads-few kind.VideoCodec text v h = named-few v (codec_value value.VideoCodec (video_codec text)) (codec-few value.VideoCodec (λ c. tt) (video_codec text)) h
 reads-few kind.VideoGraph text v h = makes-few value.VideoGraph (ReadsGraph text) v (λ x is. tt) h
 reads-few kind.AudioGraph text v h = makes-few value.AudioGraph (ReadsGraph text) v (λ x is. tt) h
+reads-few kind.Frames text v h = makes-few value.Frames (ReadsWhole 0 999999999 text) v (λ x is. tt) h
 reads-few kind.Hash text v h =
     named-few v (hash_value text)
     (test-few (value.Hash Sha256) tt (is_spelled text (codes "SHA256")) (if is_spelled text (codes "MD5") then Some (value.Hash Md5) else None)
@@ -133,6 +134,7 @@ switched-few kind.AudioCodec w e = absurd cc
 switched-few kind.VideoCodec w e = absurd cc
 switched-few kind.VideoGraph w e = absurd cc
 switched-few kind.AudioGraph w e = absurd cc
+switched-few kind.Frames w e = absurd cc
 switched-few kind.Hash w e = absurd cc
 switched-few kind.Rf64 w e = absurd cc
 
@@ -192,6 +194,7 @@ asked-few (value.AudioCodec c) h = tt
 asked-few (value.VideoCodec c) h = tt
 asked-few (value.VideoGraph g) h = tt
 asked-few (value.AudioGraph g) h = tt
+asked-few (value.Frames n) h = tt
 asked-few (value.Hash d) h = tt
 asked-few (value.Rf64 mode) h = tt
 asked-few (value.Output n x) h = tt

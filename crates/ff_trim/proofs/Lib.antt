@@ -1,4 +1,5 @@
 pub mod ByFrames
+pub mod Counting
 pub mod EarlierShape
 pub mod Ending
 pub mod Limiting

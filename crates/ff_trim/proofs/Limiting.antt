@@ -1,5 +1,5 @@
 -- Cuts on whole streams: their laws, and that of functions behind limits with cuts behind them.
-use Rattle.std.proofs.Common.{subst, sym, ◌∙◌, ◌≡◌, ℕ, zero, suc, Bool, true, false, cond, Some, List, [], ◌∷◌, map, length, arith}
+use Rattle.std.proofs.Common.{subst, sym, ◌∙◌, ◌≡◌, ℕ, zero, suc, Bool, true, false, cond, Option, Some, None, List, [], ◌∷◌, map, length, arith}
 use Rattle.ff_time.specs.declared.cut.TimeCut.{TimeCut}
 use Rattle.ff_frame.specs.declared.head.StreamHead.{StreamHead}
 use Rattle.ff_frame.specs.declared.head.StreamHead.TheVariants.{Audio as AudioHead, Video as VideoHead}
@@ -9,6 +9,7 @@ use Rattle.ff_stream.specs.declared.item.Lane.TheVariants.{Frames}
 use Rattle.ff_stream.specs.Stream.{Mark, whole, broken, whole_stream, LiesBelow, opened}
 use Rattle.ff_stream.specs.Order.{below_self, below_trans}
 use Rattle.ff_stream.specs.Ports.{nothing, stream_at, IsClosed}
+use Rattle.ff_filter.specs.spread.Valid.{GivesValid}
 use Rattle.ff_net.specs.Ways.{AreValid}
 use Rattle.ff_filter.specs.declared.range.Range.{Range}
 use Rattle.ff_filter.specs.Joins.{Flow, Ports, all_opened}
@@ -20,9 +21,11 @@ use Rattle.ff_afilter.specs.Trims.{sound_trimmed}
 use Rattle.ff_afilter.specs.TrimLaws.{trimmed-below as sound-below, trimmed-calm as sound-calm, trimmed-settles as sound-settles}
 use Rattle.ff_node_filter.specs.Tasks.{listed}
 use Rattle.ff_node_filter.specs.Limiting.{IsLimited}
-use Rattle.ff_trim.specs.Cuts.{is_uncut, is_empty, range_in, from_range, cut, cut_at, cut_each}
+use Rattle.ff_trim.specs.declared.counted.OutputCut.{OutputCut}
+use Rattle.ff_trim.specs.Cuts.{is_uncut, is_empty, range_in, from_range, cut, counted, output_cut, cut_at, cut_each}
+use Rattle.ff_trim.specs.CountLaws.{counted-below, counted-calm, counted-settles}
 use Rattle.ff_trim.specs.Taps.{IsCutting}
-use Rattle.ff_trim.proofs.Valid.{cut_valid}
+use Rattle.ff_trim.proofs.Valid.{cut_valid, counted_valid, counted_unbroken}
 
 range-below : (h : StreamHead) (range : Range) (r s : Flow) → LiesBelow r s → LiesBelow (from_range h range r) (from_range h range s)
 range-below (AudioHead tb rate bits channels codec) range r s b = shifted-below (Some range.start) (sound_trimmed range r) (sound_trimmed range s) (sound-below range r s b)
@@ -75,34 +78,60 @@ cut_breaks h c s =
     both_of (λ (x y : Flow). x.mark ≡ broken → s.mark ≡ broken) (is_empty c.length) (is_uncut c) (whole_stream []) (whole_stream []) s s (from_range h range s) (from_range h range s)
     (λ e. cc) (λ e. e) (λ e. range_breaks h range s e)
 
+-- ---- and by number
+
+pub output-below : (h : StreamHead) (c : OutputCut) (r s : Flow) → LiesBelow r s → LiesBelow (output_cut h c r) (output_cut h c s)
+output-below h c r s b = counted-below c.frames (cut h c.time r) (cut h c.time s) (cut-below h c.time r s b)
+
+pub output-calm : (h : StreamHead) (c : OutputCut) (r : Flow) → LiesBelow (opened (output_cut h c r)) (output_cut h c (opened r))
+output-calm h c r =
+    below_trans (opened (output_cut h c r)) (counted c.frames (opened (cut h c.time r))) (output_cut h c (opened r))
+    (counted-calm c.frames (cut h c.time r)) (counted-below c.frames (opened (cut h c.time r)) (cut h c.time (opened r)) (cut-calm h c.time r))
+
+pub output-settles : (h : StreamHead) (c : OutputCut) (r : Flow) → IsClosed r → IsClosed (output_cut h c r)
+output-settles h c r k = counted-settles c.frames (cut h c.time r) (cut-settles h c.time r k)
+
+counted_breaks : (o : Option ℕ) (s : Flow) → (counted o s).mark ≡ broken → s.mark ≡ broken
+counted_breaks None s e = e
+counted_breaks (Some n) s e = broken_by _ s.mark e
+
+pub output_breaks : (h : StreamHead) (c : OutputCut) (s : Flow) → (output_cut h c s).mark ≡ broken → s.mark ≡ broken
+output_breaks h c s e = cut_breaks h c.time s (counted_breaks c.frames (cut h c.time s) e)
+
+pub output_valid : (h : StreamHead) (c : OutputCut) → GivesValid (Frames h) (Frames h) (λ s. output_cut h c s)
+output_valid h c = record {
+  valid = λ s v. counted_valid (Frames h) c.frames (cut h c.time s) ((cut_valid h c.time).valid s v);
+  unbroken = λ s v u. counted_unbroken c.frames (cut h c.time s) ((cut_valid h c.time).unbroken s v u);
+}
+
 -- ---- port by port
 
-at-below : (hs : List StreamHead) (cs : List TimeCut) (q : ℕ) (r s : Flow) → LiesBelow r s → LiesBelow (cut_at hs cs q r) (cut_at hs cs q s)
+at-below : (hs : List StreamHead) (cs : List OutputCut) (q : ℕ) (r s : Flow) → LiesBelow r s → LiesBelow (cut_at hs cs q r) (cut_at hs cs q s)
 at-below [] cs q r s b = below_self nothing
 at-below (h ∷ hs) [] q r s b = below_self nothing
-at-below (h ∷ hs) (c ∷ cs) zero r s b = cut-below h c r s b
+at-below (h ∷ hs) (c ∷ cs) zero r s b = output-below h c r s b
 at-below (h ∷ hs) (c ∷ cs) (suc q) r s b = at-below hs cs q r s b
 
-at-calm : (hs : List StreamHead) (cs : List TimeCut) (q : ℕ) (r : Flow) → LiesBelow (opened (cut_at hs cs q r)) (cut_at hs cs q (opened r))
+at-calm : (hs : List StreamHead) (cs : List OutputCut) (q : ℕ) (r : Flow) → LiesBelow (opened (cut_at hs cs q r)) (cut_at hs cs q (opened r))
 at-calm [] cs q r = below_self nothing
 at-calm (h ∷ hs) [] q r = below_self nothing
-at-calm (h ∷ hs) (c ∷ cs) zero r = cut-calm h c r
+at-calm (h ∷ hs) (c ∷ cs) zero r = output-calm h c r
 at-calm (h ∷ hs) (c ∷ cs) (suc q) r = at-calm hs cs q r
 
-at_breaks : (hs : List StreamHead) (cs : List TimeCut) (q : ℕ) (s : Flow) → (cut_at hs cs q s).mark ≡ broken → s.mark ≡ broken
+at_breaks : (hs : List StreamHead) (cs : List OutputCut) (q : ℕ) (s : Flow) → (cut_at hs cs q s).mark ≡ broken → s.mark ≡ broken
 at_breaks [] cs q s e = cc
 at_breaks (h ∷ hs) [] q s e = cc
-at_breaks (h ∷ hs) (c ∷ cs) zero s e = cut_breaks h c s e
+at_breaks (h ∷ hs) (c ∷ cs) zero s e = output_breaks h c s e
 at_breaks (h ∷ hs) (c ∷ cs) (suc q) s e = at_breaks hs cs q s e
 
-valid_each : (hs : List StreamHead) (cs : List TimeCut) (g : Ports) → length cs ≡ length hs → AreValid (map Frames hs) (listed (length (map Frames hs)) g)
+valid_each : (hs : List StreamHead) (cs : List OutputCut) (g : Ports) → length cs ≡ length hs → AreValid (map Frames hs) (listed (length (map Frames hs)) g)
     → AreValid (map Frames hs) (listed (length (map Frames hs)) (λ q. cut_at hs cs q (g q)))
 valid_each [] cs g same v p = v p
 valid_each (h ∷ hs) [] g same v p = absurd (omega (arith, same))
-valid_each (h ∷ hs) (c ∷ cs) g same v zero = (cut_valid h c).valid (g 0) (v 0)
+valid_each (h ∷ hs) (c ∷ cs) g same v zero = (output_valid h c).valid (g 0) (v 0)
 valid_each (h ∷ hs) (c ∷ cs) g same v (suc p) = valid_each hs cs (λ q. g (suc q)) (omega (arith, same)) (λ q. v (suc q)) p
 
-pub cut_limited : (ins : List Lane) (hs : List StreamHead) (cs : List TimeCut) (f : Ports → Ports) (cuts : List Flow → Bool) → length cs ≡ length hs
+pub cut_limited : (ins : List Lane) (hs : List StreamHead) (cs : List OutputCut) (f : Ports → Ports) (cuts : List Flow → Bool) → length cs ≡ length hs
     → IsLimited ins (map Frames hs) f cuts → IsLimited ins (map Frames hs) (cut_each hs cs f) cuts
 cut_limited ins hs cs f cuts same l = record {
   grows = λ rs ss b q. at-below hs cs q (f rs q) (f ss q) (l.grows rs ss b q);
@@ -114,7 +143,7 @@ cut_limited ins hs cs f cuts same l = record {
 }
 
 -- a filter with cuts behind its outputs, as it is seen when nothing was done to it
-pub cutting_limited : (hs : List StreamHead) (cs : List TimeCut) (v w : View) (cuts : List Flow → Bool) → length cs ≡ length hs → v.outs ≡ map Frames hs → IsCutting hs cs v w
+pub cutting_limited : (hs : List StreamHead) (cs : List OutputCut) (v w : View) (cuts : List Flow → Bool) → length cs ≡ length hs → v.outs ≡ map Frames hs → IsCutting hs cs v w
     → IsLimited v.ins v.outs v.rest cuts → IsLimited w.ins w.outs w.rest cuts
 cutting_limited hs cs v w cuts same outs c l =
     let rest : w.rest ≡ cut_each hs cs v.rest = λ i ext q. c.rest ext q i in

@@ -1,7 +1,6 @@
 -- What each call of a filter with cuts behind its outputs does to how it is seen.
 use Rattle.std.proofs.Common.{◌≡◌, ◌≢◌, ℕ, suc, ◌<◌, inl, inr, Bool, true, false, cond, ◌||◌, Option, None, Some, is_some, Result, Ok, Err, OnOk, OnErr, List, [], ◌∷◌, map, length, refl, ap, sym, ◌∙◌, subst, arith}
 use Rattle.std.proofs.lemmas.Bool.{cases_eq}
-use Rattle.ff_time.specs.declared.cut.TimeCut.{TimeCut}
 use Rattle.ff_frame.specs.declared.head.StreamHead.{StreamHead}
 use Rattle.ff_stream.specs.declared.item.Item.{Item}
 use Rattle.ff_stream.specs.declared.item.Item.TheVariants.{Audio, Video, Packet, Trailer, End, Broken}
@@ -16,6 +15,7 @@ use Rattle.ff_filter.specs.Views.{View, SamePorts, Same, Fed, Gave, Waits, Stopp
 use Rattle.ff_filter.specs.Held.{after_held, held_closes}
 use Rattle.ff_filter.specs.StepperLaws.{or_left, or_right}
 use Rattle.std.specs.declared.alloc.AllocError.{AllocError}
+use Rattle.ff_trim.specs.declared.counted.OutputCut.{OutputCut}
 use Rattle.ff_trim.specs.declared.tap.Tap.{Tap}
 use Rattle.ff_trim.specs.declared.tap.Turn.{Turn}
 use Rattle.ff_trim.specs.declared.tap.Turn.TheVariants.{Gave as Turned, Waits as Idle, On}
@@ -355,7 +355,7 @@ long_map : (hs : List StreamHead) → length (map Frames hs) ≡ length hs
 long_map [] = refl
 long_map (h ∷ hs) = ap suc (long_map hs)
 
-pub new_tied : (hs : List StreamHead) (cs : List TimeCut) (v : View) (ws : List Way) → IsNew v → v.outs ≡ map Frames hs → AreNewWays hs cs ws → Tied v ws
+pub new_tied : (hs : List StreamHead) (cs : List OutputCut) (v : View) (ws : List Way) → IsNew v → v.outs ≡ map Frames hs → AreNewWays hs cs ws → Tied v ws
 new_tied hs cs v ws n outs a = record {
   long = ap (λ (ls : List Lane). length ls) outs ∙ (long_map hs ∙ sym a.long);
   each = λ q lt. record {
@@ -365,7 +365,7 @@ new_tied hs cs v ws n outs a = record {
   };
 }
 
-pub new_cutting : (hs : List StreamHead) (cs : List TimeCut) (v : View) (ws : List Way) → IsNew v → AreNewWays hs cs ws → IsCutting hs cs v (cutting_view v ws)
+pub new_cutting : (hs : List StreamHead) (cs : List OutputCut) (v : View) (ws : List Way) → IsNew v → AreNewWays hs cs ws → IsCutting hs cs v (cutting_view v ws)
 new_cutting hs cs v ws n a = record {
   ins = refl;
   outs = refl;

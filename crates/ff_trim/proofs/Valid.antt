@@ -1,8 +1,9 @@
 -- Cuts of valid streams are valid.
-use Rattle.std.proofs.Common.{◌≡◌, ◌≢◌, ℕ, zero, suc, ◌+◌, ◌-◌, ◌*◌, ◌/◌, ◌<◌, ◌≤◌, ◌⊎◌, inl, inr, ℤ, pos, negsuc, ◌+ℤ◌, ◌≤ℤ◌, Bool, true, false, cond, Option, Some, None, List, [], ◌∷◌, ◌++◌, map, drop, length, All, refl, sym, subst, arith}
+use Rattle.std.proofs.Common.{◌≡◌, ◌≢◌, ℕ, zero, suc, ◌+◌, ◌-◌, ◌*◌, ◌/◌, ◌<◌, ◌≤◌, ◌⊎◌, inl, inr, ℤ, pos, negsuc, ◌+ℤ◌, ◌≤ℤ◌, Bool, true, false, cond, Option, Some, None, List, [], ◌∷◌, ◌++◌, map, drop, take, length, All, refl, sym, subst, arith}
 use Rattle.std.specs.Prelude.{nat_lt, nat_le}
 use Rattle.std.proofs.lemmas.Bool.Decides.{nat_tests}
 use Rattle.std.proofs.lemmas.List.{length-take, length-map, length-append}
+use Rattle.std.proofs.lemmas.List.Elements.{All-take}
 use Rattle.std.proofs.Math.Nat.{mul-le-mul_right, mul_comm, div-le_of_le-mul}
 use Rattle.ff_time.specs.Fraction.{Fraction}
 use Rattle.ff_time.specs.declared.cut.TimeCut.{TimeCut}
@@ -19,7 +20,7 @@ use Rattle.ff_stream.specs.declared.item.Lane.TheVariants.{Frames}
 use Rattle.ff_stream.specs.Stream.{Mark, whole, broken, whole_stream}
 use Rattle.ff_stream.specs.Ports.{IsUnbroken}
 use Rattle.ff_stream.specs.Times.{start_of, end_of, ticks}
-use Rattle.ff_stream.specs.Lanes.{base_of, IsItemFor, EndsInTime, IsValid}
+use Rattle.ff_stream.specs.Lanes.{base_of, IsItemFor, EndsInTime, InOrder, IsValid}
 use Rattle.ff_filter.specs.declared.range.Range.{Range}
 use Rattle.ff_filter.specs.Joins.{Flow}
 use Rattle.ff_filter.specs.Ranges.{is_past}
@@ -29,7 +30,7 @@ use Rattle.ff_vfilter.proofs.TrimSound.{trim_sound}
 use Rattle.ff_afilter.specs.Trims.{count_of, before_stop as samples_before, part, kept as kept_of, kept_all, ends_past, reaches as sound_reaches, sound_trimmed}
 use Rattle.ff_afilter.proofs.TrimSound.{sound_trim_sound}
 use Rattle.ff_filter.specs.spread.Valid.{GivesValid}
-use Rattle.ff_trim.specs.Cuts.{is_uncut, is_empty, range_in, from_range, cut}
+use Rattle.ff_trim.specs.Cuts.{is_uncut, is_empty, range_in, from_range, cut, counted}
 use Rattle.ff_trim.proofs.EarlierShape.{StartsFrom, shape_earlier}
 
 -- each of these items is so
@@ -296,3 +297,29 @@ cut_valid head c = record {
   unbroken = λ s v u. one_of IsUnbroken (is_empty c.length) (is_uncut c) (whole_stream []) s (from_range head (range_in (base_of_head head) c) s)
       (λ e. cc) u (range_unbroken head (range_in (base_of_head head) c) s u);
 }
+
+-- ---- by number
+
+take_few : (n : ℕ) (xs : List Item) → length (take n xs) ≤ length xs
+take_few n xs = let e = length-take n xs in omega (arith, e)
+
+take_in_order : (lane : Lane) (n : ℕ) (xs : List Item) → InOrder lane xs → InOrder lane (take n xs)
+take_in_order lane zero xs o = tt
+take_in_order lane (suc n) [] o = tt
+take_in_order lane (suc zero) (x ∷ []) o = tt
+take_in_order lane (suc zero) (x ∷ y ∷ xs) o = tt
+take_in_order lane (suc (suc n)) (x ∷ []) o = tt
+take_in_order lane (suc (suc n)) (x ∷ y ∷ xs) o = (o.0, take_in_order lane (suc n) (y ∷ xs) o.1)
+
+-- the first items of a valid stream are those of one
+pub counted_valid : (lane : Lane) (o : Option ℕ) (s : Flow) → IsValid lane s → IsValid lane (counted o s)
+counted_valid lane None s v = v
+counted_valid lane (Some n) s v = record {
+  shape = record { each = All-take (IsItemFor lane) n s.items v.shape.each; in_order = take_in_order lane n s.items v.shape.in_order };
+  few = let e = take_few n s.items in let f = v.few in omega (arith, e, f);
+  in_time = All-take (EndsInTime lane) n s.items v.in_time;
+}
+
+pub counted_unbroken : (o : Option ℕ) (s : Flow) → IsUnbroken s → IsUnbroken (counted o s)
+counted_unbroken None s u = u
+counted_unbroken (Some n) s u = unbroken_mark (nat_le n (length s.items)) s.mark u

@@ -1,13 +1,13 @@
 -- The outputs of a filter with cuts behind them, one by one.
 use Rattle.std.proofs.Common.{◌≡◌, ◌≢◌, ℕ, zero, suc, ◌<◌, ◌≤◌, ◌⊎◌, inl, inr, false, None, List, [], ◌∷◌, ◌++◌, length, refl, ap, sym, ◌∙◌, subst, arith, get_or, set, take}
 use Rattle.std.proofs.lemmas.List.{length-set}
-use Rattle.ff_time.specs.declared.cut.TimeCut.{TimeCut}
 use Rattle.ff_frame.specs.declared.head.StreamHead.{StreamHead}
 use Rattle.ff_stream.specs.Ports.{nothing}
 use Rattle.ff_filter.specs.Joins.{Flow}
+use Rattle.ff_trim.specs.declared.counted.OutputCut.{OutputCut}
 use Rattle.ff_trim.specs.declared.tap.Tap.{Tap}
 use Rattle.ff_trim.specs.Cuts.{cut_at}
-use Rattle.ff_trim.specs.CutLaws.{runs-waits}
+use Rattle.ff_trim.specs.CountLaws.{first-waits}
 use Rattle.ff_trim.specs.Taps.{Way, no_way, way_of, ways_of, way_at, still_cut, IsNewWay, AreNewWays}
 
 -- one output was replaced
@@ -56,14 +56,14 @@ there_or (w ∷ ws) (suc q) = elim (there_or ws q) as (λ _. (suc q < length (w 
 -- of nothing a cut makes nothing
 pub runs_nothing : (ts : List Tap) (q : ℕ) → (way_at (ways_of ts) q).runs nothing ≡ nothing
 runs_nothing [] q = refl
-runs_nothing (t ∷ ts) zero = runs-waits t.cut
+runs_nothing (t ∷ ts) zero = first-waits t.cut
 runs_nothing (t ∷ ts) (suc q) = runs_nothing ts q
 
 -- one output more
-pub new_more : (hs ks : List StreamHead) (cs ds : List TimeCut) (ts : List Tap) (t : Tap) (h : StreamHead) (c : TimeCut) → ks ≡ hs ++ h ∷ [] → ds ≡ cs ++ c ∷ [] → length cs ≡ length hs
+pub new_more : (hs ks : List StreamHead) (cs ds : List OutputCut) (ts : List Tap) (t : Tap) (h : StreamHead) (c : OutputCut) → ks ≡ hs ++ h ∷ [] → ds ≡ cs ++ c ∷ [] → length cs ≡ length hs
     → AreNewWays hs cs (ways_of ts) → IsNewWay h c (way_of t) → AreNewWays ks ds (ways_of (ts ++ t ∷ []))
 new_more hs ks cs ds ts t h c e d same a n = subst (λ (js : List StreamHead). AreNewWays js ds (ways_of (ts ++ t ∷ []))) (sym e)
-    (subst (λ (bs : List TimeCut). AreNewWays (hs ++ h ∷ []) bs (ways_of (ts ++ t ∷ []))) (sym d) (record {
+    (subst (λ (bs : List OutputCut). AreNewWays (hs ++ h ∷ []) bs (ways_of (ts ++ t ∷ []))) (sym d) (record {
       long = longer ts hs a.long;
       cuts = λ q s. cuts ts hs cs q s a.long same (λ o u. a.cuts o u);
       held = held ts a.held;
@@ -77,7 +77,7 @@ new_more hs ks cs ds ts t h c e d same a n = subst (λ (js : List StreamHead). A
     longer (r ∷ ts) [] e = absurd (omega (arith, e))
     longer (r ∷ ts) (g ∷ hs) e = ap suc (longer ts hs (omega (arith, e)))
 
-    cuts : (ts : List Tap) (hs : List StreamHead) (cs : List TimeCut) (q : ℕ) (s : Flow) → length (ways_of ts) ≡ length hs → length cs ≡ length hs
+    cuts : (ts : List Tap) (hs : List StreamHead) (cs : List OutputCut) (q : ℕ) (s : Flow) → length (ways_of ts) ≡ length hs → length cs ≡ length hs
         → ((o : ℕ) (u : Flow) → still_cut (way_at (ways_of ts) o) u ≡ cut_at hs cs o u) → still_cut (way_at (ways_of (ts ++ t ∷ [])) q) s ≡ cut_at (hs ++ h ∷ []) (cs ++ c ∷ []) q s
     cuts [] [] [] zero s l m k = n.cuts s
     cuts [] [] [] (suc q) s l m k = refl
@@ -112,13 +112,13 @@ all_heads zero (h ∷ hs) le = absurd (omega (arith, le))
 all_heads (suc n) [] le = refl
 all_heads (suc n) (h ∷ hs) le = ap (λ (ks : List StreamHead). h ∷ ks) (all_heads n hs (omega (arith, le)))
 
-all_cuts : (n : ℕ) (cs : List TimeCut) → length cs ≤ n → take n cs ≡ cs
+all_cuts : (n : ℕ) (cs : List OutputCut) → length cs ≤ n → take n cs ≡ cs
 all_cuts zero [] le = refl
 all_cuts zero (c ∷ cs) le = absurd (omega (arith, le))
 all_cuts (suc n) [] le = refl
-all_cuts (suc n) (c ∷ cs) le = ap (λ (ds : List TimeCut). c ∷ ds) (all_cuts n cs (omega (arith, le)))
+all_cuts (suc n) (c ∷ cs) le = ap (λ (ds : List OutputCut). c ∷ ds) (all_cuts n cs (omega (arith, le)))
 
-pub all_new : (n : ℕ) (hs : List StreamHead) (cs : List TimeCut) (ts : List Tap) → length hs ≤ n → length cs ≡ length hs → AreNewWays (take n hs) (take n cs) (ways_of ts)
+pub all_new : (n : ℕ) (hs : List StreamHead) (cs : List OutputCut) (ts : List Tap) → length hs ≤ n → length cs ≡ length hs → AreNewWays (take n hs) (take n cs) (ways_of ts)
     → AreNewWays hs cs (ways_of ts)
 all_new n hs cs ts le same a = subst (λ (ks : List StreamHead). AreNewWays ks cs (ways_of ts)) (all_heads n hs le)
-    (subst (λ (ds : List TimeCut). AreNewWays (take n hs) ds (ways_of ts)) (all_cuts n cs (omega (arith, le, same))) a)
+    (subst (λ (ds : List OutputCut). AreNewWays (take n hs) ds (ways_of ts)) (all_cuts n cs (omega (arith, le, same))) a)

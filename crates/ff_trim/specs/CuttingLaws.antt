@@ -12,7 +12,7 @@ use Rattle.ff_filter.specs.Held.{after_held, held_keeps}
 use Rattle.ff_filter.specs.StepperLaws.{left_keeps, left_calm, left_closed, or_left, or_right}
 use Rattle.ff_trim.specs.declared.tap.Tap.{Tap}
 use Rattle.ff_trim.specs.Taps.{Way, ways_of, way_at, still_cut, cutting_view, IsTied, Tied}
-use Rattle.ff_trim.specs.CutLaws.{runs-below, runs-calm, runs-settles}
+use Rattle.ff_trim.specs.CountLaws.{first-below, first-calm, first-settles}
 
 -- what the cut of an output owes
 pub record IsRun (w : Way) : Type 0 where
@@ -21,13 +21,13 @@ pub record IsRun (w : Way) : Type 0 where
 
 pub each_run : (ts : List Tap) (q : ℕ) → IsRun (way_at (ways_of ts) q)
 each_run [] q = record { below = λ r s h. inl refl; calm = λ r. inl refl }
-each_run (t ∷ ts) zero = record { below = runs-below t.cut; calm = runs-calm t.cut }
+each_run (t ∷ ts) zero = record { below = first-below t.cut; calm = first-calm t.cut }
 each_run (t ∷ ts) (suc q) = each_run ts q
 
 -- where its input closes, so does a cut that is there
 each_settles : (ts : List Tap) (q : ℕ) → q < length (ways_of ts) → (r : Flow) → IsClosed r → IsClosed ((way_at (ways_of ts) q).runs r)
 each_settles [] q lt r c = absurd (omega (arith, lt))
-each_settles (t ∷ ts) zero lt r c = runs-settles t.cut r c
+each_settles (t ∷ ts) zero lt r c = first-settles t.cut r c
 each_settles (t ∷ ts) (suc q) lt r c = each_settles ts q (omega (arith, lt)) r c
 
 held_calm : (held : Option Item) (r s : Flow) → LiesBelow (opened r) s → LiesBelow (opened (after_held held r)) (after_held held s)

@@ -15,9 +15,10 @@ use Rattle.ff_filter.specs.Held.{after_held, held_closes}
 use Rattle.ff_filter.specs.Shifts.{shifted}
 use Rattle.ff_vfilter.specs.Trims.{trimmed}
 use Rattle.ff_afilter.specs.Trims.{sound_trimmed}
-use Rattle.ff_time.specs.declared.cut.TimeCut.{TimeCut}
 use Rattle.ff_frame.specs.declared.head.StreamHead.{StreamHead}
-use Rattle.ff_trim.specs.Cuts.{cut, cut_at, cut_each}
+use Rattle.ff_trim.specs.Cuts.{counted, output_cut, cut_at, cut_each}
+use Rattle.ff_trim.specs.declared.counted.FirstOf.{FirstOf}
+use Rattle.ff_trim.specs.declared.counted.OutputCut.{OutputCut}
 use Rattle.ff_trim.specs.declared.cut.Cut.{Cut}
 use Rattle.ff_trim.specs.declared.cut.Cut.TheVariants.{Uncut, Sound, Pictures}
 use Rattle.ff_trim.specs.declared.tap.Tap.{Tap}
@@ -29,6 +30,10 @@ abbrev pub runs_of : Cut → Flow → Flow
 runs_of (Uncut m) s = s
 runs_of (Sound m start) s = shifted (Some start) (sound_trimmed m.range s)
 runs_of (Pictures m start) s = shifted (Some start) (trimmed m.range s)
+
+-- the same, with the number of frames that are still to come
+abbrev pub runs_first : FirstOf → Flow → Flow
+runs_first m s = counted m.left (runs_of m.cut s)
 
 abbrev pub lane_of : Cut → Lane
 lane_of (Uncut m) = Frames m.head
@@ -48,7 +53,7 @@ abbrev pub no_way : Way
 no_way = record { runs = λ s. nothing; held = None; after = More; ended = false; stopped = false }
 
 abbrev pub way_of : Tap → Way
-way_of t = record { runs = λ s. runs_of t.cut s; held = t.held; after = t.after; ended = t.ended; stopped = t.stopped }
+way_of t = record { runs = λ s. runs_first t.cut s; held = t.held; after = t.after; ended = t.ended; stopped = t.stopped }
 
 abbrev pub ways_of : List Tap → List Way
 ways_of ts = map way_of ts
@@ -154,14 +159,14 @@ pub record IsLeft (old new : Way) : Type 0 where
   pub stopped : new.stopped ≡ true
 
 -- nothing came to an output of this head with this cut
-pub record IsNewWay (h : StreamHead) (c : TimeCut) (w : Way) : Type 0 where
-  pub cuts : (s : Flow) → still_cut w s ≡ cut h c s
+pub record IsNewWay (h : StreamHead) (c : OutputCut) (w : Way) : Type 0 where
+  pub cuts : (s : Flow) → still_cut w s ≡ output_cut h c s
   pub held : w.held ≡ None
   pub ended : w.ended ≡ false
   pub stopped : w.stopped ≡ false
 
 -- so many outputs of these heads with these cuts, to which nothing came
-pub record AreNewWays (hs : List StreamHead) (cs : List TimeCut) (ws : List Way) : Type 0 where
+pub record AreNewWays (hs : List StreamHead) (cs : List OutputCut) (ws : List Way) : Type 0 where
   pub long : length ws ≡ length hs
   pub cuts : (q : ℕ) (s : Flow) → still_cut (way_at ws q) s ≡ cut_at hs cs q s
   pub held : (q : ℕ) → (way_at ws q).held ≡ None
@@ -169,7 +174,7 @@ pub record AreNewWays (hs : List StreamHead) (cs : List TimeCut) (ws : List Way)
   pub stopped : (q : ℕ) → (way_at ws q).stopped ≡ false
 
 -- Nothing was done: a filter that was seen as v when nothing was done to it, with a cut behind each output, which have these heads.
-pub record IsCutting (hs : List StreamHead) (cs : List TimeCut) (v w : View) : Type 0 where
+pub record IsCutting (hs : List StreamHead) (cs : List OutputCut) (v w : View) : Type 0 where
   pub ins : w.ins ≡ v.ins
   pub outs : w.outs ≡ v.outs
   pub rest : (ext : Ports) (q : ℕ) → w.rest ext q ≡ cut_each hs cs v.rest ext q

@@ -6,11 +6,11 @@ ghost use Rattle.ff_filter.specs.Views.{IsNew, Gave};
 ghost use Rattle.ff_trim.specs.Taps.{ways_of, way_at, cut_view, Tied, IsTurn, AreNewWays, IsCutting};
 ghost use Rattle.ff_trim.specs.CuttingLaws.{cutting-grows, cutting-hides, cutting-settles, cutting-quiet, cutting-spent, cutting-done};
 
+use crate::counted::OutputCut;
 use crate::tap::{Tap, Turn};
 use ff_filter::Filter;
 use ff_frame::StreamHead;
 use ff_stream::{Item, Refused};
-use ff_time::TimeCut;
 use std::alloc::{AllocError, Global};
 
 /// A filter with a cut after each of its outputs.
@@ -24,7 +24,7 @@ pub struct Cutting<F: Filter> {
 }
 
 // Outputs of these heads with these cuts, to which nothing came.
-fn new_taps(alloc: Global, heads: &[StreamHead], cuts: &[TimeCut]) -> Result<Vec<Tap>, AllocError>
+fn new_taps(alloc: Global, heads: &[StreamHead], cuts: &[OutputCut]) -> Result<Vec<Tap>, AllocError>
     requires each { length cuts.now ≡ length heads.now }
     ensures new { IfOk result (λ taps. AreNewWays heads.now cuts.now (ways_of taps.items)) }
 {
@@ -41,7 +41,7 @@ impl<F: Filter + Drop> Cutting<F> {
         alloc: Global,
         filter: F,
         heads: &[StreamHead],
-        cuts: &[TimeCut],
+        cuts: &[OutputCut],
     ) -> Result<Cutting<F>, AllocError>
         requires new { IsNew (F.view filter) }
         requires heads { (F.view filter).outs ≡ map Frames heads.now }

@@ -1,5 +1,5 @@
 //! Laws of cuts: functions that do nothing, whose clauses hold of all values.
-ghost use Rattle.std.specs.Prelude.{◌≡◌, ◌≤◌, ◌+◌, ◌++◌, ◌∷◌, [], ℕ, Bool, false, List, Some, length, map};
+ghost use Rattle.std.specs.Prelude.{◌≡◌, ◌≤◌, ◌+◌, ◌++◌, ◌∷◌, ◌<◌, [], ℕ, Bool, false, List, Some, None, length, map};
 ghost use Rattle.std.specs.List.{AllByRecursion};
 ghost use Rattle.ff_time.specs.Fraction.{Fraction, IsBase};
 ghost use Rattle.ff_frame.specs.Heads.{base_of_head};
@@ -19,7 +19,8 @@ ghost use Rattle.ff_node_filter.specs.Limiting.{IsLimited};
 ghost use Rattle.ff_filter.specs.spread.Valid.{GivesValid};
 ghost use Rattle.ff_afilter.specs.Ends.{EndsBefore, EndsFrom, kept_of_each};
 ghost use Rattle.ff_filter.specs.Shifts.{earlier};
-ghost use Rattle.ff_trim.specs.Cuts.{cut, cut_each, from_range, is_empty, range_in, start_in, ticks_at};
+ghost use Rattle.ff_trim.specs.Cuts.{counted, cut, cut_each, from_range, is_empty, output_cut, range_in, start_in, ticks_at};
+ghost use Rattle.ff_trim.specs.declared.counted.OutputCut.{OutputCut};
 ghost use Rattle.ff_trim.specs.Frames.{cut_step};
 ghost use Rattle.ff_trim.specs.Taps.{IsCutting};
 ghost use Rattle.ff_filter.specs.Runs.{run, no_more};
@@ -41,10 +42,29 @@ pub fn valid_streams_are_cut_to_valid_ones()
     ensures { (head : StreamHead) (c : TimeCut) → GivesValid (Frames head) (Frames head) (λ s. cut head c s) }
 {}
 
+/// A cut by number leaves so many frames and is whole with the last of them, however the stream goes on. Where the
+/// stream has fewer, or no number is given, it stands as it came.
+pub fn cuts_by_number_end_with_the_last_frame()
+    ensures first { (n : ℕ) (before after : List Item) (m : Mark) → length before ≡ n
+        → counted (Some n) (record { items = before ++ after; mark = m }) ≡ whole_stream before }
+    ensures fewer { (n : ℕ) (s : Flow) → length s.items < n → counted (Some n) s ≡ s }
+    ensures all { (s : Flow) → counted None s ≡ s }
+{}
+
+/// A stream of an output is cut in time and by number: further on where it is further on, closed where it closes,
+/// broken only where it is, and valid where it is.
+pub fn outputs_are_cut_as_their_streams_are()
+    ensures below { (head : StreamHead) (c : OutputCut) (r s : Flow) → LiesBelow r s → LiesBelow (output_cut head c r) (output_cut head c s) }
+    ensures calm { (head : StreamHead) (c : OutputCut) (r : Flow) → LiesBelow (opened (output_cut head c r)) (output_cut head c (opened r)) }
+    ensures settles { (head : StreamHead) (c : OutputCut) (r : Flow) → IsClosed r → IsClosed (output_cut head c r) }
+    ensures breaks { (head : StreamHead) (c : OutputCut) (r : Flow) → (output_cut head c r).mark ≡ broken → r.mark ≡ broken }
+    ensures valid { (head : StreamHead) (c : OutputCut) → GivesValid (Frames head) (Frames head) (λ s. output_cut head c s) }
+{}
+
 /// A function within limits with a cut after each output is one within the same limits. Where an output breaks, so
 /// does the function's, before the end of the cut.
 pub fn cuts_keep_limits()
-    ensures { (ins : List Lane) (heads : List StreamHead) (cs : List TimeCut) (f : Ports → Ports) (cuts : List Flow → Bool)
+    ensures { (ins : List Lane) (heads : List StreamHead) (cs : List OutputCut) (f : Ports → Ports) (cuts : List Flow → Bool)
         → length cs ≡ length heads → IsLimited ins (map Frames heads) f cuts → IsLimited ins (map Frames heads) (cut_each heads cs f) cuts }
 {}
 
@@ -59,7 +79,7 @@ pub fn cuts_are_as_their_rule_says()
 /// A filter within limits, to which nothing was done, is with cuts after its outputs within the same limits. So a
 /// node of it has the fault `TooLong` only where one of its own outputs breaks.
 pub fn filters_with_cuts_are_limited()
-    ensures { (heads : List StreamHead) (cs : List TimeCut) (v w : View) (cuts : List Flow → Bool)
+    ensures { (heads : List StreamHead) (cs : List OutputCut) (v w : View) (cuts : List Flow → Bool)
         → length cs ≡ length heads → v.outs ≡ map Frames heads → IsCutting heads cs v w
         → IsLimited v.ins v.outs v.rest cuts → IsLimited w.ins w.outs w.rest cuts }
 {}

@@ -10,18 +10,21 @@
 //! may so be done with its inputs early.
 #![tactic(auto)]
 
+mod counted;
 mod cut;
 mod cutting;
 mod examples;
 mod laws;
 mod tap;
 
+pub use counted::{FirstOf, OutputCut};
 pub use cut::Cut;
 pub use cutting::Cutting;
 pub use examples::cuts_of_some_streams;
 pub use laws::{
-    cut_audio_ends_at_its_length, cuts_are_as_their_rule_says, cuts_go_frame_by_frame,
-    cuts_keep_limits, cuts_keep_the_broken_rule, filters_with_cuts_are_limited,
+    cut_audio_ends_at_its_length, cuts_are_as_their_rule_says,
+    cuts_by_number_end_with_the_last_frame, cuts_go_frame_by_frame, cuts_keep_limits,
+    cuts_keep_the_broken_rule, filters_with_cuts_are_limited, outputs_are_cut_as_their_streams_are,
     streams_further_on_are_cut_further_on, valid_streams_are_cut_to_valid_ones,
 };
 pub use tap::{Tap, Turn};

@@ -5,12 +5,12 @@ ghost use Rattle.ff_stream.specs.declared.item.Item.{Item as AnItem};
 ghost use Rattle.ff_filter.specs.Joins.{Flow};
 ghost use Rattle.ff_filter.specs.Made.{is_over as is_over_by};
 ghost use Rattle.ff_filter.specs.Held.{held_closes};
+ghost use Rattle.ff_trim.specs.Cuts.{is_empty, starts_over};
 
-use crate::cut::Cut;
+use crate::counted::{FirstOf, OutputCut};
 use ff_filter::{After, Given, Step, closing_of};
 use ff_frame::StreamHead;
 use ff_stream::{Item, discard};
-use ff_time::TimeCut;
 use std::alloc::AllocError;
 
 /// What one step towards an output came to.
@@ -28,7 +28,7 @@ pub enum Turn {
 #[derive(Drop)]
 pub struct Tap {
     /// The cut.
-    pub cut: Cut,
+    pub cut: FirstOf,
     /// An item that waits before the cut, since there was no memory for it.
     pub held: Option<Item>,
     /// How the output stands after what was given.
@@ -40,29 +40,50 @@ pub struct Tap {
     pub ghost held_open: { held_closes held ≡ false },
 }
 
+// Whether the length is given as 0.
+fn has_no_length(length: Option<u64>) -> bool
+    ensures { result ≡ is_empty length }
+{
+    match length {
+        Some(0) => true,
+        Some(_) => false,
+        None => false,
+    }
+}
+
+// Whether the number of frames is.
+fn has_no_frames(frames: Option<u32>) -> bool
+    ensures { result ≡ is_empty frames }
+{
+    match frames {
+        Some(0) => true,
+        Some(_) => false,
+        None => false,
+    }
+}
+
+// With a length of 0, or without a frame, the output ends before anything comes.
+fn at_once(cut: OutputCut) -> After
+    ensures { result ≡ starts_over cut }
+{
+    if has_no_length(cut.time.length) || has_no_frames(cut.frames) {
+        After::Whole
+    } else {
+        After::More
+    }
+}
+
 impl Tap {
-    ghost use Rattle.ff_trim.specs.Cuts.{cut as cut_of, starts_over};
     ghost use Rattle.ff_trim.specs.Taps.{way_of, IsNewWay, IsPut, IsKept, IsResumed, IsKeptStill, IsShut, IsLeft};
 
-    // With a length of 0 the output ends before anything comes.
-    fn at_once(length: Option<u64>) -> After
-        ensures { result ≡ starts_over length }
-    {
-        match length {
-            Some(0) => After::Whole,
-            Some(_) => After::More,
-            None => After::More,
-        }
-    }
-
     /// An output of this head, to which nothing came.
-    pub fn new(head: &StreamHead, cut: TimeCut) -> Tap
+    pub fn new(head: &StreamHead, cut: OutputCut) -> Tap
         ensures { IsNewWay head.now cut (way_of result) }
     {
         Tap {
-            cut: Cut::of(head, cut),
+            cut: FirstOf::of(head, cut),
             held: None,
-            after: Tap::at_once(cut.length),
+            after: at_once(cut),
             ended: false,
             stopped: false,
         }

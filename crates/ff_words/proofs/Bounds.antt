@@ -109,6 +109,7 @@ reads-kind kind.AudioCodec text v h = of-named v kind.AudioCodec (codec_value va
 reads-kind kind.VideoCodec text v h = of-named v kind.VideoCodec (codec_value value.VideoCodec (video_codec text)) (of-codec value.VideoCodec kind.VideoCodec (λ c. tt) (video_codec text)) h
 reads-kind kind.VideoGraph text v h = of-made value.VideoGraph (ReadsGraph text) v kind.VideoGraph (λ x is. tt) h
 reads-kind kind.AudioGraph text v h = of-made value.AudioGraph (ReadsGraph text) v kind.AudioGraph (λ x is. tt) h
+reads-kind kind.Frames text v h = of-made value.Frames (ReadsWhole 0 999999999 text) v kind.Frames (λ x is. tt) h
 reads-kind kind.Hash text v h =
     of-named v kind.Hash (hash_value text)
     (of-test (value.Hash Sha256) kind.Hash tt (is_spelled text (codes "SHA256")) (if is_spelled text (codes "MD5") then Some (value.Hash Md5) else None)
@@ -150,6 +151,7 @@ switched-kind kind.AudioCodec w e = absurd cc
 switched-kind kind.VideoCodec w e = absurd cc
 switched-kind kind.VideoGraph w e = absurd cc
 switched-kind kind.AudioGraph w e = absurd cc
+switched-kind kind.Frames w e = absurd cc
 switched-kind kind.Hash w e = absurd cc
 switched-kind kind.Rf64 w e = absurd cc
 
@@ -254,6 +256,7 @@ small-option es token at concern (value.AudioCodec c) plain fine h s = s
 small-option es token at concern (value.VideoCodec c) plain fine h s = s
 small-option es token at concern (value.VideoGraph g) plain fine h s = s
 small-option es token at concern (value.AudioGraph g) plain fine h s = s
+small-option es token at concern (value.Frames n) plain fine h s = s
 small-option es token at concern (value.Hash d) plain fine h s = s
 small-option es token at concern (value.Rf64 mode) plain fine h s = s
 small-option es token at concern (value.Output n x) plain fine h s = absurd cc
@@ -319,6 +322,7 @@ by-value P es token at concern (value.AudioCodec c) before reads fine option ins
 by-value P es token at concern (value.VideoCodec c) before reads fine option ins outs = subst P (sym (reader-snoc es (entry at concern (value.VideoCodec c)) refl)) (option refl (token-rule token (is_dashed token.word) concern (value.VideoCodec c) refl refl reads))
 by-value P es token at concern (value.VideoGraph g) before reads fine option ins outs = subst P (sym (reader-snoc es (entry at concern (value.VideoGraph g)) refl)) (option refl (token-rule token (is_dashed token.word) concern (value.VideoGraph g) refl refl reads))
 by-value P es token at concern (value.AudioGraph g) before reads fine option ins outs = subst P (sym (reader-snoc es (entry at concern (value.AudioGraph g)) refl)) (option refl (token-rule token (is_dashed token.word) concern (value.AudioGraph g) refl refl reads))
+by-value P es token at concern (value.Frames n) before reads fine option ins outs = subst P (sym (reader-snoc es (entry at concern (value.Frames n)) refl)) (option refl (token-rule token (is_dashed token.word) concern (value.Frames n) refl refl reads))
 by-value P es token at concern (value.Hash h) before reads fine option ins outs = subst P (sym (reader-snoc es (entry at concern (value.Hash h)) refl)) (option refl (token-rule token (is_dashed token.word) concern (value.Hash h) refl refl reads))
 by-value P es token at concern (value.Rf64 mode) before reads fine option ins outs = subst P (sym (reader-snoc es (entry at concern (value.Rf64 mode)) refl)) (option refl (token-rule token (is_dashed token.word) concern (value.Rf64 mode) refl refl reads))
 by-value P es token at concern (value.Output n x) before reads fine option ins outs = subst P (sym (filed-is es (entry at concern (value.Output n x)) refl ∙ output-filed n x es)) (outs n x (unwrap_or (output_format (groups es).behind x) FrameHash) fine)

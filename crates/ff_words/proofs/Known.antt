@@ -116,6 +116,10 @@ pub line-shortest : IsLine (codes "-shortest") Output kind.Shortest
 unfolding option_named
 line-shortest = refl
 
+pub line-frames : IsLine (codes "-frames:v") Output kind.Frames
+unfolding option_named
+line-frames = refl
+
 pub line-hash : IsLine (codes "-hash") Output kind.Hash
 unfolding option_named
 line-hash = refl

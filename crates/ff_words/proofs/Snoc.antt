@@ -9,7 +9,7 @@ use Rattle.ff_words.specs.declared.reader.Pending.{Pending}
 use Rattle.ff_words.specs.declared.reader.Reader.{Reader}
 use Rattle.ff_format.specs.declared.format.FileFormat.{FileFormat}
 use Rattle.ff_format.specs.declared.format.FileFormat.TheVariants.{FrameHash}
-use Rattle.ff_words.specs.Words.{not_before_input, not_before_output, not_at_end, as_format, as_start, as_length, as_end, as_map, as_audio, as_video, as_vf, as_af, as_no_audio, as_no_video, as_shortest, as_hash, as_rf64, as_queue, as_trace, as_keeps, as_graph, as_solo, Entry, Group, Groups, groups, led, is_file, or_else, last, each, first_place, last_place, unread_place, unwritten_place, inputs, outputs, group_input, group_output}
+use Rattle.ff_words.specs.Words.{not_before_input, not_before_output, not_at_end, as_format, as_start, as_length, as_end, as_map, as_audio, as_video, as_vf, as_af, as_no_audio, as_no_video, as_shortest, as_frames, as_hash, as_rf64, as_queue, as_trace, as_keeps, as_graph, as_solo, Entry, Group, Groups, groups, led, is_file, or_else, last, each, first_place, last_place, unread_place, unwritten_place, inputs, outputs, group_input, group_output}
 use Rattle.std.specs.Prelude.{flat_map}
 use Rattle.ff_words.specs.Words.{output_format, late}
 use Rattle.ff_words.specs.Reading.{with_input, with_output, input_wrong, output_wrong, pending_format, valued, noted, whole, pending, reader, waiting, optioned, kept}
@@ -115,6 +115,7 @@ merged at concern v own =
       af = or_else (as_af v) (last as_af own);
       no_audio = unwrap_or (or_else (as_no_audio v) (last as_no_audio own)) false;
       no_video = unwrap_or (or_else (as_no_video v) (last as_no_video own)) false;
+      frames = or_else (as_frames v) (last as_frames own);
       shortest = unwrap_or (or_else (as_shortest v) (last as_shortest own)) false;
       hash = or_else (as_hash v) (last as_hash own);
       rf64 = or_else (as_rf64 v) (last as_rf64 own);
@@ -139,6 +140,7 @@ merged-is own e =
       last-snoc as_af own e,
       last-snoc as_no_audio own e,
       last-snoc as_no_video own e,
+      last-snoc as_frames own e,
       last-snoc as_shortest own e,
       last-snoc as_hash own e,
       last-snoc as_rf64 own e,
@@ -164,6 +166,7 @@ waits at concern (value.AudioCodec c) own = refl
 waits at concern (value.VideoCodec c) own = refl
 waits at concern (value.VideoGraph g) own = refl
 waits at concern (value.AudioGraph g) own = refl
+waits at concern (value.Frames n) own = refl
 waits at concern (value.Hash h) own = refl
 waits at concern (value.Rf64 mode) own = refl
 waits at concern (value.Output n x) own = refl
@@ -213,6 +216,7 @@ joins e (value.AudioCodec c) es p plain = refl
 joins e (value.VideoCodec c) es p plain = refl
 joins e (value.VideoGraph g) es p plain = refl
 joins e (value.AudioGraph g) es p plain = refl
+joins e (value.Frames n) es p plain = refl
 joins e (value.Hash h) es p plain = refl
 joins e (value.Rf64 mode) es p plain = refl
 joins e (value.Output n x) es p plain = cc
@@ -305,6 +309,7 @@ plain_late es at (value.AudioCodec c) plain = refl
 plain_late es at (value.VideoCodec c) plain = refl
 plain_late es at (value.VideoGraph g) plain = refl
 plain_late es at (value.AudioGraph g) plain = refl
+plain_late es at (value.Frames n) plain = refl
 plain_late es at (value.Hash h) plain = refl
 plain_late es at (value.Rf64 mode) plain = refl
 plain_late es at (value.Output n x) plain = cc
@@ -334,6 +339,7 @@ not_file (value.AudioCodec c) i o = refl
 not_file (value.VideoCodec c) i o = refl
 not_file (value.VideoGraph g) i o = refl
 not_file (value.AudioGraph g) i o = refl
+not_file (value.Frames n) i o = refl
 not_file (value.Hash h) i o = refl
 not_file (value.Rf64 mode) i o = refl
 not_file (value.Output n x) i o = absurd (o n x refl)

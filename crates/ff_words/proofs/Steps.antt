@@ -118,6 +118,7 @@ full-is es kind.AudioCodec = refl
 full-is es kind.VideoCodec = refl
 full-is es kind.VideoGraph = refl
 full-is es kind.AudioGraph = refl
+full-is es kind.Frames = refl
 full-is es kind.Hash = refl
 full-is es kind.Rf64 = refl
 

@@ -116,6 +116,7 @@ reads-one kind.AudioCodec text r s h j = h ∙ sym j
 reads-one kind.VideoCodec text r s h j = h ∙ sym j
 reads-one kind.VideoGraph text r s h j = makes-one value.VideoGraph (ReadsGraph text) r s (graph-one text) h j
 reads-one kind.AudioGraph text r s h j = makes-one value.AudioGraph (ReadsGraph text) r s (graph-one text) h j
+reads-one kind.Frames text r s h j = makes-one value.Frames (ReadsWhole 0 999999999 text) r s (whole-one 0 999999999 text) h j
 reads-one kind.Hash text r s h j = h ∙ sym j
 reads-one kind.Rf64 text r s h j = h ∙ sym j
 

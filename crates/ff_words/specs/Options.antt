@@ -66,6 +66,8 @@ options =
     (codes "-vn", Output, kind.NoVideo) ∷
     (codes "-an", Output, kind.NoAudio) ∷
     (codes "-shortest", Output, kind.Shortest) ∷
+    (codes "-frames:v", Output, kind.Frames) ∷
+    (codes "-vframes", Output, kind.Frames) ∷
     (codes "-hash", Output, kind.Hash) ∷
     (codes "-rf64", Output, kind.Rf64) ∷
     []

@@ -179,6 +179,10 @@ abbrev pub as_shortest : Value → Option Bool
 as_shortest value.Shortest = Some true
 as_shortest _ = None
 
+abbrev pub as_frames : Value → Option ℕ
+as_frames (value.Frames n) = Some n
+as_frames _ = None
+
 abbrev pub as_hash : Value → Option HashKind
 as_hash (value.Hash h) = Some h
 as_hash _ = None
@@ -270,6 +274,7 @@ output_job own name ending =
       no_audio = unwrap_or (last as_no_audio own) false;
       no_video = unwrap_or (last as_no_video own) false;
       cut = own_cut own;
+      frames = last as_frames own;
       shortest = unwrap_or (last as_shortest own) false;
       hash = unwrap_or (last as_hash own) (default_hash (unwrap_or (output_format own ending) FrameHash));
       rf64 = unwrap_or (last as_rf64 own) Never;

@@ -70,6 +70,9 @@ start_words us = given (codes "-ss") (micros_text us)
 abbrev pub length_words : Option ℕ → List (List ℕ)
 length_words o = where_some (λ us. given (codes "-t") (micros_text us)) o
 
+abbrev pub frames_words : Option ℕ → List (List ℕ)
+frames_words o = where_some (λ n. given (codes "-frames:v") (decimal n)) o
+
 abbrev pub format_words : FileFormat → List (List ℕ)
 format_words f = given (codes "-f") (format_name f)
 
@@ -117,6 +120,7 @@ output_words o =
     where_true (codes "-vn") o.no_video ∷
     start_words o.cut.start ∷
     length_words o.cut.length ∷
+    frames_words o.frames ∷
     where_true (codes "-shortest") o.shortest ∷
     hash_words o.hash ∷
     rf64_words o.rf64 ∷
@@ -210,10 +214,11 @@ pub record IsFineOutput (o : OutputJob) : Type 0 where
   pub video : WhereSome (λ c. c ≡ codec.RawVideo) o.video
   pub vf : WhereSome IsFineGraph o.vf
   pub af : WhereSome IsFineGraph o.af
+  pub frames : WhereSome (λ n. n < 10 ^ 9) o.frames
 
--- an output that is no RF64
+-- an output that is no RF64, and whose frames aren't counted
 abbrev pub IsPlainOutput : OutputJob → Type 0
-IsPlainOutput o = o.rf64 ≡ Never
+IsPlainOutput o = (o.rf64 ≡ Never) × (o.frames ≡ None)
 
 -- Each number is in its range, each name and text is short enough, the names of outputs are names of outputs, there are one to
 -- sixteen of what there may be sixteen of, and no written name stands twice.

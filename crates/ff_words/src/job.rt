@@ -39,6 +39,8 @@ pub struct OutputJob {
     pub no_video: bool,
     /// The cut by `-ss` and `-t`.
     pub cut: TimeCut,
+    /// How many frames each of its video streams has at most, by `-frames:v`.
+    pub frames: Option<u32>,
     /// Whether `-shortest` ends all of its streams with the shortest.
     pub shortest: bool,
     /// The digest by `-hash`; without it that of the format.

@@ -240,6 +240,10 @@ fn read_small(kind: Kind, text: &str) -> Result<Value, WordKind>
             Ok(size) => Ok(Value::Queue(size)),
             Err(kind) => Err(kind),
         },
+        Kind::Frames => match whole_of(text, 0, 999999999) {
+            Ok(frames) => Ok(Value::Frames(frames)),
+            Err(kind) => Err(kind),
+        },
         Kind::SelfRun => match whole_of(text, 0, 3600) {
             Ok(seconds) => Ok(Value::Solo(Solo::SelfRun(seconds))),
             Err(kind) => Err(kind),

@@ -83,6 +83,8 @@ pub enum Kind {
     VideoGraph,
     /// The same over its audio streams.
     AudioGraph,
+    /// How many frames each video stream of an output has at most.
+    Frames,
     /// The digest of an output.
     Hash,
     /// When an output is RF64.
@@ -110,7 +112,7 @@ pub struct Named {
 }
 
 /// Each option, whom it concerns, and its kind of value.
-pub static OPTIONS: [(&'static str, Concern, Kind); 54] = [
+pub static OPTIONS: [(&'static str, Concern, Kind); 56] = [
     ("-n", Concern::All, Kind::Keeps),
     ("-y", Concern::All, Kind::Replaces),
     ("-hide_banner", Concern::All, Kind::Nothing),
@@ -163,6 +165,8 @@ pub static OPTIONS: [(&'static str, Concern, Kind); 54] = [
     ("-vn", Concern::Output, Kind::NoVideo),
     ("-an", Concern::Output, Kind::NoAudio),
     ("-shortest", Concern::Output, Kind::Shortest),
+    ("-frames:v", Concern::Output, Kind::Frames),
+    ("-vframes", Concern::Output, Kind::Frames),
     ("-hash", Concern::Output, Kind::Hash),
     ("-rf64", Concern::Output, Kind::Rf64),
 ];

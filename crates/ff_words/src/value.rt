@@ -63,6 +63,8 @@ pub enum Value {
     VideoGraph(Graph),
     /// A simple graph for audio.
     AudioGraph(Graph),
+    /// How many frames a video stream has at most.
+    Frames(u32),
     /// A digest.
     Hash(HashKind),
     /// When an output is RF64.

@@ -1,6 +1,6 @@
 -- What a graph is whose filters were made.
 use Rattle.std.proofs.Common.{◌≡◌, ℕ, Bool, false, List, [], ◌∷◌, length, map, Option, Result, Ok, Err, refl, ap, sym, ◌∙◌, subst}
-use Rattle.ff_time.specs.declared.cut.TimeCut.{TimeCut}
+use Rattle.ff_trim.specs.declared.counted.OutputCut.{OutputCut}
 use Rattle.ff_frame.specs.declared.head.StreamHead.{StreamHead}
 use Rattle.ff_stream.specs.declared.item.Lane.{Lane}
 use Rattle.ff_stream.specs.declared.item.Lane.TheVariants.{Frames}
@@ -113,6 +113,6 @@ pub counted_so : (hs : List StreamHead) (os : List OpenOut) (n : ℕ) → hs ≡
 counted_so hs os n h e = e ∙ sym (ap (λ (xs : List StreamHead). length xs) h ∙ map_size (λ (o : OpenOut). o.head) os)
 
 -- cuts behind what does the same
-pub cut_so : (hs ks : List StreamHead) (cs : List TimeCut) (f h : Ports → Ports) → hs ≡ ks → ((ext : Ports) (q : ℕ) → f ext q ≡ h ext q) → (ext : Ports) (q : ℕ)
+pub cut_so : (hs ks : List StreamHead) (cs : List OutputCut) (f h : Ports → Ports) → hs ≡ ks → ((ext : Ports) (q : ℕ) → f ext q ≡ h ext q) → (ext : Ports) (q : ℕ)
     → cut_each hs cs f ext q ≡ cut_each ks cs h ext q
 cut_so hs ks cs f h same e ext q = ap (λ (xs : List StreamHead). cut_at xs cs q (f ext q)) same ∙ ap (λ (s : Flow). cut_at ks cs q s) (e ext q)

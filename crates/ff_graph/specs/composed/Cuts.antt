@@ -1,6 +1,6 @@
 -- Where the limits of a graph cut, and what the graph is to do as a node of a network.
 use Rattle.std.specs.Prelude.{Bool, false, List, [], length, map, Option, Some, Result, Ok, Err}
-use Rattle.ff_time.specs.declared.cut.TimeCut.{TimeCut}
+use Rattle.ff_trim.specs.declared.counted.OutputCut.{OutputCut}
 use Rattle.ff_frame.specs.declared.head.StreamHead.{StreamHead}
 use Rattle.ff_stream.specs.Ports.{stream_at}
 use Rattle.ff_lang.specs.declared.graph.Graph.{Graph}
@@ -43,11 +43,11 @@ abbrev pub out_heads : Graph → List StreamHead → List StreamHead
 out_heads g heads = map (λ o. o.head) (graph_outs g heads)
 
 -- The function of a graph on streams of these heads, with one of these cuts behind each open output pad.
-abbrev pub graph_cut : Graph → List StreamHead → List TimeCut → Ports → Ports
+abbrev pub graph_cut : Graph → List StreamHead → List OutputCut → Ports → Ports
 graph_cut g heads cuts = cut_each (out_heads g heads) cuts (graph_means g (all_given heads))
 
 -- What a graph does as one node: its function with a cut behind each output, which are broken off by a limit where a limit of one of its
 -- filters cuts.
-abbrev pub graph_task : Graph → List StreamHead → List TimeCut → Task
+abbrev pub graph_task : Graph → List StreamHead → List OutputCut → Task
 graph_task g heads cuts = filter_task (length (graph_outs g heads)) (graph_cut g heads cuts)
     (limit_cause (length (graph_outs g heads)) (graph_cut g heads cuts) (graph_cuts g (all_given heads)))

@@ -16,8 +16,7 @@ use ff_lang::Graph;
 use ff_net::{Fault, Machine};
 use ff_node_filter::Alone;
 use ff_stream::{Item, Refused};
-use ff_time::TimeCut;
-use ff_trim::Cutting;
+use ff_trim::{Cutting, OutputCut};
 use std::alloc::{AllocError, Global};
 
 /// The filters of a graph with a cut after each output, as one filter.
@@ -93,7 +92,7 @@ pub fn graph_machine(
     alloc: Global,
     graph: &Graph,
     heads: &[StreamHead],
-    cuts: &[TimeCut],
+    cuts: &[OutputCut],
 ) -> Result<GraphMachine, Refusal>
     requires clear { IsClear graph.now }
     requires counted { length heads.now ≡ length (open_ins graph.now) }

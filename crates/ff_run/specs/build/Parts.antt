@@ -1,6 +1,6 @@
 -- What the nodes of a plan are there for, by the definitions of formats and codecs.
 use Rattle.std.specs.Prelude.{◌≡◌, ℕ, ◌≤◌, Bool, true, false, List, length, map}
-use Rattle.ff_time.specs.declared.cut.TimeCut.{TimeCut}
+use Rattle.ff_trim.specs.declared.counted.OutputCut.{OutputCut}
 use Rattle.ff_frame.specs.Heads.{base_of_head}
 use Rattle.ff_frame.specs.Codecs.{coding_of}
 use Rattle.ff_frame.specs.declared.coding.Coding.{Coding}
@@ -64,7 +64,7 @@ pub record CanFilter (text : Graph) (heads outs : List StreamHead) : Type 0 wher
 
 -- what the graph of this number is there for: what its filters make of its streams, with one of these cuts behind each output, and to tell
 -- which of the streams is the best one
-abbrev pub told_graph : ℕ → Graph → List StreamHead → List TimeCut → Task
+abbrev pub told_graph : ℕ → Graph → List StreamHead → List OutputCut → Task
 told_graph g text heads cuts = record (graph_task text heads cuts) { tells = best_events g (bases_of_heads heads) }
 
 -- what the options of an output say to its format

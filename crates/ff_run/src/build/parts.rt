@@ -23,6 +23,7 @@ use ff_plan_layout::PlanError;
 use ff_plan_rules::GraphRules;
 use ff_run_plan::{Ends, Kinds};
 use ff_time::TimeCut;
+use ff_trim::OutputCut;
 use ff_words::{Job, OutputJob};
 use std::alloc::{AllocError, Global};
 
@@ -131,7 +132,7 @@ impl<Src: Source + Send + Drop, Snk: Sink + Send + Drop> Kinds<Src, Snk, Part<Sr
         number: u32,
         text: &Graph,
         heads: &[StreamHead],
-        cuts: &[TimeCut],
+        cuts: &[OutputCut],
     ) -> Result<Part<Src, Snk>, AllocError> {
         let Ok(machine) = graph_machine(alloc, text, heads, cuts) else {
             return Err(AllocError);

@@ -1,6 +1,6 @@
 use Rattle.std.proofs.Common.{◌≡◌, ℕ, ◌-◌, List, length, slice_get, slice_index_or, Some, sym, ap, ◌∙◌, subst}
 use Rattle.std.proofs.lemmas.Option.{slice_get-get_or}
-use Rattle.ff_time.specs.declared.cut.TimeCut.{TimeCut}
+use Rattle.ff_trim.specs.declared.counted.OutputCut.{OutputCut}
 use Rattle.ff_words.specs.declared.job.OutputJob.{OutputJob}
 use Rattle.ff_stream.specs.declared.item.Lane.{Lane}
 use Rattle.ff_plan.specs.declared.planned.PlanNode.{PlanNode}
@@ -35,7 +35,7 @@ part_at-requires-clause-as_many g c κs within =
     let cuts : c.deref.result.now ≡ cuts_out_of job.outputs nodes edges k =
     c.deref.ensures.value ∙ (c.in-Ok-cuts_out_of.ensures ∙ ap (λ (os : List OutputJob). cuts_out_of os nodes edges k) c.as_slice-outputs.ensures) in
     let outs : c.deref-3.result.now ≡ lanes_out_of edges k = c.deref-3.ensures.value ∙ c.in-Ok-lanes_out_of.ensures in
-    ap (λ (ts : List TimeCut). length ts) cuts ∙ (as_many_cuts job.outputs nodes edges k ∙ sym (ap (λ (ls : List Lane). length ls) outs))
+    ap (λ (ts : List OutputCut). length ts) cuts ∙ (as_many_cuts job.outputs nodes edges k ∙ sym (ap (λ (ls : List Lane). length ls) outs))
 
 pub part_at-requires-clause-source : goal.part_at-requires-clause-source
 part_at-requires-clause-source g c κs within = λ i e.
@@ -78,5 +78,5 @@ returns-clause-made g c =
     subst (λ (z : PlanNode). IsMade number kept (lanes_into c.args.edges.now k) (lanes_out_of c.args.edges.now k) z (view m)) same
     (subst (λ (ls : List Lane). IsMade number kept ls (lanes_out_of c.args.edges.now k) x (view m)) ins
     (subst (λ (ls : List Lane). IsMade number kept c.deref-2.result.now ls x (view m)) outs
-    (subst (λ (ts : List TimeCut). IsMade number ts c.deref-2.result.now c.deref-3.result.now x (view m)) cuts
+    (subst (λ (ts : List OutputCut). IsMade number ts c.deref-2.result.now c.deref-3.result.now x (view m)) cuts
     (subst (λ (n : ℕ). IsMade n c.deref.result.now c.deref-2.result.now c.deref-3.result.now x (view m)) first part)))))
