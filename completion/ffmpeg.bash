@@ -26,14 +26,14 @@ _ffmpeg_words() {
     -lavfi | -filter_complex) offered="$video ${audio/concat /}" ;;
     -i | -sched_trace | -map | -ss | -t | -to | -thread_queue_size | -selfrun) ;;
     -fflags | -flags | -flags:[av] | -map_metadata | -map_chapters | -metadata | -strict) ;;
-    -threads | -filter_threads | -filter_complex_threads | -max_muxing_queue_size) ;;
+    -threads | -filter_threads | -filter_complex_threads | -max_muxing_queue_size | -frames:v | -vframes) ;;
     *)
       if [[ $word == -* ]]; then
-        offered='-y -hide_banner -nostdin -bitexact -stats -sn -dn -xerror -nostats -loglevel -v'
+        offered='-n -y -hide_banner -nostdin -bitexact -stats -sn -dn -xerror -nostats -loglevel -v'
         offered+=' -fflags -flags -flags:a -flags:v -map_metadata -map_chapters -metadata -strict'
         offered+=' -threads -filter_threads -filter_complex_threads -max_muxing_queue_size -fps_mode -vsync'
         offered+=' -filter_complex -lavfi -thread_queue_size -sched_trace -h -version -selfrun'
-        offered+=' -f -ss -t -to -i -map -c:a -codec:a -acodec -c:v -codec:v -vcodec -vf -filter:v -af -filter:a -vn -an -shortest -hash -rf64'
+        offered+=' -f -ss -t -to -i -map -c:a -codec:a -acodec -c:v -codec:v -vcodec -vf -filter:v -af -filter:a -vn -an -shortest -frames:v -vframes -hash -rf64'
       fi
       ;;
   esac
