@@ -1,7 +1,7 @@
 -- When a cut of audio closes, and that each cut keeps the broken rule.
-use Rattle.std.proofs.Common.{◌≡◌, ℕ, zero, suc, ◌+◌, ◌≤◌, Bool, true, false, cond, Option, Some, None, List, [], ◌∷◌, ◌++◌, map, refl, ap, sym, ◌∙◌, subst, arith}
+use Rattle.std.proofs.Common.{◌≡◌, ℕ, zero, suc, ◌+◌, ◌≤◌, Bool, true, false, cond, Option, Some, List, [], ◌∷◌, ◌++◌, map, refl, ap, ◌∙◌, arith}
 use Rattle.std.specs.List.{AllByRecursion}
-use Rattle.std.specs.Prelude.{◌↔◌, ◌&&◌, ◌==◌, not, is_some, option_map}
+use Rattle.std.specs.Prelude.{◌&&◌, ◌==◌, not, is_some, option_map}
 use Rattle.ff_time.specs.Fraction.{Fraction}
 use Rattle.ff_time.specs.declared.cut.TimeCut.{TimeCut}
 use Rattle.ff_frame.specs.declared.head.Codec.{Codec}
@@ -9,9 +9,9 @@ use Rattle.ff_frame.specs.declared.head.StreamHead.{StreamHead}
 use Rattle.ff_frame.specs.declared.head.StreamHead.TheVariants.{Audio as AudioHead, Video as VideoHead}
 use Rattle.ff_frame.specs.Heads.{base_of_head}
 use Rattle.ff_stream.specs.declared.item.Item.{Item}
-use Rattle.ff_stream.specs.Breaks.{IsBrokenOff, KeepsBrokenRule}
+use Rattle.ff_stream.specs.Breaks.{KeepsBrokenRule}
 use Rattle.ff_stream.specs.Ports.{stream_at}
-use Rattle.ff_stream.specs.Stream.{Mark, whole, broken, whole_stream}
+use Rattle.ff_stream.specs.Stream.{Mark, whole_stream}
 use Rattle.ff_filter.specs.declared.range.Range.{Range}
 use Rattle.ff_filter.specs.Joins.{Flow}
 use Rattle.ff_filter.specs.Shifts.{earlier, shifted}
