@@ -2,7 +2,7 @@
 use crate::quoted::listed;
 use ff_format::FORMATS;
 use ff_frame::Codec;
-use ff_words::{AUDIO_CODECS, Kind, VIDEO_CODECS};
+use ff_words::{AUDIO_CODECS, FRAME_MODES, Kind, SYNC_MODES, VIDEO_CODECS};
 use std::alloc::{AllocError, Global};
 
 /// The formats that an input may have.
@@ -60,8 +60,8 @@ pub(crate) fn named_values(alloc: Global, kind: Kind) -> Result<Vec<&'static str
         Kind::Format => all_formats(alloc),
         Kind::AudioCodec => codecs(alloc, &AUDIO_CODECS),
         Kind::VideoCodec => codecs(alloc, &VIDEO_CODECS),
-        Kind::FrameMode => Vec::from_slice(alloc, &["passthrough"]),
-        Kind::SyncMode => Vec::from_slice(alloc, &["passthrough", "0"]),
+        Kind::FrameMode => Vec::from_slice(alloc, &FRAME_MODES),
+        Kind::SyncMode => Vec::from_slice(alloc, &SYNC_MODES),
         Kind::Hash => Vec::from_slice(alloc, &["SHA256", "MD5"]),
         Kind::Rf64 => Vec::from_slice(alloc, &["never", "auto", "always"]),
         _ => Ok(Vec::new(alloc)),

@@ -107,6 +107,8 @@ pub fn cut_audio_ends_at_its_length()
 /// A cut keeps the broken rule. A broken input counts as open without a further item. The output is broken exactly
 /// where it is broken off: it isn't whole, and however the input goes on, it gets no further item and isn't made whole.
 pub fn cuts_keep_the_broken_rule()
-    ensures { (head : StreamHead) (c : TimeCut)
+    ensures in_time { (head : StreamHead) (c : TimeCut)
         → KeepsBrokenRule (λ (ss : List Flow). Unit {0}) (λ (ss : List Flow). cut head c (stream_at ss 0)) }
+    ensures of_output { (head : StreamHead) (c : OutputCut)
+        → KeepsBrokenRule (λ (ss : List Flow). Unit {0}) (λ (ss : List Flow). output_cut head c (stream_at ss 0)) }
 {}

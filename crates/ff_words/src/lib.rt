@@ -32,4 +32,4 @@ pub use laws::{
 };
 pub use read::read_words;
 pub use read_value::text_of;
-pub use table::{AUDIO_CODECS, Concern, Kind, OPTIONS, VIDEO_CODECS};
+pub use table::{AUDIO_CODECS, Concern, FRAME_MODES, Kind, OPTIONS, SYNC_MODES, VIDEO_CODECS};
