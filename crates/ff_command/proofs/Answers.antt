@@ -24,7 +24,7 @@ use Rattle.ff_files.specs.Ends.{IsFirstRefused, HasNoPlan, CanBeDone}
 use Rattle.ff_command.specs.declared.report.FileRef.{FileRef}
 use Rattle.ff_command.specs.declared.report.Status.{Status}
 use Rattle.ff_command.specs.declared.report.Status.TheVariants as status
-use Rattle.ff_command.specs.Command.{Ask, AskFor, AskSolo, AskGenerated, AsksAlone, AsksText, AsksGenerated, IsText, IsSoloText, IsTold, IsDue, IsOwnAnswer, IsNamed, AreWrong, AreSoundTo, InputsAreSound, OutputsAreSound, over}
+use Rattle.ff_command.specs.Command.{Ask, AskFor, AskSolo, AskGenerated, AsksAlone, AsksText, AsksGenerated, IsText, IsSoloText, IsTold, IsDue, IsOwnAnswer, IsNamed, AreWrong, AreSoundTo, InputsAreSound, OutputsAreSound, IsToldKept, MayWrite, over}
 use Rattle.ff_command.specs.Steps.{IsEndText, wrong_words, Comes, Ran, Answered}
 use Rattle.ff_command.proofs.Generated.{own_none, no-words, no-device, no-memory}
 
@@ -126,11 +126,16 @@ module _ (means : Job → Meaning InputHead PlanError RunFault) where
         too_long = λ node e. inr (job, asks, by (status.TooLong node) e);
         too_large = λ output e. inr (job, asks, by (status.TooLarge output) e);
         device = λ file e. (job, asks, (by (status.Device file) e).1);
-        no_head = λ k w g. r.no_head k w (subst (λ x. IsFirstRefused (over means x) before k w) (back g.0 g.1) g.2.0) (subst (λ x. AreSoundTo ins x k) (back g.0 g.1) g.2.1);
-        no_plan = λ w g. r.no_plan w (subst (λ x. HasNoPlan (over means x) before w) (back g.0 g.1) g.2.0) (subst (λ x. InputsAreSound ins x) (back g.0 g.1) g.2.1);
+        kept = λ file g. r.kept file (subst (λ x. IsToldKept x before file) (back g.0 g.1) g.2);
+        no_head = λ k w g.
+            r.no_head (subst (λ x. MayWrite x before) (back g.0 g.1) g.2.0) k w (subst (λ x. IsFirstRefused (over means x) before k w) (back g.0 g.1) g.2.1)
+            (subst (λ x. AreSoundTo ins x k) (back g.0 g.1) g.2.2);
+        no_plan = λ w g.
+            r.no_plan (subst (λ x. MayWrite x before) (back g.0 g.1) g.2.0) w (subst (λ x. HasNoPlan (over means x) before w) (back g.0 g.1) g.2.1)
+            (subst (λ x. InputsAreSound ins x) (back g.0 g.1) g.2.2);
         complete = λ g.
-            r.complete (subst (λ x. CanBeDone (over means x) before) (back g.0 g.1) g.2.0) (subst (λ x. InputsAreSound ins x) (back g.0 g.1) g.2.1)
-            (subst (λ x. OutputsAreSound outs x) (back g.0 g.1) g.2.2);
+            r.complete (subst (λ x. MayWrite x before) (back g.0 g.1) g.2.0) (subst (λ x. CanBeDone (over means x) before) (back g.0 g.1) g.2.1)
+            (subst (λ x. InputsAreSound ins x) (back g.0 g.1) g.2.2) (subst (λ x. OutputsAreSound outs x) (back g.0 g.1) g.2.3);
         in_counts = inr (job, asks, r.in_counts);
         out_counts = inr (job, asks, r.out_counts);
       }
@@ -153,6 +158,7 @@ module _ (means : Job → Meaning InputHead PlanError RunFault) where
           damaged = λ k offset e. absurd cc;
           too_long = λ node e. absurd cc;
           too_large = λ output e. absurd cc;
+          kept = λ file g. absurd (not-both words g.0 (wrong_at place kind) g.1 wrong);
           device = λ file e. absurd cc;
           no_head = λ k w g. absurd (not-both words g.0 (wrong_at place kind) g.1 wrong);
           no_plan = λ w g. absurd (not-both words g.0 (wrong_at place kind) g.1 wrong);
@@ -178,6 +184,7 @@ module _ (means : Job → Meaning InputHead PlanError RunFault) where
           damaged = λ k offset e. absurd cc;
           too_long = λ node e. absurd cc;
           too_large = λ output e. absurd cc;
+          kept = λ file g. absurd (not-alone words g.0 g.1 asks);
           device = λ file e. absurd cc;
           no_head = λ k w g. absurd (not-alone words g.0 g.1 asks);
           no_plan = λ w g. absurd (not-alone words g.0 g.1 asks);
@@ -202,6 +209,7 @@ module _ (means : Job → Meaning InputHead PlanError RunFault) where
           damaged = λ k offset e. absurd cc;
           too_long = λ node e. absurd cc;
           too_large = λ output e. absurd cc;
+          kept = λ file g. (keeps-same files, inr refl);
           device = λ file e. absurd cc;
           no_head = λ k w g. inr refl;
           no_plan = λ w g. inr refl;
@@ -233,6 +241,7 @@ module _ (means : Job → Meaning InputHead PlanError RunFault) where
           damaged = λ k offset e. inl asks;
           too_long = λ node e. inl asks;
           too_large = λ output e. inl asks;
+          kept = λ file g. absurd (not-alone words g.0 g.1 alone);
           device = λ file e. absurd (sound file e);
           no_head = λ k w g. absurd (not-alone words g.0 g.1 alone);
           no_plan = λ w g. absurd (not-alone words g.0 g.1 alone);

@@ -1,5 +1,5 @@
 -- How a job ends, as its status says, by how the work over its files ends.
-use Rattle.std.proofs.Common.{◌≡◌, ◌≢◌, ◌⊎◌, inl, inr, ℕ, zero, suc, ◌<◌, ◌≤◌, Bool, true, false, if◌then◌else◌, nat_lt, List, [], ◌∷◌, ◌++◌, length, Option, Some, None, IsSome, IfSome, refl, sym, ap, subst, ◌∙◌, arith}
+use Rattle.std.proofs.Common.{◌≡◌, ◌≢◌, ◌⊎◌, inl, inr, ℕ, zero, suc, ◌<◌, ◌≤◌, Bool, true, false, if◌then◌else◌, nat_lt, List, [], ◌∷◌, ◌++◌, length, Option, Some, None, IsSome, IfSome, IsTrue, refl, sym, ap, subst, ◌∙◌, arith}
 use Rattle.std.proofs.lemmas.Bool.Decides.{nat_tests}
 use Rattle.std.specs.Prelude.{option_to_list, unwrap_or}
 use Rattle.ff_frame.specs.declared.event.Event.{Event}
@@ -17,6 +17,7 @@ use Rattle.ff_plan_layout.specs.declared.error.PlanError.TheVariants as why
 use Rattle.ff_run_plan.specs.declared.fault.RunFault.{RunFault}
 use Rattle.ff_run_plan.specs.declared.fault.RunFault.TheVariants as run_fault
 use Rattle.ff_files.specs.Names.{name_at, names_of, KeepsAllBut}
+use Rattle.ff_files.specs.There.{AreFree, IsFirstThere}
 use Rattle.ff_files.specs.Counts.{Counts, Faulted, KeepsCounts}
 use Rattle.ff_input.specs.Formats.{input_head}
 use Rattle.ff_files.specs.Works.{Meaning, Command, HoldMeaning, HoldTrace, HoldWritten}
@@ -25,13 +26,15 @@ use Rattle.ff_files.specs.Ends.{Ends, IsPlanned, IsFirstRefused, HasNoPlan, CanB
 use Rattle.ff_files.specs.declared.end.RunEnd.{RunEnd}
 use Rattle.ff_files.specs.declared.end.RunEnd.TheVariants as run_end
 use Rattle.ff_files.proofs.Lists.{names_len}
+use Rattle.ff_files.proofs.Steps.{files_same}
 use Rattle.ff_words.specs.Words.{written}
 use Rattle.ff_command.specs.declared.report.FileRef.{FileRef}
+use Rattle.ff_command.specs.declared.report.FileRef.TheVariants as FileRefs
 use Rattle.ff_command.specs.declared.report.FileRef.TheVariants.{Output, Trace}
 use Rattle.ff_command.specs.declared.report.Status.{Status}
 use Rattle.ff_command.specs.declared.report.Status.TheVariants as status
-use Rattle.ff_command.specs.Command.{input_names, output_names, HasFile, HasFailed, HoldsPrinted, ComesBeforeOutputs, refused_head, refused_plan, over, KeepsInputs, KeepsOutputs}
-use Rattle.ff_command.specs.Steps.{written_file, status_of, Comes, Ran}
+use Rattle.ff_command.specs.Command.{input_names, output_names, HasFile, HasFailed, HoldsPrinted, ComesBeforeOutputs, IsKept, IsToldKept, MayWrite, refused_head, refused_plan, over, KeepsInputs, KeepsOutputs}
+use Rattle.ff_command.specs.Steps.{written_file, status_of, Comes, IsFree, Ran}
 
 abbrev End : Type 0
 End = RunEnd PlanError RunFault
@@ -88,6 +91,64 @@ trace-name [] (Some t) (suc o) le lt = absurd (omega (arith, lt))
 trace-name (n ∷ ns) trace zero le lt = absurd (omega (arith, le))
 trace-name (n ∷ ns) trace (suc o) le lt = trace-name ns trace o (omega (arith, le)) (omega (arith, lt))
 
+-- and the place of the trace is the one behind those of the outputs
+trace-place : (names : List (List ℕ)) (trace : Option (List ℕ)) (o : ℕ) → length names ≤ o → o < length (names ++ option_to_list trace) → o ≡ length names
+trace-place [] None o le lt = absurd (omega (arith, lt))
+trace-place [] (Some t) zero le lt = refl
+trace-place [] (Some t) (suc o) le lt = absurd (omega (arith, lt))
+trace-place (n ∷ ns) trace zero le lt = absurd (omega (arith, le))
+trace-place (n ∷ ns) trace (suc o) le lt = ap suc (trace-place ns trace o (omega (arith, le)) (omega (arith, lt)))
+
+-- ---- what is there, and is kept
+
+not-both : (b : Bool) → IsTrue b → b ≡ false → ⊥
+not-both true is e = cc
+not-both false is e = cc
+
+not-there : (file : Option (List ℕ)) → IsSome file → file ≡ None → ⊥
+not-there None there none = cc
+not-there (Some bytes) there none = cc
+
+-- a job without a file that it keeps keeps none
+not-kept : (job : Job) (files : Option Files) (file : FileRef) → IsFree job files → IsToldKept job files file → ⊥
+not-kept job None file free kept = kept
+not-kept job (Some files) (FileRefs.Input i) free kept = kept
+not-kept job (Some files) (Output o) (inl no) kept = not-both job.keeps kept.0 no
+not-kept job (Some files) (Output o) (inr free) kept = not-there (files (name_at (written job) o)) kept.2.there (free o kept.2.named)
+not-kept job (Some files) Trace (inl no) kept = not-both job.keeps kept.0 no
+not-kept job (Some files) Trace (inr free) kept =
+    not-there (files (name_at (written job) (length job.outputs))) kept.1.there (free (length job.outputs) kept.1.named)
+
+-- where it keeps one it may not write
+may-not : (job : Job) (files : Option Files) (k : ℕ) → IsTrue job.keeps → IsFirstThere files (written job) k → MayWrite job files → ⊥
+may-not job None k keeps first no = not-both job.keeps keeps no
+may-not job (Some files) k keeps first (inl no) = not-both job.keeps keeps no
+may-not job (Some files) k keeps first (inr free) = not-there (files (name_at (written job) k)) first.there (free k first.named)
+
+-- and there is one first
+first-one : (files : Files) (names : List (List ℕ)) (j k : ℕ) → IsFirstThere (Some files) names j → IsFirstThere (Some files) names k → j ≡ k
+first-one files names j k a b = by-test (nat_lt j k) (nat_lt k j) refl refl
+  where
+    by-test : (less more : Bool) → nat_lt j k ≡ less → nat_lt k j ≡ more → j ≡ k
+    by-test true more e f = absurd (not-there (files (name_at names j)) a.there (b.before j (grind (arith, nat_tests, e))))
+    by-test false true e f = absurd (not-there (files (name_at names k)) b.there (a.before k (grind (arith, nat_tests, f))))
+    by-test false false e f = grind (arith, nat_tests, e, f)
+
+is-output : (count o : ℕ) → o < count → written_file count o ≡ Output o
+is-output count o lt = by-file (λ file. file ≡ Output o) o count (λ l. refl) (λ le. absurd (omega (arith, lt, le)))
+
+is-trace : (count : ℕ) → written_file count count ≡ Trace
+is-trace count = by-file (λ file. file ≡ Trace) count count (λ l. absurd (omega (arith, l))) (λ le. refl)
+
+-- of files that are told it is this one
+kept-one : (job : Job) (files : Option Files) (k : ℕ) (file : FileRef) → IsFirstThere files (written job) k → IsToldKept job files file → written_file (length job.outputs) k ≡ file
+kept-one job None k file first kept = absurd kept
+kept-one job (Some files) k (FileRefs.Input i) first kept = absurd kept
+kept-one job (Some files) k (Output o) first kept =
+    subst (λ n. written_file (length job.outputs) n ≡ Output o) (first-one files (written job) o k kept.2 first) (is-output (length job.outputs) o kept.1)
+kept-one job (Some files) k Trace first kept =
+    subst (λ n. written_file (length job.outputs) n ≡ Trace) (first-one files (written job) (length job.outputs) k kept.1 first) (is-trace (length job.outputs))
+
 module _ (means : Job → Meaning InputHead PlanError RunFault) (job : Job) (before after : Option Files) (ins outs : Counts) where
   abbrev pub with : List InputJob → List (List ℕ) → ℕ → Command InputJob InputHead PlanError RunFault
   with inputs names count =
@@ -130,10 +191,10 @@ module _ (means : Job → Meaning InputHead PlanError RunFault) (job : Job) (bef
   file-failed o f planned = by-file (λ file. HasFile job file × HasFailed means job before ins outs file) o count
       (λ lt.
       let own = front-name (output_names job) (option_to_list job.trace) o (subst (λ n. o < n) (sym (names_len (λ (x : OutputJob). x.name) job.outputs)) lt) in
-      (lt, ((subst (λ n. o < n) (sym (names_len (λ (x : OutputJob). x.name) job.outputs)) lt, subst (λ name. Rose (outs.before name) (outs.after name)) own f.1), planned)))
+      (lt, inr ((subst (λ n. o < n) (sym (names_len (λ (x : OutputJob). x.name) job.outputs)) lt, subst (λ name. Rose (outs.before name) (outs.after name)) own f.1), planned)))
       (λ le.
       let last = trace-name (output_names job) job.trace o (subst (λ n. n ≤ o) (sym (names_len (λ (x : OutputJob). x.name) job.outputs)) le) f.0 in
-      (last.0, (subst (λ name. Rose (outs.before name) (outs.after name)) last.1 f.1, planned)))
+      (last.0, inr (subst (λ name. Rose (outs.before name) (outs.after name)) last.1 f.1, planned)))
 
   comes-plan : (w : PlanError) → ends.IsPlanRefused (over means job) before w → Comes means job before after ins outs (refused_plan w)
   comes-plan (why.NoStream output map) h = h
@@ -230,8 +291,8 @@ module _ (means : Job → Meaning InputHead PlanError RunFault) (job : Job) (bef
   no-head end k (fault.Damaged offset) h = either end (run_end.Damaged k offset) run_end.NoMemory h
   no-head end k (fault.Unsupported offset) h = either end (run_end.Unsupported k offset) run_end.NoMemory h
 
-  ran-as : (end : End) → Ended end → Ran means job before after ins outs (status_of count end)
-  ran-as end e =
+  ran-as : IsFree job before → (end : End) → Ended end → Ran means job before after ins outs (status_of count end)
+  ran-as free end e =
       record {
         bytes = bytes end e;
         front = e.front;
@@ -239,18 +300,19 @@ module _ (means : Job → Meaning InputHead PlanError RunFault) (job : Job) (bef
         untouched = untouched end e;
         comes = comes end e;
         plan_memory = plan-memory end;
-        no_head = λ k w first sound. no-head end k w (e.refused k w first sound);
-        no_plan = λ w none sound. either end (run_end.Refused w) run_end.NoMemory (e.no_plan w none sound);
-        complete = λ can sound_ins sound_outs. either end run_end.Fine run_end.NoMemory (e.complete can sound_ins sound_outs);
+        kept = λ file kept. absurd (not-kept job before file free kept);
+        no_head = λ may k w first sound. no-head end k w (e.refused k w first sound);
+        no_plan = λ may w none sound. either end (run_end.Refused w) run_end.NoMemory (e.no_plan w none sound);
+        complete = λ may can sound_ins sound_outs. either end run_end.Fine run_end.NoMemory (e.complete can sound_ins sound_outs);
         in_counts = in-counts end e;
         out_counts = out-counts end e;
       }
 
-  pub ran : (end : End) (answer : Status) (inputs : List InputJob) (names : List (List ℕ)) (n : ℕ) → answer ≡ status_of n end → inputs ≡ job.inputs → names ≡ written job → n ≡ length job.outputs
+  pub ran : IsFree job before → (end : End) (answer : Status) (inputs : List InputJob) (names : List (List ℕ)) (n : ℕ) → answer ≡ status_of n end → inputs ≡ job.inputs → names ≡ written job → n ≡ length job.outputs
       → EndedOver inputs names n end → Ran means job before after ins outs answer
-  ran end answer inputs names n is these those many e =
+  ran free end answer inputs names n is these those many e =
       subst (Ran means job before after ins outs) (sym (is ∙ ap (λ m. status_of m end) many))
-      (ran-as end (subst (λ xs. EndedOver xs (written job) count end) these (subst (λ ys. EndedOver inputs ys count end) those (subst (λ m. EndedOver inputs names m end) many e))))
+      (ran-as free end (subst (λ xs. EndedOver xs (written job) count end) these (subst (λ ys. EndedOver inputs ys count end) those (subst (λ m. EndedOver inputs names m end) many e))))
 
   -- what is so of the command over these files is so of the job's
   pub over-same : (P : Command InputJob InputHead PlanError RunFault → Type 0) (inputs : List InputJob) (names : List (List ℕ)) (n : ℕ) → inputs ≡ job.inputs → names ≡ written job → n ≡ length job.outputs
@@ -291,27 +353,61 @@ module _ (means : Job → Meaning InputHead PlanError RunFault) (job : Job) (bef
       by-files (Some b) None h = tt
       by-files (Some b) (Some a) h = by-trace b a job.trace refl h
 
--- of a job of which nothing was done for want of memory
+-- nothing was done
+front-same : (means : Job → Meaning InputHead PlanError RunFault) (job : Job) (files : Option Files) → HoldWritten (over means job) files files
+front-same means job None = tt
+front-same means job (Some files) = λ j lt. inl refl
+
+others-same : (job : Job) (files : Option Files) → KeepsAllBut files files (written job) (length (written job))
+others-same job None = tt
+others-same job (Some files) = λ other h. refl
+
+-- for want of memory
 pub ran-none : (means : Job → Meaning InputHead PlanError RunFault) (job : Job) (files : Option Files) (ins outs : List ℕ → ℕ)
     → Ran means job files files (record { before = ins; after = ins }) (record { before = outs; after = outs }) status.NoMemory
 ran-none means job files ins outs = record {
   bytes = λ e. absurd cc;
-  front = same files;
-  others = but files;
+  front = front-same means job files;
+  others = others-same job files;
   untouched = λ h. absurd h;
   comes = tt;
   plan_memory = λ e. cc;
-  no_head = λ k w first sound. inr refl;
-  no_plan = λ w none sound. inr refl;
-  complete = λ can sound_ins sound_outs. inr refl;
+  kept = λ file kept. (files_same files, inr refl);
+  no_head = λ may k w first sound. inr refl;
+  no_plan = λ may w none sound. inr refl;
+  complete = λ may can sound_ins sound_outs. inr refl;
   in_counts = λ name below. refl;
   out_counts = λ name below. refl;
 }
-  where
-    same : (f : Option Files) → HoldWritten (over means job) f f
-    same None = tt
-    same (Some f) = λ j lt. inl refl
 
-    but : (f : Option Files) → KeepsAllBut f f (written job) (length (written job))
-    but None = tt
-    but (Some f) = λ other h. refl
+-- since it keeps a file that is there
+pub ran-kept : (means : Job → Meaning InputHead PlanError RunFault) (job : Job) (files : Option Files) (ins outs : List ℕ → ℕ) (k : ℕ) → IsTrue job.keeps → IsFirstThere files (written job) k
+    → Ran means job files files (record { before = ins; after = ins }) (record { before = outs; after = outs }) (status.Device (written_file (length job.outputs) k))
+ran-kept means job files ins outs k keeps first = record {
+  bytes = λ e. absurd cc;
+  front = front-same means job files;
+  others = others-same job files;
+  untouched = λ h. absurd h;
+  comes = by-file (λ file. HasFile job file × HasFailed means job files read written_counts file) k (length job.outputs) (λ lt. (lt, inl (keeps, lt, first)))
+  (λ le.
+  let names = output_names job in
+  let many = names_len (λ (x : OutputJob). x.name) job.outputs in
+  let below = subst (λ n. n ≤ k) (sym many) le in
+  (
+    (trace-name names job.trace k below first.named).0,
+    inl (keeps, subst (IsFirstThere files (written job)) (trace-place names job.trace k below first.named ∙ many) first),
+  ));
+  plan_memory = λ e. cc;
+  kept = λ file kept. (files_same files, inl (ap (λ f. status.Device f) (kept-one job files k file first kept)));
+  no_head = λ may j w none sound. absurd (may-not job files k keeps first may);
+  no_plan = λ may w none sound. absurd (may-not job files k keeps first may);
+  complete = λ may can sound_ins sound_outs. absurd (may-not job files k keeps first may);
+  in_counts = by-file (λ file. KeepsInputs means job files read (status.Device file)) k (length job.outputs) (λ lt n. refl) (λ le n. refl);
+  out_counts = λ name below. refl;
+}
+  where
+    abbrev read : Counts
+    read = record { before = ins; after = ins }
+
+    abbrev written_counts : Counts
+    written_counts = record { before = outs; after = outs }

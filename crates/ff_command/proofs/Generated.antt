@@ -1,5 +1,5 @@
 -- The run over generated input answers as its one job over its own files.
-use Rattle.std.proofs.Common.{◌≡◌, ◌≢◌, ◌⊎◌, inl, inr, ℕ, List, [], ◌∷◌, Option, Some, None, IsSome, IfSome, IfOk, Vec, Global, Result, Ok, refl, sym, ap, subst, ◌∙◌, arith}
+use Rattle.std.proofs.Common.{◌≡◌, ◌≢◌, ◌⊎◌, inl, inr, ℕ, Bool, true, false, List, [], ◌∷◌, Option, Some, None, IsSome, IsTrue, IfSome, IfOk, Vec, Global, Result, Ok, refl, sym, ap, subst, ◌∙◌, arith}
 use Rattle.std.specs.Prelude.{codes}
 use Rattle.ff_host.specs.Causes.{Rose}
 use Rattle.ff_host.specs.Files.{Files}
@@ -37,6 +37,10 @@ own-one job other a b = (let same : (let x : Result Command Fault = Ok (Run job)
 abbrev pub quiet : Counts
 quiet = record { before = λ name. 0; after = λ name. 0 }
 
+not-kept : (b : Bool) → IsTrue b → b ≡ false → ⊥
+not-kept true is e = cc
+not-kept false is e = cc
+
 never-rose : Rose 0 0 → ⊥
 never-rose h = omega (arith, h)
 
@@ -50,34 +54,41 @@ text_told {E} Is made None answer is h = tt
 text_told {E} Is made (Some text) answer is h = (subst (λ r. IfOk r (λ t. Is t.items)) h.0 is, h.1)
 
 module _ (means : Job → Meaning InputHead PlanError RunFault) where
-  comes-of : (job : Job) (files after : Files) (answer : Status) → IsBounded job → Ran means job (Some files) (Some after) quiet quiet answer → ComesOf means job files answer
-  comes-of job files after status.Fine bounded r = (r.bytes refl 0 (omega (arith, bounded.some_outputs))).0
-  comes-of job files after (status.Words place kind) bounded r = r.comes
-  comes-of job files after (status.Plan why) bounded r = (λ e. r.plan_memory (ap (λ w. status.Plan w) e), r.comes)
-  comes-of job files after (status.Device (Input i)) bounded r = never-rose r.comes.1.0.1
-  comes-of job files after (status.Device (Output o)) bounded r = never-rose r.comes.1.0.1
-  comes-of job files after (status.Device Trace) bounded r = never-rose r.comes.1.0
-  comes-of job files after (status.Damaged k offset) bounded r = elim r.comes [
+  comes-of : (job : Job) (files after : Files) (answer : Status) → job.keeps ≡ false → IsBounded job → Ran means job (Some files) (Some after) quiet quiet answer → ComesOf means job files answer
+  comes-of job files after status.Fine free bounded r = (r.bytes refl 0 (omega (arith, bounded.some_outputs))).0
+  comes-of job files after (status.Words place kind) free bounded r = r.comes
+  comes-of job files after (status.Plan why) free bounded r = (λ e. r.plan_memory (ap (λ w. status.Plan w) e), r.comes)
+  comes-of job files after (status.Device (Input i)) free bounded r = never-rose r.comes.1.0.1
+  comes-of job files after (status.Device (Output o)) free bounded r = elim r.comes.1 [
+    | inl kept ↦ not-kept job.keeps kept.0 free
+    | inr failed ↦ never-rose failed.0.1
+  ]
+  comes-of job files after (status.Device Trace) free bounded r = elim r.comes.1 [
+    | inl kept ↦ not-kept job.keeps kept.0 free
+    | inr failed ↦ never-rose failed.0
+  ]
+  comes-of job files after (status.Damaged k offset) free bounded r = elim r.comes [
     | inl head ↦ inl head.0
     | inr run ↦ inr run
   ]
-  comes-of job files after (status.TooLong node) bounded r = r.comes
-  comes-of job files after (status.Unsupported k offset) bounded r = r.comes
-  comes-of job files after (status.TooLarge output) bounded r = r.comes
-  comes-of job files after status.NoMemory bounded r = tt
+  comes-of job files after (status.TooLong node) free bounded r = r.comes
+  comes-of job files after (status.Unsupported k offset) free bounded r = r.comes
+  comes-of job files after (status.TooLarge output) free bounded r = r.comes
+  comes-of job files after status.NoMemory free bounded r = tt
 
   pub own_ran : (seconds : ℕ) (job : Job) (files after : Files) (answer : Status) → IsOwnJob job → IsBounded job → files ≡ own_files seconds
       → Ran means job (Some files) (Some after) quiet quiet answer → IsOwnAnswer means seconds answer
   own_ran seconds job files after answer own bounded is ran =
       let r = subst (λ f. Ran means job (Some f) (Some after) quiet quiet answer) is ran in
+      let free : job.keeps ≡ false = ap (λ (j : Job). j.keeps) (own-one job own_job own own-read) in
       record {
-        comes = (job, own, comes-of job (own_files seconds) after answer bounded r);
+        comes = (job, own, comes-of job (own_files seconds) after answer free bounded r);
         refused = λ k why g.
-            r.no_head k why (subst (λ j. IsFirstRefused (over means j) (Some (own_files seconds)) k why) (own-one g.0 job g.1 own) g.2) (λ i low failed. never-rose failed.1);
+            r.no_head (inl free) k why (subst (λ j. IsFirstRefused (over means j) (Some (own_files seconds)) k why) (own-one g.0 job g.1 own) g.2) (λ i low failed. never-rose failed.1);
         no_plan = λ why g.
-            r.no_plan why (subst (λ j. HasNoPlan (over means j) (Some (own_files seconds)) why) (own-one g.0 job g.1 own) g.2) (λ i failed. never-rose failed.1);
+            r.no_plan (inl free) why (subst (λ j. HasNoPlan (over means j) (Some (own_files seconds)) why) (own-one g.0 job g.1 own) g.2) (λ i failed. never-rose failed.1);
         complete = λ g.
-            r.complete (subst (λ j. CanBeDone (over means j) (Some (own_files seconds))) (own-one g.0 job g.1 own) g.2) (λ i failed. never-rose failed.1) (λ o failed. never-rose failed.1);
+            r.complete (inl free) (subst (λ j. CanBeDone (over means j) (Some (own_files seconds))) (own-one g.0 job g.1 own) g.2) (λ i failed. never-rose failed.1) (λ o failed. never-rose failed.1);
       }
 
   pub own_none : (seconds : ℕ) (answer : Status) → answer ≡ status.NoMemory → IsOwnAnswer means seconds answer

@@ -1,7 +1,7 @@
 -- What a command means, when each of its answers comes, and what stands then. `before` and `after` are the files that the host
 -- tells, before and after the call; `ins` and `outs` are its counts of faults of reading and of writing by name, at both moments.
 -- Where the files aren't told, a conclusion on them claims nothing, and a premise on them isn't met.
-use Rattle.std.specs.Prelude.{◌≡◌, ◌≢◌, ◌⊎◌, ⊤, ℕ, ◌<◌, ◌≤◌, List, [], length, Option, Some, IsSome, IfSome, unwrap_or, Ok, Err}
+use Rattle.std.specs.Prelude.{◌≡◌, ◌≢◌, ◌⊎◌, ⊤, ℕ, ◌<◌, ◌≤◌, false, IsTrue, List, [], length, Option, Some, None, IsSome, IfSome, unwrap_or, Ok, Err}
 use Rattle.ff_host.specs.Causes.{Rose, SameCounts}
 use Rattle.ff_host.specs.Files.{Files, KeepsFiles}
 use Rattle.ff_reader.specs.declared.fault.HeadFault.{HeadFault}
@@ -22,6 +22,7 @@ use Rattle.ff_plan_layout.specs.declared.error.PlanError.TheVariants as why
 use Rattle.ff_run_plan.specs.declared.fault.RunFault.{RunFault}
 use Rattle.ff_run_plan.specs.declared.fault.RunFault.TheVariants as run_fault
 use Rattle.ff_files.specs.Names.{name_at, names_of, KeepsAllBut}
+use Rattle.ff_files.specs.There.{AreFree, IsFirstThere}
 use Rattle.ff_files.specs.Counts.{Counts, Faulted, KeepsCounts}
 use Rattle.ff_files.specs.Heads.{HaveHeads, IsRefused}
 use Rattle.ff_files.specs.Works.{Meaning, Command, AreHeadsIn, HoldMeaning, HoldWritten, told_bytes, meaning}
@@ -104,6 +105,28 @@ file_name job Trace = unwrap_or job.trace []
 abbrev pub IsNamed : List (List ℕ) → Status → List ℕ → Type 0
 IsNamed words (status.Device file) name = AskFor words (λ job. HasFile job file × (name ≡ file_name job file))
 IsNamed words _ name = ⊤
+
+-- ---- what is there, and is kept
+
+-- the job keeps what is there, and of what it writes this is the first that is there: the outputs by number, then the trace
+abbrev pub IsKept : Job → Option Files → FileRef → Type 0
+IsKept job before (Input i) = ⊥
+IsKept job before (Output o) = IsTrue job.keeps × (o < length job.outputs) × IsFirstThere before (written job) o
+IsKept job before Trace = IsTrue job.keeps × IsFirstThere before (written job) (length job.outputs)
+
+-- the same of files that are told
+abbrev pub IsToldKept : Job → Option Files → FileRef → Type 0
+IsToldKept job None file = ⊥
+IsToldKept job (Some before) file = IsKept job (Some before) file
+
+-- the job may replace what is there, or the files are told and nothing that it writes is there
+abbrev pub MayWrite : Job → Option Files → Type 0
+MayWrite job None = job.keeps ≡ false
+MayWrite job (Some before) = (job.keeps ≡ false) ⊎ AreFree (Some before) (written job) (length (written job))
+
+-- of the words' job this file is kept, of files that are told
+abbrev pub KeepsThere : List (List ℕ) → Option Files → FileRef → Type 0
+KeepsThere words before file = AskFor words (λ job. IsToldKept job before file)
 
 -- ---- what stands, whatever a job means
 
@@ -229,23 +252,26 @@ module _ (means : Job → Meaning InputHead PlanError RunFault) where
   abbrev pub IsTooLong : Job → Option Files → ℕ → Type 0
   IsTooLong job before node = (count : ℕ) × IsBroken (over job) before (run_fault.TooLong node count)
 
-  -- reading this input failed, behind inputs that all have heads; or writing this output or the trace, of a job that has a plan
+  -- reading this input failed, behind inputs that all have heads; or writing this output or the trace, of a job that has a plan; or
+  -- it is there, and the job keeps it
   abbrev pub HasFailed : Job → Option Files → Counts → Counts → FileRef → Type 0
   HasFailed job before ins outs (Input i) = Faulted ins (input_names job) i × HaveHeads (over job).name (over job).head before job.inputs i
-  HasFailed job before ins outs (Output o) = Faulted outs (output_names job) o × IsPlanned (over job) before
-  HasFailed job before ins outs Trace = Rose (outs.before (file_name job Trace)) (outs.after (file_name job Trace)) × IsPlanned (over job) before
+  HasFailed job before ins outs (Output o) = IsKept job before (Output o) ⊎ (Faulted outs (output_names job) o × IsPlanned (over job) before)
+  HasFailed job before ins outs Trace =
+      IsKept job before Trace ⊎ (Rose (outs.before (file_name job Trace)) (outs.after (file_name job Trace)) × IsPlanned (over job) before)
 
-  -- Of the words' job, files that are told have a head that is refused so, and no input up to it has failed.
+  -- Of the words' job, which may write, files that are told have a head that is refused so, and no input up to it has failed.
   abbrev pub GivesNoHead : List (List ℕ) → Option Files → Counts → ℕ → HeadFault → Type 0
-  GivesNoHead words before ins k why = AskFor words (λ job. IsFirstRefused (over job) before k why × AreSoundTo ins job k)
+  GivesNoHead words before ins k why = AskFor words (λ job. MayWrite job before × IsFirstRefused (over job) before k why × AreSoundTo ins job k)
 
-  -- Of the words' job, files that are told have heads and no plan, for this reason, and no input has failed.
+  -- Of the words' job, which may write, files that are told have heads and no plan, for this reason, and no input has failed.
   abbrev pub GivesNoPlan : List (List ℕ) → Option Files → Counts → PlanError → Type 0
-  GivesNoPlan words before ins why = AskFor words (λ job. HasNoPlan (over job) before why × InputsAreSound ins job)
+  GivesNoPlan words before ins why = AskFor words (λ job. MayWrite job before × HasNoPlan (over job) before why × InputsAreSound ins job)
 
-  -- Of the words' job, files that are told have heads and a plan and nothing that breaks the run, and no file has failed.
+  -- Of the words' job, which may write, files that are told have heads and a plan and nothing that breaks the run, and no file has
+  -- failed.
   abbrev pub GivesAll : List (List ℕ) → Option Files → Counts → Counts → Type 0
-  GivesAll words before ins outs = AskFor words (λ job. CanBeDone (over job) before × InputsAreSound ins job × OutputsAreSound outs job)
+  GivesAll words before ins outs = AskFor words (λ job. MayWrite job before × CanBeDone (over job) before × InputsAreSound ins job × OutputsAreSound outs job)
 
   -- ---- which counts of faults are what they were
 

@@ -1,5 +1,5 @@
 -- What a job's run leaves, and what the words' run does, each as one record.
-use Rattle.std.specs.Prelude.{◌≡◌, ◌≢◌, ◌⊎◌, ℕ, List, length, Option, Some, None, nat_lt, if◌then◌else◌}
+use Rattle.std.specs.Prelude.{◌≡◌, ◌≢◌, ◌⊎◌, ℕ, false, List, length, Option, Some, None, nat_lt, if◌then◌else◌}
 use Rattle.std.specs.List.{All}
 use Rattle.std.specs.Prelude.{Vec}
 use Rattle.std.specs.Global.{Global}
@@ -20,6 +20,7 @@ use Rattle.ff_plan_layout.specs.declared.error.PlanError.TheVariants as why
 use Rattle.ff_run_plan.specs.declared.fault.RunFault.{RunFault}
 use Rattle.ff_run_plan.specs.declared.fault.RunFault.TheVariants as run_fault
 use Rattle.ff_files.specs.Names.{KeepsAllBut}
+use Rattle.ff_files.specs.There.{AreFree}
 use Rattle.ff_files.specs.Counts.{Counts}
 use Rattle.ff_files.specs.Outputs.{CreatesOutputs}
 use Rattle.ff_files.specs.Works.{Meaning, HoldMeaning, HoldWritten}
@@ -32,7 +33,7 @@ use Rattle.ff_command.specs.declared.report.Status.{Status}
 use Rattle.ff_command.specs.declared.report.Status.TheVariants as status
 use Rattle.ff_command.specs.Texts.{fault_text}
 use Rattle.ff_command.specs.Command.{AskFor, AsksAlone, AsksText, AsksGenerated, AreWrong, KeepsOtherFiles, ComesBeforeOutputs, AreSoundTo}
-use Rattle.ff_command.specs.Command.{InputsAreSound, OutputsAreSound, refused_head, refused_plan, over, HoldsMeaning, HoldsFront, IsHeadRefused}
+use Rattle.ff_command.specs.Command.{InputsAreSound, OutputsAreSound, MayWrite, IsToldKept, KeepsThere, refused_head, refused_plan, over, HoldsMeaning, HoldsFront, IsHeadRefused}
 use Rattle.ff_command.specs.Command.{IsDamaged, IsTooLong, HasFailed, HasFile, GivesNoHead, GivesNoPlan, GivesAll, KeepsInputs, KeepsOutputs}
 use Rattle.ff_command.specs.Command.{KeepsInputCounts, KeepsOutputCounts}
 
@@ -88,6 +89,10 @@ abbrev pub IsOfJob : Option Job → FileRef → Type 0
 IsOfJob None file = ⊥
 IsOfJob (Some job) file = HasFile job file
 
+-- the job may replace what is there, or nothing that it writes is there, where that is told
+abbrev pub IsFree : Job → Option Files → Type 0
+IsFree job before = (job.keeps ≡ false) ⊎ AreFree before (written job) (length (written job))
+
 module _ (means : Job → Meaning InputHead PlanError RunFault) where
   -- when each status of a job comes
   abbrev pub Comes : Job → Option Files → Option Files → Counts → Counts → Status → Type 0
@@ -109,9 +114,10 @@ module _ (means : Job → Meaning InputHead PlanError RunFault) where
     pub untouched : ComesBeforeOutputs answer → KeepsFiles before after
     pub comes : Comes job before after ins outs answer
     pub plan_memory : answer ≢ status.Plan why.NoMemory
-    pub no_head : (k : ℕ) (why : HeadFault) → IsFirstRefused (over means job) before k why → AreSoundTo ins job k → (answer ≡ refused_head k why) ⊎ (answer ≡ status.NoMemory)
-    pub no_plan : (why : PlanError) → HasNoPlan (over means job) before why → InputsAreSound ins job → (answer ≡ refused_plan why) ⊎ (answer ≡ status.NoMemory)
-    pub complete : CanBeDone (over means job) before → InputsAreSound ins job → OutputsAreSound outs job → (answer ≡ status.Fine) ⊎ (answer ≡ status.NoMemory)
+    pub kept : (file : FileRef) → IsToldKept job before file → KeepsFiles before after × ((answer ≡ status.Device file) ⊎ (answer ≡ status.NoMemory))
+    pub no_head : MayWrite job before → (k : ℕ) (why : HeadFault) → IsFirstRefused (over means job) before k why → AreSoundTo ins job k → (answer ≡ refused_head k why) ⊎ (answer ≡ status.NoMemory)
+    pub no_plan : MayWrite job before → (why : PlanError) → HasNoPlan (over means job) before why → InputsAreSound ins job → (answer ≡ refused_plan why) ⊎ (answer ≡ status.NoMemory)
+    pub complete : MayWrite job before → CanBeDone (over means job) before → InputsAreSound ins job → OutputsAreSound outs job → (answer ≡ status.Fine) ⊎ (answer ≡ status.NoMemory)
     pub in_counts : KeepsInputs means job before ins answer
     pub out_counts : KeepsOutputs means job before outs answer
 
@@ -135,6 +141,7 @@ module _ (means : Job → Meaning InputHead PlanError RunFault) where
         → AsksGenerated words ⊎ AskFor words (λ job. IsTooLong means job before node)
     pub too_large : (output : ℕ) → answer ≡ status.TooLarge output
         → AsksGenerated words ⊎ AskFor words (λ job. IsBroken (over means job) before (run_fault.TooLarge output))
+    pub kept : (file : FileRef) → KeepsThere words before file → KeepsFiles before after × ((answer ≡ status.Device file) ⊎ (answer ≡ status.NoMemory))
     pub device : (file : FileRef) → answer ≡ status.Device file → AskFor words (λ job. HasFailed means job before ins outs file)
     pub no_head : (k : ℕ) (why : HeadFault) → GivesNoHead means words before ins k why → (answer ≡ refused_head k why) ⊎ (answer ≡ status.NoMemory)
     pub no_plan : (why : PlanError) → GivesNoPlan means words before ins why → (answer ≡ refused_plan why) ⊎ (answer ≡ status.NoMemory)

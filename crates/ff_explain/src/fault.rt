@@ -3,6 +3,7 @@ use crate::input::{damaged, unsupported};
 use crate::line::{CommandLine, FilePlace};
 use crate::plan::plan_text;
 use crate::quoted::quoted;
+use crate::roles::{Role, role_behind};
 use crate::word::word_text;
 use ff_command::{FileRef, Status};
 use ff_words::Kind;
@@ -59,6 +60,32 @@ pub fn named_file<'a>(
     Ok(name_in(&line, words.len(), status))
 }
 
+// Whether the words ask that files which are there are kept: the last of `-n` and `-y` counts.
+fn keeps_files(words: &[String]) -> bool {
+    let mut keeps = false;
+    let mut before = None;
+    for word in words.iter() {
+        let role = role_behind(before, word.as_str());
+        match role {
+            Role::Named(_, Kind::Keeps) => keeps = true,
+            Role::Named(_, Kind::Replaces) => keeps = false,
+            _ => {}
+        }
+        before = Some(role);
+    }
+    keeps
+}
+
+// Why a call on a file failed. A file that is kept wasn't called on.
+fn cause_of<'a>(words: &[String], file: FileRef, cause: Option<&'a str>) -> Option<&'a str> {
+    match (cause, file) {
+        (None, FileRef::Output(_) | FileRef::Trace) if keeps_files(words) => {
+            Some("it is there, and -n keeps it")
+        }
+        _ => cause,
+    }
+}
+
 // A call on a file that failed.
 fn device(
     alloc: Global,
@@ -97,7 +124,9 @@ fn text_of(
         Status::Fine => return Ok(None),
         Status::Words { word, kind } => word_text(alloc, &line, *word as usize, *kind)?,
         Status::Plan(why) => plan_text(alloc, &line, why)?,
-        Status::Device { file } => device(alloc, name, *file, seen.cause)?,
+        Status::Device { file } => {
+            device(alloc, name, *file, cause_of(words, *file, seen.cause))?
+        }
         Status::Damaged { input, offset } => {
             damaged(alloc, &line, *input, *offset, seen.front, seen.begun)?
         }

@@ -4,5 +4,6 @@ pub mod Heads
 pub mod Wholes
 pub mod EndLaws
 pub mod Creations
+pub mod Free
 pub mod AnswerLaws
 mod Tracing

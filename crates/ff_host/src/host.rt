@@ -1,7 +1,7 @@
 //! The trait of a host, which opens sources and creates sinks by name.
 ghost use Rattle.std.specs.Prelude.{◌≡◌, ◌-◌, List, [], ℕ, false, Option, Some, IfOk, OnOk, OnErr, IsErrOf};
 ghost use Rattle.ff_host.specs.Causes.{HasCause, HasCauseOf, added, SameElsewhere, SameCounts};
-ghost use Rattle.ff_host.specs.Files.{Files, KeepsFiles, PutsFile, GivesFile, HoldsNothing};
+ghost use Rattle.ff_host.specs.Files.{Files, KeepsFiles, PutsFile, GivesFile, HoldsNothing, TellsOf};
 ghost use Rattle.ff_host.specs.Opens.{CountsOpening};
 ghost use Rattle.ff_host.specs.declared.host.HostError.TheVariants.{NoMemory};
 
@@ -26,7 +26,7 @@ impl From<AllocError> for HostError {
     }
 }
 
-/// What opens sources and creates sinks by name, and takes them back.
+/// What opens sources and creates sinks by name, takes them back, and says which files are there.
 ///
 /// Faults are counted by name and direction. A count stops at 2^64 - 1, and one that stands there is read as risen.
 ///
@@ -59,6 +59,10 @@ pub trait Host {
 
     /// How many of the sinks that it created were not given back.
     ghost open_sinks: { Self → ℕ };
+
+    /// Whether a file of this name is there, an empty one too. Nothing is opened.
+    fn exists(&self, name: &str) -> Result<bool, AllocError>
+        ensures told { IfOk result (λ there. TellsOf (files self.now) name.now there) };
 
     /// A source of the file, or of nothing where the name is not there, that has never failed. It makes the room that
     /// closing needs.

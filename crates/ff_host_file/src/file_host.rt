@@ -12,7 +12,7 @@ use std::alloc::{AllocError, Global};
 use std::collections::BTreeMap;
 use std::fs;
 use std::fs::OpenFile;
-use std::io::{BufReader, BufWriter, Eprint};
+use std::io::{BufReader, BufWriter, Eprint, ErrorKind};
 use std::rt::Files;
 use std::time::Clock;
 
@@ -156,6 +156,18 @@ where
     ghost open_sources = { λ h. h.sources };
 
     ghost open_sinks = { λ h. h.sinks };
+
+    fn exists(&self, name: &str) -> Result<bool, AllocError> {
+        match fs::metadata(&self.files, name) {
+            Ok(_) => Ok(true),
+            Err(error) => match error.kind() {
+                ErrorKind::NotFound | ErrorKind::NotADirectory => Ok(false),
+                ErrorKind::OutOfMemory => Err(AllocError),
+                // What can't be looked at may be there.
+                _ => Ok(true),
+            },
+        }
+    }
 
     fn open_source(&mut self, name: &str) -> Result<FileSource<R::File, R>, HostError> {
         let Some(sources) = self.sources.checked_add(1) else {

@@ -68,7 +68,8 @@ pub record Stuck (layout : Layout) (old : Merging) (before now : Option (List �
 
 -- What stands before the packets was written, where nothing was written yet, all that is decided, and where each stream is whole what
 -- follows the packets and what takes the place of bytes.
-pub record WroteOn (layout : Layout) (old new : Merging) (before now : Option (List ℕ)) (counts counts' : List Placed → Type 0) (begun whole : Bool) (totals : Option Totals) : Type 0 where
+pub record WroteOn (layout : Layout) (old new : Merging) (before now : Option (List ℕ))
+    (counts counts' : List Placed → Type 0) (begun whole : Bool) (totals : Option Totals) : Type 0 where
   pub packets : List Placed
   pub rest : (ext : Ports) → old.rest ext ≡ packets ++ new.rest ext
   pub nothing_left : new.rest silence ≡ []

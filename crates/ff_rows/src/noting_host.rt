@@ -2,7 +2,7 @@
 ghost use Rattle.std.specs.Prelude.{};
 
 use ff_host::{Failed, Host, HostError, MemHost, MemSink, MemSource};
-use std::alloc::Global;
+use std::alloc::{AllocError, Global};
 
 /// A host in memory, and each name on which a sink was to be created.
 #[derive(Drop)]
@@ -51,6 +51,10 @@ impl Host for NotingHost {
     ghost open_sources = { λ h. ⟦<MemHost as Host>⟧.open_sources h.inner };
 
     ghost open_sinks = { λ h. ⟦<MemHost as Host>⟧.open_sinks h.inner };
+
+    fn exists(&self, name: &str) -> Result<bool, AllocError> {
+        self.inner.exists(name)
+    }
 
     fn open_source(&mut self, name: &str) -> Result<MemSource, HostError> {
         self.inner.open_source(name)

@@ -15,7 +15,7 @@ ghost use Rattle.ff_files.specs.Ends.{IsPlanRefused, IsBroken};
 ghost use Rattle.ff_command.specs.Command.{AsksAlone, AsksText, AskGenerated, AsksGenerated, IsDue, IsOwnAnswer, ReportsOwn, ReportsOwnReads};
 ghost use Rattle.ff_command.specs.Command.{AskFor, AreWrong, KeepsOtherFiles, ComesBeforeOutputs, ReportsHistory, ReportsReads, HoldsTrace};
 ghost use Rattle.ff_command.specs.Command.{refused_head, refused_plan, over, HoldsMeaning, HoldsFront, IsHeadRefused, IsDamaged, IsTooLong};
-ghost use Rattle.ff_command.specs.Command.{HasFailed, GivesNoHead, GivesNoPlan, GivesAll, KeepsInputCounts, KeepsOutputCounts};
+ghost use Rattle.ff_command.specs.Command.{KeepsThere, HasFailed, GivesNoHead, GivesNoPlan, GivesAll, KeepsInputCounts, KeepsOutputCounts};
 ghost use Rattle.ff_command.specs.Steps.{CreatesAsked};
 ghost use Rattle.ff_run.specs.build.Parts.{all_kinds};
 ghost use Rattle.ff_run_plan.specs.Accepting.{IsAccepted, IsPlanFor};
@@ -116,9 +116,14 @@ pub fn ffmpeg<R: Threads + Wait + Sync, H: Host, E: Sink>(
     ensures too_large { (output : ℕ) → result.status ≡ Status.TooLarge output
         → AsksGenerated (texts words.now) ⊎ AskFor (texts words.now) (λ job. IsBroken (over job_means job) (H.files host.old) (run_fault.TooLarge output)) }
 
-    // A fault of a device is answered only where the count of that file's name rose.
+    // A fault of a device is answered only where the count of that file's name rose, or `-n` keeps it.
     ensures device { (file : _) → result.status ≡ Status.Device file → AskFor (texts words.now) (λ job. HasFailed job_means job (H.files host.old)
         (counted H.in_faults host.old host.new) (counted H.out_faults host.old host.new) file) }
+
+    // Where the arguments ask for `-n`, and files are told of which one is there that they write, it is that answer,
+    // before an input is opened. No file has changed.
+    ensures kept { (file : _) → KeepsThere (texts words.now) (H.files host.old) file
+        → KeepsFiles (H.files host.old) (H.files host.new) × ((result.status ≡ Status.Device file) ⊎ (result.status ≡ Status.NoMemory)) }
 
     // With status Fine no count has changed. A failure of reading is the status, unless a fault came before it or memory ran out.
     // Under names that are no input, or no output, nothing is counted.

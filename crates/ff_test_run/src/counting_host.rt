@@ -190,6 +190,10 @@ impl Host for CountingHost {
 
     ghost open_sinks = { λ h. ⟦<MemHost as Host>⟧.open_sinks h.inner };
 
+    fn exists(&self, name: &str) -> Result<bool, AllocError> {
+        self.inner.exists(name)
+    }
+
     fn open_source(&mut self, name: &str) -> Result<CountingSource, HostError> {
         let kinds = [HostCall::OpenSource, HostCall::Read];
         make_room(&mut self.counts, self.alloc, name, &kinds)?;

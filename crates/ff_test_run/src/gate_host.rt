@@ -61,6 +61,10 @@ impl Host for GateHost {
 
     ghost open_sinks = { λ h. h.sinks };
 
+    fn exists(&self, _: &str) -> Result<bool, AllocError> {
+        Ok(false)
+    }
+
     fn open_source(&mut self, name: &str) -> Result<GateSource, HostError> {
         let Some(sources) = self.sources.checked_add(1) else {
             return Err(HostError::NoMemory);

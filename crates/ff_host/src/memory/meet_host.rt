@@ -1,5 +1,5 @@
 //! A host in memory whose sources wait for each other in pairs.
-ghost use Rattle.std.specs.Prelude.{◌≡◌, ◌-◌, ℕ, List, [], Some, IfOk, OnOk, OnErr, IsErrOf, IsOk, IsSome};
+ghost use Rattle.std.specs.Prelude.{◌≡◌, ◌-◌, ℕ, List, [], Some, is_some, Ok, IfOk, OnOk, OnErr, IsErrOf, IsOk, IsSome};
 ghost use Rattle.std.specs.Option.{option_map};
 ghost use Rattle.ff_host.specs.Files.{KeepsFiles, PutsFile};
 ghost use Rattle.ff_host.specs.memory.Given.{given};
@@ -98,6 +98,12 @@ impl Host for MeetHost {
     ghost open_sources = { meet_sources };
 
     ghost open_sinks = { meet_sinks };
+
+    fn exists(&self, name: &str) -> Result<bool, AllocError>
+        ensures { result ≡ Ok (is_some (meet_files self.now name.now)) }
+    {
+        self.inner.exists(name)
+    }
 
     fn open_source(&mut self, name: &str) -> Result<MeetSource, HostError>
         ensures never { IsErrOf result HostError.Failed → ⊥ }

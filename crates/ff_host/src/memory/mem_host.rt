@@ -1,5 +1,5 @@
 //! A host in memory that fails where it was planned.
-ghost use Rattle.std.specs.Prelude.{◌≡◌, ◌-◌, ◌↔◌, ◌⊎◌, ℕ, List, [], Some, None, IfOk, OnOk, OnErr, IsErr, IsErrOf, IsTrue};
+ghost use Rattle.std.specs.Prelude.{◌≡◌, ◌-◌, ◌↔◌, ◌⊎◌, ℕ, List, [], Some, None, is_some, Ok, IfOk, OnOk, OnErr, IsErr, IsErrOf, IsTrue};
 ghost use Rattle.std.specs.Option.{option_map};
 ghost use Rattle.ff_host.specs.Causes.{HasCause, HasCauseOf, SameCounts, added};
 ghost use Rattle.ff_host.specs.Files.{KeepsFiles, PutsFile};
@@ -98,6 +98,12 @@ impl Host for MemHost {
     ghost open_sources = { open_sources_of };
 
     ghost open_sinks = { open_sinks_of };
+
+    fn exists(&self, name: &str) -> Result<bool, AllocError>
+        ensures { result ≡ Ok (is_some (files_of self.now name.now)) }
+    {
+        self.inner.exists(name)
+    }
 
     fn open_source(&mut self, name: &str) -> Result<MemSource, HostError>
         ensures failed { IsErrOf result HostError.Failed → OpenFails self.old name.now }

@@ -1,5 +1,5 @@
 //! A host in memory that never fails.
-ghost use Rattle.std.specs.Prelude.{◌≡◌, ◌-◌, ℕ, List, [], Some, IfOk, OnOk, OnErr, IsErrOf, IsOk, IsSome, ⊤};
+ghost use Rattle.std.specs.Prelude.{◌≡◌, ◌-◌, ℕ, List, [], Some, Ok, IfOk, OnOk, OnErr, IsErrOf, IsOk, IsSome, is_some, ⊤};
 ghost use Rattle.std.specs.Option.{option_map};
 ghost use Rattle.ff_host.specs.Files.{bytes_at, KeepsFiles, PutsFile};
 ghost use Rattle.ff_host.specs.memory.Given.{given};
@@ -73,6 +73,12 @@ impl Host for QuietHost {
     ghost open_sources = { quiet_sources };
 
     ghost open_sinks = { quiet_sinks };
+
+    fn exists(&self, name: &str) -> Result<bool, AllocError>
+        ensures { result ≡ Ok (is_some (quiet_files self.now name.now)) }
+    {
+        Ok(self.file(name).is_some())
+    }
 
     fn open_source(&mut self, name: &str) -> Result<QuietSource, HostError>
         ensures never { IsErrOf result HostError.Failed → ⊥ }

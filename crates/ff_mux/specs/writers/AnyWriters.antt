@@ -13,7 +13,8 @@ use Rattle.ff_frame.specs.declared.totals.Totals.{Totals}
 use Rattle.ff_mux.specs.declared.writers.any.AnyWriter.{AnyWriter}
 use Rattle.ff_mux.specs.declared.writers.any.AnyWriter.TheVariants.{Wav, Flac, Y4m, Hash, Crc, Au, Joined, Streams, Sum}
 use Rattle.ff_mux.specs.writers.CrcFile.{crc_format, crc_layout, crc_writes}
-use Rattle.ff_mux.specs.writers.DigestFiles.{joined_format, joined_layout, joined_writes, joined_writes_md5, streams_format, streams_layout, streams_writes, sum_format, sum_layout, sum_writes}
+use Rattle.ff_mux.specs.writers.DigestFiles.{joined_format, joined_layout, joined_writes, joined_writes_md5}
+use Rattle.ff_mux.specs.writers.DigestFiles.{streams_format, streams_layout, streams_writes, sum_format, sum_layout, sum_writes}
 use Rattle.ff_mux.specs.writers.FlacFile.{flac_format, flac_inside, flac_layout, flac_writes}
 use Rattle.ff_mux.specs.writers.HashFile.{hash_format, hash_layout, hash_writes, md5_writes}
 use Rattle.ff_mux.specs.writers.Writers.{flac_head, hash_kind, hash_heads, crc_heads, joined_kind, HasJoined, HasSummed, streams_kind, streams_heads, HasStreams}

@@ -183,3 +183,6 @@ returns-then-is_untold-clause-own_reads g c = λ seconds asks fine. absurd (not_
 
 pub returns-clause-fine_line : goal.returns-clause-fine_line
 returns-clause-fine_line g c = λ fine. c.is_untold.ensures.told c.if-is_untold.false fine
+
+pub returns-then-is_untold-clause-kept : goal.returns-then-is_untold-clause-kept
+returns-then-is_untold-clause-kept g c = λ file keeps. ((c.run_words-status.ensures.answered.kept file keeps).0, inr c.out_of_memory.ensures.status.0)

@@ -15,12 +15,11 @@ use Rattle.ff_command.proofs.Ends.{ran, fine-end, over-same, held-printed}
 use Rattle.ff_command.proofs.Names.{names-apart}
 use Rattle.ff_command.proofs.Reports.{has_more, if_some_more}
 use Rattle.ff_sched.specs.Printing.{printed}
-use Rattle.ff_command.proofs.run.run_job.Goals as goal
+use Rattle.ff_command.proofs.run.run_free.Goals as goal
 
 pub over_files-end-requires-clause-apart : goal.over_files-end-requires-clause-apart
 over_files-end-requires-clause-apart g c = λ lifetimes lives.
-    let same : names_of (λ (w : Written). w.name.now) c.as_slice.result.now ≡ written c.args.job.now = ap (names_of (λ (w : Written). w.name.now)) c.as_slice.ensures.value ∙ c.in-Ok.ensures in
-    subst AreApart (sym same) (names-apart c.args.job.now c.requires.bounded.names)
+    subst AreApart (sym c.requires.named) (names-apart c.args.job.now c.requires.bounded.names)
 
 pub returns-clause-ran : goal.returns-clause-ran
 returns-clause-ran g c =
@@ -28,14 +27,14 @@ returns-clause-ran g c =
     let job = c.args.job.now in
     let ins = counted H.in_faults c.args.host.now c.over_files-end.new.host in
     let outs = counted H.out_faults c.args.host.now c.over_files-end.new.host in
-    let names = names_of (λ (w : Written). w.name.now) c.as_slice.result.now in
-    let same : names ≡ written job = ap (names_of (λ (w : Written). w.name.now)) c.as_slice.ensures.value ∙ c.in-Ok.ensures in
+    let names = names_of (λ (w : Written). w.name.now) c.args.files.now in
+    let same : names ≡ written job = c.requires.named in
     let e = c.over_files-end.ensures in
-    ran (g.P.Worker.means c.args.worker.now) job (H.files c.args.host.now) (H.files c.over_files-end.new.host) ins outs c.over_files-end.result.end c.status_of_end.result
+    ran (g.P.Worker.means c.args.worker.now) job (H.files c.args.host.now) (H.files c.over_files-end.new.host) ins outs c.requires.free c.over_files-end.result.end c.status_of_end.result
     c.as_slice-inputs.result.now names (length c.as_slice-count.result.now) c.status_of_end.ensures c.as_slice-inputs.ensures same (ap length c.as_slice-count.ensures) (record {
       bytes = e.bytes;
       front = e.front;
-      others = subst (λ n. KeepsAllBut (H.files c.args.host.now) (H.files c.over_files-end.new.host) names n) (sym (names_len (λ (w : Written). w.name.now) c.as_slice.result.now)) e.others;
+      others = subst (λ n. KeepsAllBut (H.files c.args.host.now) (H.files c.over_files-end.new.host) names n) (sym (names_len (λ (w : Written). w.name.now) c.args.files.now)) e.others;
       untouched = e.untouched;
       ends = e.ends;
       in_counts = e.in_counts;
@@ -54,8 +53,8 @@ returns-clause-logged g c = λ fine.
     let after = H.files c.over_files-end.new.host in
     let ins = counted H.in_faults c.args.host.now c.over_files-end.new.host in
     let outs = counted H.out_faults c.args.host.now c.over_files-end.new.host in
-    let names = names_of (λ (w : Written). w.name.now) c.as_slice.result.now in
-    let same : names ≡ written job = ap (names_of (λ (w : Written). w.name.now)) c.as_slice.ensures.value ∙ c.in-Ok.ensures in
+    let names = names_of (λ (w : Written). w.name.now) c.args.files.now in
+    let same : names ≡ written job = c.requires.named in
     let n = length c.as_slice-count.result.now in
     let P = g.P.Worker in
     let worker = c.args.worker.now in
@@ -76,8 +75,8 @@ returns-clause-traced g c = λ fine.
     let after = H.files c.over_files-end.new.host in
     let ins = counted H.in_faults c.args.host.now c.over_files-end.new.host in
     let outs = counted H.out_faults c.args.host.now c.over_files-end.new.host in
-    let names = names_of (λ (w : Written). w.name.now) c.as_slice.result.now in
-    let same : names ≡ written job = ap (names_of (λ (w : Written). w.name.now)) c.as_slice.ensures.value ∙ c.in-Ok.ensures in
+    let names = names_of (λ (w : Written). w.name.now) c.args.files.now in
+    let same : names ≡ written job = c.requires.named in
     let n = length c.as_slice-count.result.now in
     if_some_more _ (λ log. HoldsPrinted job before after log.history) c.over_files-end.result.log
     (λ log held. held-printed means job before after ins outs log.history
@@ -92,8 +91,8 @@ returns-clause-created g c =
     let after = H.files c.over_files-end.new.host in
     let made = H.created c.over_files-end.new.host in
     let outs = counted H.out_faults c.args.host.now c.over_files-end.new.host in
-    let names = names_of (λ (w : Written). w.name.now) c.as_slice.result.now in
-    let same : names ≡ written job = ap (names_of (λ (w : Written). w.name.now)) c.as_slice.ensures.value ∙ c.in-Ok.ensures in
+    let names = names_of (λ (w : Written). w.name.now) c.args.files.now in
+    let same : names ≡ written job = c.requires.named in
     let end = c.over_files-end.result.end in
     creates_as (written job) made (λ k why. end ≡ end_of_output k why) (λ k why. c.status_of_end.result ≡ status_of (length job.outputs) (end_of_output k why)) before after outs
     (λ k why e. c.status_of_end.ensures ∙ (ap (λ n. status_of n end) (ap length c.as_slice-count.ensures) ∙ ap (status_of (length job.outputs)) e))
