@@ -1,8 +1,9 @@
 //! A row, run on its filter.
 use crate::play::{Play, Steps};
-use crate::row::Row;
+use crate::row::{Line, Row, add_problem};
 use crate::sources::run_source;
 use crate::table::Stop;
+use crate::told::Told;
 use ff_afilter::{ANull, ASetPts, ASplit, ChannelSplit, LastingATrim};
 use ff_filter::Filter;
 use ff_frame::{ConfigError, StreamHead};
@@ -28,75 +29,88 @@ fn refusal(error: ConfigError) -> &'static str {
     }
 }
 
-/// Notes where the answer of `configure` isn't the row's.
-pub fn check_answer(row: &mut Row, came: &str) -> Result<bool, Stop> {
-    if row.answer.as_str() == came {
-        return Ok(true);
+/// Whether what came is the row's answer of `configure`. Where it isn't, that is noted.
+pub fn check_answer(row: &Row, problems: &mut Told, came: Result<String, Stop>) -> bool {
+    match came {
+        Ok(came) if came == row.answer => true,
+        Ok(came) => {
+            add_problem(problems, row.number, &[row.answer.as_str()], came.as_str());
+            false
+        }
+        Err(stop) => {
+            problems.fail(stop);
+            false
+        }
     }
-    let number = row.number;
-    let answer = row.answer.clone()?;
-    row.add_problem(number, answer.as_str(), came)?;
-    Ok(false)
+}
+
+// Does what a line says, and answers whether the row can go on.
+fn do_step<P: Steps>(row: &Row, problems: &mut Told, play: &mut P, line: Line) -> bool {
+    let mut told = Told::new(row.alloc);
+    play.step(&mut told, line.kind, line.rest);
+    let Line { number, kind, rest } = line;
+    match told.finish() {
+        Ok(came) => {
+            if came.as_str() != rest {
+                add_problem(problems, number, &[kind, " ", rest], came.as_str());
+            }
+            true
+        }
+        Err(Stop::Unreadable) => {
+            let why = "a line that can't be done";
+            add_problem(problems, number, &[kind, " ", rest], why);
+            false
+        }
+        Err(Stop::Broken) => {
+            problems.fail(Stop::Broken);
+            false
+        }
+    }
 }
 
 /// Does what the lines of a row say, up to the first that can't be done.
-pub fn do_steps<P: Steps>(row: &mut Row, play: &mut P) -> Result<(), Stop> {
-    for line in row.steps.clone()?.iter() {
-        let text = format!(in row.alloc; "{} {}", line.kind, line.rest)?;
-        match play.step(line.kind, line.rest) {
-            Ok(came) => {
-                if came.as_str() != line.rest {
-                    row.add_problem(line.number, text.as_str(), came.as_str())?;
-                }
-            }
-            Err(Stop::Unreadable) => {
-                return row.add_problem(line.number, text.as_str(), "a line that can't be done");
-            }
-            Err(Stop::Broken) => return Err(Stop::Broken),
+pub fn do_steps<P: Steps>(row: &Row, problems: &mut Told, play: &mut P) {
+    for line in row.steps.iter() {
+        if !do_step(row, problems, play, *line) {
+            return;
         }
     }
-    Ok(())
 }
 
 // Says what comes of the row on this filter.
-fn play<F: Filter>(row: &mut Row, filter: F, outs: Vec<StreamHead>) -> Result<(), Stop>
+fn play<F: Filter>(row: &Row, problems: &mut Told, filter: F, outs: Vec<StreamHead>)
 where
     F: Drop,
 {
-    let ins = row.ins.clone()?;
     let mut play = Play {
         alloc: row.alloc,
         filter,
-        ins: ins.as_slice(),
+        ins: row.ins.as_slice(),
         outs,
     };
-    let heads = play.heads()?;
-    if !check_answer(row, heads.as_str())? {
-        return Ok(());
+    let mut heads = Told::new(row.alloc);
+    play.tell_heads(&mut heads);
+    if check_answer(row, problems, heads.finish()) {
+        do_steps(row, problems, &mut play);
     }
-    do_steps(row, &mut play)
 }
 
 /// A filter that the row has refused, and that is refused.
-pub fn end_refused(row: &mut Row, error: ConfigError) -> Result<(), Stop> {
-    if check_answer(row, refusal(error))? && !row.steps.is_empty() {
-        let number = row.number;
-        return row.add_problem(number, "steps", "a filter that is refused");
+pub fn end_refused(row: &Row, problems: &mut Told, error: ConfigError) {
+    let came = String::from_str(row.alloc, refusal(error));
+    if check_answer(row, problems, came.map_err(Stop::from)) && !row.steps.is_empty() {
+        add_problem(problems, row.number, &["steps"], "a filter that is refused");
     }
-    Ok(())
 }
 
 // Runs a row on what `configure` made of it.
-fn run<F: Filter>(
-    row: &mut Row,
-    made: Result<(F, Vec<StreamHead>), ConfigError>,
-) -> Result<(), Stop>
+fn run<F: Filter>(row: &Row, problems: &mut Told, made: Result<(F, Vec<StreamHead>), ConfigError>)
 where
     F: Drop,
 {
     match made {
-        Ok((filter, outs)) => play(row, filter, outs),
-        Err(error) => end_refused(row, error),
+        Ok((filter, outs)) => play(row, problems, filter, outs),
+        Err(error) => end_refused(row, problems, error),
     }
 }
 
@@ -109,63 +123,80 @@ fn shortest(
     Ok((machine, heads.to_vec(alloc)?))
 }
 
+// The row's filter can't be read.
+fn add_unreadable(row: &Row, problems: &mut Told) {
+    let why = "a filter that can't be read";
+    add_problem(problems, row.number, &[row.filter], why);
+}
+
+// A row of the streams of one output.
+fn run_shortest(row: &Row, problems: &mut Told) {
+    match shortest(row.alloc, row.ins.as_slice()) {
+        Ok(made) => run(row, problems, Ok(made)),
+        Err(_) => problems.fail(Stop::Broken),
+    }
+}
+
 // A row of a filter of several inputs.
-fn run_several(row: &mut Row, named: &Named, heads: &[StreamHead]) -> Result<(), Stop> {
-    let (alloc, args) = (row.alloc, named.args.as_slice());
+fn run_several(row: &Row, problems: &mut Told, named: &Named) {
+    let (alloc, args, heads) = (row.alloc, named.args.as_slice(), row.ins.as_slice());
     match named.name.as_str() {
-        "hstack" => run(row, HStack::configure(alloc, args, heads)),
-        "vstack" => run(row, VStack::configure(alloc, args, heads)),
-        "concat" => run(row, Concat::configure(alloc, args, heads)),
-        "join" => run(row, Join::configure(alloc, args, heads)),
-        "shortest" => run(row, Ok(shortest(alloc, heads)?)),
-        _ => Err(Stop::Unreadable),
+        "hstack" => run(row, problems, HStack::configure(alloc, args, heads)),
+        "vstack" => run(row, problems, VStack::configure(alloc, args, heads)),
+        "concat" => run(row, problems, Concat::configure(alloc, args, heads)),
+        "join" => run(row, problems, Join::configure(alloc, args, heads)),
+        "shortest" => run_shortest(row, problems),
+        _ => add_unreadable(row, problems),
     }
 }
 
 // A row of an audio filter with one input, or of several inputs.
-fn run_sound(row: &mut Row, named: &Named, heads: &[StreamHead]) -> Result<(), Stop> {
-    let (alloc, args) = (row.alloc, named.args.as_slice());
+fn run_sound(row: &Row, problems: &mut Told, named: &Named) {
+    let (alloc, args, heads) = (row.alloc, named.args.as_slice(), row.ins.as_slice());
     match named.name.as_str() {
-        "anull" => run(row, ANull::configure(alloc, args, heads)),
-        "atrim" => run(row, LastingATrim::configure(alloc, args, heads)),
-        "asetpts" => run(row, ASetPts::configure(alloc, args, heads)),
-        "asplit" => run(row, ASplit::configure(alloc, args, heads)),
-        "channelsplit" => run(row, ChannelSplit::configure(alloc, args, heads)),
-        _ => run_several(row, named, heads),
+        "anull" => run(row, problems, ANull::configure(alloc, args, heads)),
+        "atrim" => run(row, problems, LastingATrim::configure(alloc, args, heads)),
+        "asetpts" => run(row, problems, ASetPts::configure(alloc, args, heads)),
+        "asplit" => run(row, problems, ASplit::configure(alloc, args, heads)),
+        "channelsplit" => run(row, problems, ChannelSplit::configure(alloc, args, heads)),
+        _ => run_several(row, problems, named),
     }
 }
 
-// A row of any filter.
-fn run_any(row: &mut Row, named: &Named, heads: &[StreamHead]) -> Result<(), Stop> {
-    let (alloc, args) = (row.alloc, named.args.as_slice());
+// A row of any filter that is no source.
+fn run_any(row: &Row, problems: &mut Told, named: &Named) {
+    let (alloc, args, heads) = (row.alloc, named.args.as_slice(), row.ins.as_slice());
     match named.name.as_str() {
-        "null" => run(row, Null::configure(alloc, args, heads)),
-        "trim" => run(row, LastingTrim::configure(alloc, args, heads)),
-        "setpts" => run(row, SetPts::configure(alloc, args, heads)),
-        "crop" => run(row, Crop::configure(alloc, args, heads)),
-        "pad" => run(row, Pad::configure(alloc, args, heads)),
-        "hflip" => run(row, HFlip::configure(alloc, args, heads)),
-        "vflip" => run(row, VFlip::configure(alloc, args, heads)),
-        "split" => run(row, Split::configure(alloc, args, heads)),
-        "fps" => run(row, Fps::configure(alloc, args, heads)),
-        _ => run_sound(row, named, heads),
+        "null" => run(row, problems, Null::configure(alloc, args, heads)),
+        "trim" => run(row, problems, LastingTrim::configure(alloc, args, heads)),
+        "setpts" => run(row, problems, SetPts::configure(alloc, args, heads)),
+        "crop" => run(row, problems, Crop::configure(alloc, args, heads)),
+        "pad" => run(row, problems, Pad::configure(alloc, args, heads)),
+        "hflip" => run(row, problems, HFlip::configure(alloc, args, heads)),
+        "vflip" => run(row, problems, VFlip::configure(alloc, args, heads)),
+        "split" => run(row, problems, Split::configure(alloc, args, heads)),
+        "fps" => run(row, problems, Fps::configure(alloc, args, heads)),
+        _ => run_sound(row, problems, named),
     }
 }
 
-/// Runs a row on the one filter that its string names.
-pub fn run_row(row: &mut Row) -> Result<(), Stop> {
-    let heads = row.ins.clone()?;
+fn run_named(row: &Row, problems: &mut Told, named: &Named) {
+    match SourceName::read(named.name.as_str()) {
+        Some(name) => run_source(row, problems, name, named.args.as_slice()),
+        None => run_any(row, problems, named),
+    }
+}
+
+/// Runs a row on the one filter that its string names, and notes what doesn't hold.
+pub fn run_row(row: &Row, problems: &mut Told) {
     let Ok(graph) = read_graph(row.alloc, row.filter) else {
-        return Err(Stop::Unreadable);
+        return add_unreadable(row, problems);
     };
     let [chain] = graph.chains.as_slice() else {
-        return Err(Stop::Unreadable);
+        return add_unreadable(row, problems);
     };
-    let [named] = chain.filters.as_slice() else {
-        return Err(Stop::Unreadable);
-    };
-    match SourceName::read(named.name.as_str()) {
-        Some(name) => run_source(row, name, named.args.as_slice()),
-        None => run_any(row, named, heads.as_slice()),
+    match chain.filters.as_slice() {
+        [named] => run_named(row, problems, named),
+        _ => add_unreadable(row, problems),
     }
 }

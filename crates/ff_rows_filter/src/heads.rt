@@ -1,24 +1,19 @@
 //! The heads of streams, as a table has them.
-use crate::table::{Stop, halves, parted};
+use crate::fields::Fields;
+use crate::table::{Stop, halves};
+use crate::told::Told;
 use ff_frame::{Codec, Format, StreamHead};
-use ff_time::Rational;
-use std::alloc::{AllocError, Global};
 
-fn read_base(text: &str) -> Result<Rational, Stop> {
-    let (num, den) = parted(text, '/')?;
-    match Rational::new(num.parse::<i64>()?, den.parse::<i64>()?) {
-        Ok(base) => Ok(base),
-        Err(_) => Err(Stop::Unreadable),
-    }
-}
-
-fn read_format(text: &str) -> Result<Format, Stop> {
-    match text {
-        "420" => Ok(Format::C420),
-        "422" => Ok(Format::C422),
-        "444" => Ok(Format::C444),
-        "mono" => Ok(Format::Mono),
-        _ => Err(Stop::Unreadable),
+fn read_format(fields: &mut Fields) -> Format {
+    match fields.word() {
+        "420" => Format::C420,
+        "422" => Format::C422,
+        "444" => Format::C444,
+        "mono" => Format::Mono,
+        _ => {
+            fields.fail(Stop::Unreadable);
+            Format::Mono
+        }
     }
 }
 
@@ -41,43 +36,54 @@ const SOUND: [Codec; 5] = [
     Codec::Flac,
 ];
 
-fn read_codec(text: &str) -> Result<Codec, Stop> {
+fn read_codec(fields: &mut Fields) -> Codec {
+    let name = fields.rest();
     for codec in SOUND.iter() {
-        if codec.name() == text {
-            return Ok(*codec);
+        if codec.name() == name {
+            return *codec;
         }
     }
-    Err(Stop::Unreadable)
+    fields.fail(Stop::Unreadable);
+    Codec::Flac
 }
 
 fn read_pictures(text: &str) -> Result<StreamHead, Stop> {
-    let (base, rest) = halves(text);
-    let (format, rest) = halves(rest);
-    let (size, aspect) = halves(rest);
-    let (width, height) = parted(size, 'x')?;
-    let (sar_num, sar_den) = parted(aspect, ':')?;
-    Ok(StreamHead::Video {
-        tb: read_base(base)?,
-        format: read_format(format)?,
-        width: width.parse::<u32>()?,
-        height: height.parse::<u32>()?,
-        sar_num: sar_num.parse::<u32>()?,
-        sar_den: sar_den.parse::<u32>()?,
-    })
+    let mut fields = Fields::new(text);
+    let base = fields.base();
+    let format = read_format(&mut fields);
+    let (width, height) = (fields.until('x'), fields.word());
+    let (sar_num, sar_den) = (fields.until(':'), fields.rest());
+    let (width, height) = (fields.number(width), fields.number(height));
+    let (sar_num, sar_den) = (fields.number(sar_num), fields.number(sar_den));
+    let head = base.map(|tb| StreamHead::Video {
+        tb,
+        format,
+        width,
+        height,
+        sar_num,
+        sar_den,
+    });
+    fields.finish(head)
 }
 
 fn read_sound(text: &str) -> Result<StreamHead, Stop> {
-    let (base, rest) = halves(text);
-    let (rate, rest) = halves(rest);
-    let (bits, rest) = halves(rest);
-    let (channels, codec) = halves(rest);
-    Ok(StreamHead::Audio {
-        tb: read_base(base)?,
-        rate: rate.parse::<u32>()?,
-        bits: bits.parse::<u8>()?,
-        channels: channels.parse::<u8>()?,
-        codec: read_codec(codec)?,
-    })
+    let mut fields = Fields::new(text);
+    let base = fields.base();
+    let (rate, bits, channels) = (fields.word(), fields.word(), fields.word());
+    let codec = read_codec(&mut fields);
+    let (rate, bits, channels) = (
+        fields.number(rate),
+        fields.small(bits),
+        fields.small(channels),
+    );
+    let head = base.map(|tb| StreamHead::Audio {
+        tb,
+        rate,
+        bits,
+        channels,
+        codec,
+    });
+    fields.finish(head)
 }
 
 /// The head of a string: `pictures BASE FORMAT COLUMNSxROWS NUM:DEN` or `sound BASE RATE BITS CHANNELS CODEC`.
@@ -89,8 +95,8 @@ pub fn read_head(text: &str) -> Result<StreamHead, Stop> {
     }
 }
 
-/// A head as a string.
-pub fn show_head(alloc: Global, head: &StreamHead) -> Result<String, AllocError> {
+/// Writes a head.
+pub fn tell_head(told: &mut Told, head: &StreamHead) {
     match *head {
         StreamHead::Video {
             tb,
@@ -100,8 +106,12 @@ pub fn show_head(alloc: Global, head: &StreamHead) -> Result<String, AllocError>
             sar_num,
             sar_den,
         } => {
-            let (num, den, name) = (tb.num(), tb.den(), name_of_format(format));
-            format!(in alloc; "pictures {num}/{den} {name} {width}x{height} {sar_num}:{sar_den}")
+            told.text("pictures ");
+            told.numbers("/", &[tb.num(), tb.den()]);
+            told.texts(&[" ", name_of_format(format), " "]);
+            told.numbers("x", &[i64::from(width), i64::from(height)]);
+            told.text(" ");
+            told.numbers(":", &[i64::from(sar_num), i64::from(sar_den)]);
         }
         StreamHead::Audio {
             tb,
@@ -110,8 +120,14 @@ pub fn show_head(alloc: Global, head: &StreamHead) -> Result<String, AllocError>
             channels,
             codec,
         } => {
-            let (num, den, name) = (tb.num(), tb.den(), codec.name());
-            format!(in alloc; "sound {num}/{den} {rate} {bits} {channels} {name}")
+            told.text("sound ");
+            told.numbers("/", &[tb.num(), tb.den()]);
+            told.text(" ");
+            told.numbers(
+                " ",
+                &[i64::from(rate), i64::from(bits), i64::from(channels)],
+            );
+            told.texts(&[" ", codec.name()]);
         }
     }
 }

@@ -1,37 +1,55 @@
 //! Items, as a table has them.
+use crate::fields::Fields;
 use crate::heads::name_of_format;
-use crate::sound::{read_samples, show_samples};
-use crate::table::{Stop, parted};
+use crate::sound::{read_samples, tell_samples};
+use crate::table::Stop;
+use crate::told::Told;
 use ff_frame::{AFrame, Bytes, Samples, StreamHead, VFrame};
 use ff_stream::Item;
-use std::alloc::{AllocError, Global};
+use std::alloc::Global;
+
+// How many times a part stands: as a number after a `*` says, or once.
+fn times_of(fields: &mut Fields, times: Option<&str>) -> u64 {
+    let Some(times) = times else {
+        return 1;
+    };
+    match times.parse::<u64>() {
+        Ok(times) => times,
+        Err(_) => {
+            fields.fail(Stop::Unreadable);
+            0
+        }
+    }
+}
 
 // Bytes in hex, so many times as a number after a `*` says.
-fn add_part(alloc: Global, out: &mut Vec<u8>, part: &str) -> Result<(), Stop> {
+fn add_part(alloc: Global, fields: &mut Fields, out: &mut Vec<u8>, part: &str) {
     let (once, times) = match part.split_once('*') {
-        Some((once, times)) => (once, times.parse::<u64>()?),
-        None => (part, 1),
+        Some((once, times)) => (once, Some(times)),
+        None => (part, None),
     };
+    let times = times_of(fields, times);
     let Ok(bytes) = hex::decode(alloc, once) else {
-        return Err(Stop::Unreadable);
+        return fields.fail(Stop::Unreadable);
     };
     for _ in 0..times {
-        out.extend_from_slice(bytes.as_slice())?;
+        if !fields.note(out.extend_from_slice(bytes.as_slice())) {
+            return;
+        }
     }
-    Ok(())
 }
 
 // The bytes of parts with a `+` between them.
-fn read_bytes(alloc: Global, text: &str) -> Result<Vec<u8>, Stop> {
+fn read_bytes(alloc: Global, fields: &mut Fields) -> Vec<u8> {
     let mut out = Vec::new(alloc);
-    for part in text.split('+') {
-        add_part(alloc, &mut out, part)?;
+    for part in fields.rest().split('+') {
+        add_part(alloc, fields, &mut out, part);
     }
-    Ok(out)
+    out
 }
 
 // `TIME+DURATION:PLANES`, a video frame of this head.
-fn read_picture(alloc: Global, head: &StreamHead, text: &str) -> Result<Item, Stop> {
+fn read_picture(alloc: Global, fields: &mut Fields, head: &StreamHead) -> Option<Item> {
     let StreamHead::Video {
         format,
         width,
@@ -39,22 +57,21 @@ fn read_picture(alloc: Global, head: &StreamHead, text: &str) -> Result<Item, St
         ..
     } = *head
     else {
-        return Err(Stop::Unreadable);
+        return None;
     };
-    let (times, planes) = parted(text, ':')?;
-    let (pts, duration) = parted(times, '+')?;
-    Ok(Item::Video(VFrame {
-        pts: pts.parse::<i64>()?,
-        duration: duration.parse::<i64>()?,
+    let (pts, duration) = (fields.until('+'), fields.until(':'));
+    Some(Item::Video(VFrame {
+        pts: fields.signed(pts),
+        duration: fields.signed(duration),
         format,
         width,
         height,
-        planes: Bytes::new(read_bytes(alloc, planes)?),
+        planes: Bytes::new(read_bytes(alloc, fields)),
     }))
 }
 
 // `TIME:SAMPLES`, audio of this head.
-fn read_sound(alloc: Global, head: &StreamHead, text: &str) -> Result<Item, Stop> {
+fn read_sound(alloc: Global, fields: &mut Fields, head: &StreamHead) -> Option<Item> {
     let StreamHead::Audio {
         rate,
         bits,
@@ -62,36 +79,34 @@ fn read_sound(alloc: Global, head: &StreamHead, text: &str) -> Result<Item, Stop
         ..
     } = *head
     else {
-        return Err(Stop::Unreadable);
+        return None;
     };
-    let (pts, samples) = parted(text, ':')?;
-    Ok(Item::Audio(AFrame {
-        pts: pts.parse::<i64>()?,
+    let pts = fields.until(':');
+    Some(Item::Audio(AFrame {
+        pts: fields.signed(pts),
         rate,
         bits,
         channels,
-        samples: Samples::new(read_samples(alloc, samples)?),
+        samples: Samples::new(read_samples(alloc, fields)),
     }))
 }
 
 /// The item of a string, on a stream of this head: a frame, `end` or `broken`.
 pub fn read_item(alloc: Global, head: &StreamHead, text: &str) -> Result<Item, Stop> {
-    match text {
-        "end" => Ok(Item::End),
-        "broken" => Ok(Item::Broken),
+    let mut fields = Fields::new(text);
+    let item = match text {
+        "end" => Some(Item::End),
+        "broken" => Some(Item::Broken),
         _ => match head {
-            StreamHead::Video { .. } => read_picture(alloc, head, text),
-            StreamHead::Audio { .. } => read_sound(alloc, head, text),
+            StreamHead::Video { .. } => read_picture(alloc, &mut fields, head),
+            StreamHead::Audio { .. } => read_sound(alloc, &mut fields, head),
         },
-    }
+    };
+    fields.finish(item)
 }
 
 // What a video frame has that isn't as its head says.
-fn picture_of_another(
-    alloc: Global,
-    head: &StreamHead,
-    frame: &VFrame,
-) -> Result<String, AllocError> {
+fn tell_picture_of_another(told: &mut Told, head: &StreamHead, frame: &VFrame) {
     if let StreamHead::Video {
         format,
         width,
@@ -102,25 +117,22 @@ fn picture_of_another(
         && width == frame.width
         && height == frame.height
     {
-        return Ok(String::new(alloc));
+        return;
     }
-    let (name, width, height) = (name_of_format(frame.format), frame.width, frame.height);
-    format!(in alloc; "({name} {width}x{height})")
+    told.texts(&["(", name_of_format(frame.format), " "]);
+    told.numbers("x", &[i64::from(frame.width), i64::from(frame.height)]);
+    told.text(")");
 }
 
-fn show_picture(alloc: Global, head: &StreamHead, frame: &VFrame) -> Result<String, AllocError> {
-    let planes = hex::encode(alloc, frame.planes.as_slice())?;
-    let other = picture_of_another(alloc, head, frame)?;
-    let (pts, duration) = (frame.pts, frame.duration);
-    format!(in alloc; "{other}{pts}+{duration}:{planes}")
+fn tell_picture(told: &mut Told, head: &StreamHead, frame: &VFrame) {
+    tell_picture_of_another(told, head, frame);
+    told.numbers("+", &[frame.pts, frame.duration]);
+    told.text(":");
+    told.hex(frame.planes.as_slice());
 }
 
 // What audio has that isn't as its head says.
-fn sound_of_another(
-    alloc: Global,
-    head: &StreamHead,
-    frame: &AFrame,
-) -> Result<String, AllocError> {
+fn tell_sound_of_another(told: &mut Told, head: &StreamHead, frame: &AFrame) {
     if let StreamHead::Audio {
         rate,
         bits,
@@ -131,27 +143,32 @@ fn sound_of_another(
         && bits == frame.bits
         && channels == frame.channels
     {
-        return Ok(String::new(alloc));
+        return;
     }
     let (rate, bits, channels) = (frame.rate, frame.bits, frame.channels);
-    format!(in alloc; "({rate} {bits} {channels})")
+    told.text("(");
+    told.numbers(
+        " ",
+        &[i64::from(rate), i64::from(bits), i64::from(channels)],
+    );
+    told.text(")");
 }
 
-fn show_sound(alloc: Global, head: &StreamHead, frame: &AFrame) -> Result<String, AllocError> {
-    let samples = show_samples(alloc, frame.samples.as_slice(), frame.channels as usize)?;
-    let other = sound_of_another(alloc, head, frame)?;
-    let pts = frame.pts;
-    format!(in alloc; "{other}{pts}:{samples}")
+fn tell_sound(told: &mut Told, head: &StreamHead, frame: &AFrame) {
+    tell_sound_of_another(told, head, frame);
+    told.number(frame.pts);
+    told.text(":");
+    tell_samples(told, frame.samples.as_slice(), frame.channels as usize);
 }
 
-/// An item as a string, on a stream of this head. What it has that isn't as the head says stands before it in brackets.
-pub fn show_item(alloc: Global, head: &StreamHead, item: &Item) -> Result<String, AllocError> {
+/// Writes an item on a stream of this head. What it has that isn't as the head says stands before it in brackets.
+pub fn tell_item(told: &mut Told, head: &StreamHead, item: &Item) {
     match item {
-        Item::Video(frame) => show_picture(alloc, head, frame),
-        Item::Audio(frame) => show_sound(alloc, head, frame),
-        Item::End => String::from_str(alloc, "end"),
-        Item::Broken => String::from_str(alloc, "broken"),
-        Item::Packet(_) => String::from_str(alloc, "packet"),
-        Item::Trailer(_) => String::from_str(alloc, "trailer"),
+        Item::Video(frame) => tell_picture(told, head, frame),
+        Item::Audio(frame) => tell_sound(told, head, frame),
+        Item::End => told.text("end"),
+        Item::Broken => told.text("broken"),
+        Item::Packet(_) => told.text("packet"),
+        Item::Trailer(_) => told.text("trailer"),
     }
 }

@@ -1,9 +1,11 @@
 //! One filter, fed and pulled as the lines of its row say.
-use crate::heads::show_head;
-use crate::items::{read_item, show_item};
+use crate::heads::tell_head;
+use crate::items::{read_item, tell_item};
 use crate::table::{Stop, halves};
+use crate::told::Told;
 use ff_filter::Filter;
 use ff_frame::StreamHead;
+use ff_stream::Item;
 use std::alloc::Global;
 
 /// So many items at most are taken from an output in one line.
@@ -11,8 +13,8 @@ pub const MOST: u64 = 1 << 20;
 
 /// What does the lines of a row.
 pub trait Steps {
-    /// Does what a line says, and answers with the rest that it should have.
-    fn step(&mut self, kind: &str, rest: &str) -> Result<String, Stop>;
+    /// Does what a line says, and writes the rest that it should have.
+    fn step(&mut self, told: &mut Told, kind: &str, rest: &str);
 }
 
 /// A filter with the heads of its inputs and of its outputs.
@@ -28,35 +30,31 @@ pub struct Play<'a, F> {
     pub outs: Vec<StreamHead>,
 }
 
-fn head_at(heads: &[StreamHead], port: usize) -> Result<StreamHead, Stop> {
-    match heads.get(port) {
-        Some(head) => Ok(*head),
-        None => Err(Stop::Unreadable),
-    }
+// The head of the port of this number, and the port.
+fn head_at(heads: &[StreamHead], word: &str) -> Option<(usize, StreamHead)> {
+    let port = word.parse::<usize>().ok()?;
+    Some((port, *heads.get(port)?))
 }
 
 impl<F: Filter> Play<'_, F> {
-    /// The heads of its outputs, a line each; then where it doesn't have as many inputs or outputs, that.
-    pub fn heads(&self) -> Result<String, Stop> {
-        let mut text = String::new(self.alloc);
+    /// Writes the heads of its outputs, a line each; then where it doesn't have as many inputs or outputs, that.
+    pub fn tell_heads(&self, told: &mut Told) {
         for head in self.outs.iter() {
-            let head = show_head(self.alloc, head)?;
-            text.push_str(format!(in self.alloc; "out {head}\n")?.as_str())?;
+            told.text("out ");
+            tell_head(told, head);
+            told.text("\n");
         }
         let (inputs, outputs) = (self.filter.inputs(), self.filter.outputs());
         if inputs != self.ins.len() || outputs != self.outs.len() {
-            text.push_str(format!(in self.alloc;
-                "{inputs} inputs, {outputs} outputs\n"
-            )?.as_str())?;
+            told.count(inputs as u64);
+            told.text(" inputs, ");
+            told.count(outputs as u64);
+            told.text(" outputs\n");
         }
-        Ok(text)
     }
 
-    // Feeds an input that hasn't closed, and says whether it is closed as it should be.
-    fn feed(&mut self, rest: &str) -> Result<String, Stop> {
-        let (port, text) = halves(rest);
-        let port = port.parse::<usize>()?;
-        let item = read_item(self.alloc, &head_at(self.ins, port)?, text)?;
+    // Feeds an input that hasn't closed, and answers whether it is closed as it should be.
+    fn is_fed(&mut self, port: usize, item: Item) -> Result<bool, Stop> {
         if port >= self.filter.inputs() || self.filter.is_shut(port) {
             return Err(Stop::Unreadable);
         }
@@ -65,101 +63,124 @@ impl<F: Filter> Play<'_, F> {
             return Err(Stop::Broken);
         }
         let shut = port < self.filter.inputs() && self.filter.is_shut(port);
-        let text = if shut == closes {
-            rest
-        } else {
-            "an input that isn't closed so"
-        };
-        Ok(String::from_str(self.alloc, text)?)
+        Ok(shut == closes)
     }
 
-    // What is next on an output that is wanted; the empty string where nothing is due.
-    fn next(&mut self, port: usize) -> Result<String, Stop> {
-        let head = head_at(self.outs.as_slice(), port)?;
+    fn feed(&mut self, told: &mut Told, rest: &str) {
+        let (word, text) = halves(rest);
+        let Some((port, head)) = head_at(self.ins, word) else {
+            return told.fail(Stop::Unreadable);
+        };
+        let fed = match read_item(self.alloc, &head, text) {
+            Ok(item) => self.is_fed(port, item),
+            Err(stop) => Err(stop),
+        };
+        match fed {
+            Ok(true) => told.text(rest),
+            Ok(false) => told.text("an input that isn't closed so"),
+            Err(stop) => told.fail(stop),
+        }
+    }
+
+    // What is next on an output that is wanted.
+    fn pull(&mut self, port: usize) -> Result<Option<Item>, Stop> {
         if port >= self.filter.outputs() || self.filter.is_stopped(port) {
             return Err(Stop::Unreadable);
         }
-        match self.filter.pull(port)? {
-            Some(item) => Ok(show_item(self.alloc, &head, &item)?),
-            None => Ok(String::new(self.alloc)),
+        match self.filter.pull(port) {
+            Ok(item) => Ok(item),
+            Err(_) => Err(Stop::Broken),
         }
     }
 
-    // All that is due on an output.
-    fn all(&mut self, port: usize) -> Result<String, Stop> {
-        let mut text = String::from_str(self.alloc, "")?;
+    // Writes what is next on an output after a blank, and answers whether something was due.
+    fn next(&mut self, told: &mut Told, port: usize, head: &StreamHead) -> bool {
+        match self.pull(port) {
+            Ok(Some(item)) => {
+                told.text(" ");
+                tell_item(told, head, &item);
+                true
+            }
+            Ok(None) => false,
+            Err(stop) => {
+                told.fail(stop);
+                false
+            }
+        }
+    }
+
+    // Writes all that is due on an output.
+    fn all(&mut self, told: &mut Told, port: usize, head: &StreamHead) {
         for _ in 0..MOST {
-            let item = self.next(port)?;
-            if item.is_empty() {
-                return Ok(text);
+            if !self.next(told, port, head) {
+                return;
             }
-            text.push(' ')?;
-            text.push_str(item.as_str())?;
         }
-        Err(Stop::Broken)
+        told.fail(Stop::Broken);
     }
 
-    // The line that `next` or `gives` would be.
-    fn pulled(&mut self, kind: &str, rest: &str) -> Result<String, Stop> {
+    // Writes the line that `next` or `gives` would be.
+    fn pulled(&mut self, told: &mut Told, kind: &str, rest: &str) {
         let (word, _) = halves(rest);
-        let port = word.parse::<usize>()?;
-        if kind == "gives" {
-            let text = self.all(port)?;
-            return Ok(format!(in self.alloc; "{word}{text}")?);
-        }
-        let text = self.next(port)?;
-        if text.is_empty() {
-            return Ok(String::from_str(self.alloc, word)?);
-        }
-        Ok(format!(in self.alloc; "{word} {text}")?)
-    }
-
-    // What is due on any output that is wanted.
-    fn any(&mut self) -> Result<String, Stop> {
-        let mut text = String::new(self.alloc);
-        for port in 0..self.outs.len() {
-            if port < self.filter.outputs() && !self.filter.is_stopped(port) {
-                text.push_str(self.all(port)?.as_str())?;
+        told.text(word);
+        match head_at(self.outs.as_slice(), word) {
+            None => told.fail(Stop::Unreadable),
+            Some((port, head)) => {
+                if kind == "gives" {
+                    self.all(told, port, &head);
+                } else {
+                    self.next(told, port, &head);
+                }
             }
         }
-        Ok(text)
+    }
+
+    // Writes what is due on any output that is wanted.
+    fn any(&mut self, told: &mut Told) {
+        for port in 0..self.outs.len() {
+            if port < self.filter.outputs()
+                && !self.filter.is_stopped(port)
+                && let Some(head) = self.outs.get(port).copied()
+            {
+                self.all(told, port, &head);
+            }
+        }
     }
 
     // An output isn't wanted any more.
-    fn stop(&mut self, rest: &str) -> Result<String, Stop> {
-        let port = rest.parse::<usize>()?;
+    fn stop(&mut self, told: &mut Told, rest: &str) {
+        let Ok(port) = rest.parse::<usize>() else {
+            return told.fail(Stop::Unreadable);
+        };
         if port >= self.filter.outputs() {
-            return Err(Stop::Unreadable);
+            return told.fail(Stop::Unreadable);
         }
         self.filter.stop(port);
         let stopped = port < self.filter.outputs() && self.filter.is_stopped(port);
-        let text = if stopped {
+        told.text(if stopped {
             rest
         } else {
             "an output that isn't stopped"
-        };
-        Ok(String::from_str(self.alloc, text)?)
+        });
     }
 
     // Of each input whether nothing more of it can matter.
-    fn spent(&self) -> Result<String, Stop> {
-        let mut text = String::new(self.alloc);
+    fn spent(&self, told: &mut Told) {
         for port in 0..self.filter.inputs() {
-            text.push(if self.filter.spent(port) { '1' } else { '0' })?;
+            told.text(if self.filter.spent(port) { "1" } else { "0" });
         }
-        Ok(text)
     }
 }
 
 impl<F: Filter> Steps for Play<'_, F> {
-    fn step(&mut self, kind: &str, rest: &str) -> Result<String, Stop> {
+    fn step(&mut self, told: &mut Told, kind: &str, rest: &str) {
         match kind {
-            "feed" => self.feed(rest),
-            "gives" | "next" => self.pulled(kind, rest),
-            "waits" => self.any(),
-            "stop" => self.stop(rest),
-            "spent" => self.spent(),
-            _ => Err(Stop::Unreadable),
+            "feed" => self.feed(told, rest),
+            "gives" | "next" => self.pulled(told, kind, rest),
+            "waits" => self.any(told),
+            "stop" => self.stop(told, rest),
+            "spent" => self.spent(told),
+            _ => told.fail(Stop::Unreadable),
         }
     }
 }

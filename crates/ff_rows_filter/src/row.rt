@@ -1,6 +1,7 @@
 //! One row: the string of a filter, the heads of its inputs, and what is done with it and must come.
 use crate::heads::read_head;
-use crate::table::{Stop, halves};
+use crate::table::halves;
+use crate::told::Told;
 use ff_frame::StreamHead;
 use std::alloc::Global;
 
@@ -32,8 +33,15 @@ pub struct Row<'a> {
     pub answer: String,
     /// What is done with it, in order.
     pub steps: Vec<Line<'a>>,
-    /// What doesn't hold: a line of the table, and what came.
-    pub problems: String,
+}
+
+/// Notes a line that doesn't hold, in pieces, and what came in its place.
+pub fn add_problem(problems: &mut Told, number: usize, line: &[&str], came: &str) {
+    problems.text("    ");
+    problems.count(number as u64);
+    problems.text(": ");
+    problems.texts(line);
+    problems.texts(&["\n    came: ", came, "\n"]);
 }
 
 impl<'a> Row<'a> {
@@ -47,36 +55,31 @@ impl<'a> Row<'a> {
             ins: Vec::new(alloc),
             answer: String::new(alloc),
             steps: Vec::new(alloc),
-            problems: String::new(alloc),
         }
     }
 
-    /// Notes a line that doesn't hold, and what came in its place.
-    pub fn add_problem(&mut self, number: usize, line: &str, came: &str) -> Result<(), Stop> {
-        let text = format!(in self.alloc; "    {number}: {line}\n    came: {came}\n")?;
-        Ok(self.problems.push_str(text.as_str())?)
+    // The head of a further input.
+    fn add_input(&mut self, problems: &mut Told, number: usize, line: &str, rest: &str) {
+        match read_head(rest) {
+            Ok(head) => problems.note(self.ins.push(head)),
+            Err(_) => add_problem(problems, number, &[line], "a line that can't be read"),
+        }
     }
 
     // A line of the answer.
-    fn expect(&mut self, line: &str) -> Result<(), Stop> {
-        self.answer.push_str(line)?;
-        Ok(self.answer.push('\n')?)
+    fn expect(&mut self, problems: &mut Told, line: &str) {
+        problems.note(self.answer.push_str(line));
+        problems.note(self.answer.push('\n'));
     }
 
-    /// Takes in a line of the row.
-    pub fn read(&mut self, number: usize, line: &'a str) -> Result<(), Stop> {
+    /// Takes in a line of the row, and notes the problem where it can't be read.
+    pub fn read(&mut self, problems: &mut Told, number: usize, line: &'a str) {
         let (kind, rest) = halves(line);
         match kind {
-            "filter" => {
-                self.filter = rest;
-                Ok(())
-            }
-            "in" => match read_head(rest) {
-                Ok(head) => Ok(self.ins.push(head)?),
-                Err(_) => self.add_problem(number, line, "a line that can't be read"),
-            },
-            "out" | "refused" => self.expect(line),
-            _ => Ok(self.steps.push(Line { number, kind, rest })?),
+            "filter" => self.filter = rest,
+            "in" => self.add_input(problems, number, line, rest),
+            "out" | "refused" => self.expect(problems, line),
+            _ => problems.note(self.steps.push(Line { number, kind, rest })),
         }
     }
 }

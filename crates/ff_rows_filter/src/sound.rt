@@ -1,119 +1,114 @@
 //! Samples, as a table has them: channel by channel with `|` between them, each of them runs of numbers that rise by
 //! one.
+use crate::fields::Fields;
 use crate::table::Stop;
-use std::alloc::{AllocError, Global};
+use crate::told::Told;
+use std::alloc::Global;
 
 // The samples of a run: `FIRST~LAST`, or one number.
-fn add_run(samples: &mut Vec<i32>, text: &str) -> Result<(), Stop> {
-    let (first, last) = match text.split_once('~') {
-        Some((first, last)) => (first.parse::<i32>()?, last.parse::<i32>()?),
-        None => (text.parse::<i32>()?, text.parse::<i32>()?),
+fn add_run(fields: &mut Fields, samples: &mut Vec<i32>, text: &str) {
+    let (first, last) = text.split_once('~').unwrap_or((text, text));
+    let (Ok(first), Ok(last)) = (first.parse::<i32>(), last.parse::<i32>()) else {
+        return fields.fail(Stop::Unreadable);
     };
     for sample in first..=last {
-        samples.push(sample)?;
+        if !fields.note(samples.push(sample)) {
+            return;
+        }
     }
-    Ok(())
 }
 
-fn read_channel(alloc: Global, text: &str) -> Result<Vec<i32>, Stop> {
+fn read_channel(alloc: Global, fields: &mut Fields, text: &str) -> Vec<i32> {
     let mut samples = Vec::new(alloc);
     for run in text.split(',') {
-        add_run(&mut samples, run)?;
+        add_run(fields, &mut samples, run);
     }
-    Ok(samples)
+    samples
 }
 
 // The samples of all channels at one place.
-fn add_row(out: &mut Vec<i32>, channels: &[Vec<i32>], place: usize) -> Result<(), Stop> {
+fn add_row(fields: &mut Fields, out: &mut Vec<i32>, channels: &[Vec<i32>], place: usize) {
     for channel in channels {
         match channel.get(place) {
-            Some(sample) => out.push(*sample)?,
-            None => return Err(Stop::Unreadable),
+            Some(sample) => {
+                fields.note(out.push(*sample));
+            }
+            None => fields.fail(Stop::Unreadable),
         }
     }
-    Ok(())
 }
 
-/// The samples of a string, interleaved by channel.
-pub fn read_samples(alloc: Global, text: &str) -> Result<Vec<i32>, Stop> {
+/// The samples of all that is left, interleaved by channel.
+pub fn read_samples(alloc: Global, fields: &mut Fields) -> Vec<i32> {
     let mut channels = Vec::new(alloc);
     let mut most = 0;
-    for channel in text.split('|') {
-        let channel = read_channel(alloc, channel)?;
+    for channel in fields.rest().split('|') {
+        let channel = read_channel(alloc, fields, channel);
         most = channel.len().max(most);
-        channels.push(channel)?;
+        fields.note(channels.push(channel));
     }
     let mut out = Vec::new(alloc);
     for place in 0..most {
-        add_row(&mut out, channels.as_slice(), place)?;
+        add_row(fields, &mut out, channels.as_slice(), place);
     }
-    Ok(out)
+    out
 }
 
-// The string of the runs so far, and the run that goes on.
+// What is told of a channel: whether a run stands before, and the run that goes on.
 #[derive(Drop)]
 struct Runs {
-    text: String,
+    begun: bool,
     run: Option<(i32, i32)>,
 }
 
 impl Runs {
     // Writes the run that goes on.
-    fn end_run(&mut self, alloc: Global) -> Result<(), AllocError> {
+    fn end_run(&mut self, told: &mut Told) {
         let Some((first, last)) = self.run else {
-            return Ok(());
+            return;
         };
-        if !self.text.is_empty() {
-            self.text.push(',')?;
+        if self.begun {
+            told.text(",");
         }
-        let run = if first == last {
-            format!(in alloc; "{first}")?
-        } else {
-            format!(in alloc; "{first}~{last}")?
-        };
-        self.text.push_str(run.as_str())
+        self.begun = true;
+        told.number(i64::from(first));
+        if first != last {
+            told.text("~");
+            told.number(i64::from(last));
+        }
     }
 
-    fn add(&mut self, alloc: Global, sample: i32) -> Result<(), AllocError> {
+    fn add(&mut self, told: &mut Told, sample: i32) {
         if let Some((first, last)) = self.run
             && sample as i64 == last as i64 + 1
         {
             self.run = Some((first, sample));
-            return Ok(());
+            return;
         }
-        self.end_run(alloc)?;
+        self.end_run(told);
         self.run = Some((sample, sample));
-        Ok(())
     }
 }
 
-fn show_channel(
-    alloc: Global,
-    samples: &[i32],
-    channels: usize,
-    channel: usize,
-) -> Result<String, AllocError> {
+fn tell_channel(told: &mut Told, samples: &[i32], channels: usize, channel: usize) {
     let mut runs = Runs {
-        text: String::new(alloc),
+        begun: false,
         run: None,
     };
     for (place, sample) in samples.iter().enumerate() {
         if channels > 0 && place % channels == channel {
-            runs.add(alloc, *sample)?;
+            runs.add(told, *sample);
         }
     }
-    runs.end_run(alloc)?;
-    Ok(runs.text)
+    runs.end_run(told);
 }
 
-/// The string of samples that are interleaved by channel.
-pub fn show_samples(alloc: Global, samples: &[i32], channels: usize) -> Result<String, AllocError> {
-    let mut text = String::new(alloc);
+/// Writes samples that are interleaved by channel.
+pub fn tell_samples(told: &mut Told, samples: &[i32], channels: usize) {
     for channel in 0..channels {
         if channel > 0 {
-            text.push('|')?;
+            told.text("|");
         }
-        text.push_str(show_channel(alloc, samples, channels, channel)?.as_str())?;
+        tell_channel(told, samples, channels, channel);
     }
-    Ok(text)
 }

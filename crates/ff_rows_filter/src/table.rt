@@ -1,7 +1,6 @@
-//! The strings of tables: words and numbers.
-use std::alloc::{AllocError, AllocFailed};
+//! The strings of tables: words, and why a row isn't run to its end.
+use std::alloc::AllocError;
 use std::io;
-use std::num::ParseIntError;
 
 /// Why a row isn't run to its end.
 #[derive(Clone, Copy)]
@@ -18,21 +17,9 @@ impl From<AllocError> for Stop {
     }
 }
 
-impl<T: Drop> From<AllocFailed<T>> for Stop {
-    fn from(_: AllocFailed<T>) -> Stop {
-        Stop::Broken
-    }
-}
-
 impl From<io::Error> for Stop {
     fn from(_: io::Error) -> Stop {
         Stop::Broken
-    }
-}
-
-impl From<ParseIntError> for Stop {
-    fn from(_: ParseIntError) -> Stop {
-        Stop::Unreadable
     }
 }
 
@@ -41,13 +28,5 @@ pub fn halves(line: &str) -> (&str, &str) {
     match line.split_once(' ') {
         Some((word, rest)) => (word, rest),
         None => (line, ""),
-    }
-}
-
-/// What stands before and after the first of a sign.
-pub fn parted(text: &str, sign: char) -> Result<(&str, &str), Stop> {
-    match text.split_once(sign) {
-        Some(parts) => Ok(parts),
-        None => Err(Stop::Unreadable),
     }
 }
