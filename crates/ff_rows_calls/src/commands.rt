@@ -1,14 +1,14 @@
 //! Calls that read a command line.
-use crate::lang::show;
-use crate::maps::show_map;
-use crate::table::{Stop, text_of};
-use crate::words::{Words, read_number};
+use crate::lang::tell_graph;
+use crate::maps::tell_map;
+use crate::table::Stop;
+use crate::told::Told;
+use crate::words::Call;
 use ff_format::{FORMATS, FileFormat, Rf64};
 use ff_frame::{Codec, HashKind};
 use ff_lang::Graph;
 use ff_time::TimeCut;
 use ff_words::{Command, InputJob, Job, OutputJob, Solo, WordError, WordKind, read_words};
-use std::alloc::{AllocError, Global};
 
 fn name_of_format(format: FileFormat) -> &'static str {
     for (name, _ending, listed, _read, _written) in FORMATS.iter() {
@@ -19,168 +19,169 @@ fn name_of_format(format: FileFormat) -> &'static str {
     "unknown"
 }
 
-fn add_word(out: &mut String, word: &str) -> Result<(), AllocError> {
-    out.push_str(" ")?;
-    out.push_str(word)
-}
-
-fn add_if(out: &mut String, holds: bool, word: &str) -> Result<(), AllocError> {
+fn tell_if(told: &mut Told, holds: bool, word: &str) {
     if holds {
-        add_word(out, word)?;
+        told.texts(&[" ", word]);
     }
-    Ok(())
 }
 
-fn add_cut(alloc: Global, out: &mut String, cut: TimeCut) -> Result<(), AllocError> {
+fn tell_cut(told: &mut Told, cut: TimeCut) {
     if cut.start > 0 {
-        let start = cut.start;
-        out.push_str(format!(in alloc; " from {start}")?.as_str())?;
+        told.text(" from ");
+        told.count(cut.start);
     }
     if let Some(length) = cut.length {
-        out.push_str(format!(in alloc; " for {length}")?.as_str())?;
+        told.text(" for ");
+        told.count(length);
     }
-    Ok(())
 }
 
-fn add_input(alloc: Global, out: &mut String, input: &InputJob) -> Result<(), AllocError> {
-    let name = input.name.as_str();
-    out.push_str(format!(in alloc; "; in <{name}>")?.as_str())?;
+fn tell_input(told: &mut Told, input: &InputJob) {
+    told.texts(&["; in <", input.name.as_str(), ">"]);
     if let Some(format) = input.format {
-        add_word(out, name_of_format(format))?;
+        told.texts(&[" ", name_of_format(format)]);
     }
-    add_cut(alloc, out, input.cut)
+    tell_cut(told, input.cut);
 }
 
-fn add_codec(out: &mut String, kind: &str, codec: Option<Codec>) -> Result<(), AllocError> {
+fn tell_codec(told: &mut Told, kind: &str, codec: Option<Codec>) {
     if let Some(codec) = codec {
-        add_word(out, kind)?;
-        add_word(out, codec.name())?;
-    }
-    Ok(())
-}
-
-fn add_graph(alloc: Global, out: &mut String, kind: &str, graph: &Graph) -> Result<(), Stop> {
-    let text = show(alloc, graph)?;
-    let text = text.as_str();
-    Ok(out.push_str(format!(in alloc; " {kind} ({text})")?.as_str())?)
-}
-
-fn add_simple(
-    alloc: Global,
-    out: &mut String,
-    kind: &str,
-    graph: &Option<Graph>,
-) -> Result<(), Stop> {
-    match graph {
-        Some(graph) => add_graph(alloc, out, kind, graph),
-        None => Ok(()),
+        told.texts(&[" ", kind, " ", codec.name()]);
     }
 }
 
-fn add_maps(alloc: Global, out: &mut String, output: &OutputJob) -> Result<(), AllocError> {
+fn tell_named_graph(told: &mut Told, kind: &str, graph: &Graph) {
+    told.texts(&[" ", kind, " ("]);
+    tell_graph(told, graph);
+    told.text(")");
+}
+
+fn tell_simple(told: &mut Told, kind: &str, graph: &Option<Graph>) {
+    if let Some(graph) = graph {
+        tell_named_graph(told, kind, graph);
+    }
+}
+
+fn tell_maps(told: &mut Told, output: &OutputJob) {
     for map in output.maps.as_slice() {
-        let text = show_map(alloc, map)?;
-        let text = text.as_str();
-        out.push_str(format!(in alloc; " map ({text})")?.as_str())?;
+        told.text(" map (");
+        tell_map(told, map);
+        told.text(")");
     }
-    Ok(())
 }
 
-fn add_output(alloc: Global, out: &mut String, output: &OutputJob) -> Result<(), Stop> {
-    let (name, format) = (output.name.as_str(), name_of_format(output.format));
-    out.push_str(format!(in alloc; "; out <{name}> {format}")?.as_str())?;
-    add_maps(alloc, out, output)?;
-    add_codec(out, "audio", output.audio)?;
-    add_codec(out, "video", output.video)?;
-    add_simple(alloc, out, "vf", &output.vf)?;
-    add_simple(alloc, out, "af", &output.af)?;
-    add_if(out, output.no_audio, "no-audio")?;
-    add_if(out, output.no_video, "no-video")?;
-    add_cut(alloc, out, output.cut)?;
+fn tell_output(told: &mut Told, output: &OutputJob) {
+    let format = name_of_format(output.format);
+    told.texts(&["; out <", output.name.as_str(), "> ", format]);
+    tell_maps(told, output);
+    tell_codec(told, "audio", output.audio);
+    tell_codec(told, "video", output.video);
+    tell_simple(told, "vf", &output.vf);
+    tell_simple(told, "af", &output.af);
+    tell_if(told, output.no_audio, "no-audio");
+    tell_if(told, output.no_video, "no-video");
+    tell_cut(told, output.cut);
     if let Some(frames) = output.frames {
-        out.push_str(format!(in alloc; " frames {frames}")?.as_str())?;
+        told.text(" frames ");
+        told.count(u64::from(frames));
     }
-    add_if(out, output.shortest, "shortest")?;
-    add_if(out, output.hash == HashKind::Md5, "md5")?;
-    add_if(out, output.rf64 == Rf64::Auto, "rf64-auto")?;
-    Ok(add_if(out, output.rf64 == Rf64::Always, "rf64-always")?)
+    tell_if(told, output.shortest, "shortest");
+    tell_if(told, output.hash == HashKind::Md5, "md5");
+    tell_if(told, output.rf64 == Rf64::Auto, "rf64-auto");
+    tell_if(told, output.rf64 == Rf64::Always, "rf64-always");
 }
 
 // What concerns the whole command, then the inputs, then the outputs; of an output its digest is told where it is MD5,
 // and RF64 where it may be.
-fn show_job(alloc: Global, job: &Job) -> Result<String, Stop> {
-    let queue = job.queue;
-    let mut out = format!(in alloc; "queue {queue}")?;
+fn tell_job(told: &mut Told, job: &Job) {
+    told.text("queue ");
+    told.count(u64::from(job.queue));
     if let Some(trace) = &job.trace {
-        let name = trace.as_str();
-        out.push_str(format!(in alloc; " trace <{name}>")?.as_str())?;
+        told.texts(&[" trace <", trace.as_str(), ">"]);
     }
-    add_if(&mut out, job.keeps, "keeps")?;
+    tell_if(told, job.keeps, "keeps");
     for graph in job.graphs.as_slice() {
-        add_graph(alloc, &mut out, "graph", graph)?;
+        tell_named_graph(told, "graph", graph);
     }
     for input in job.inputs.as_slice() {
-        add_input(alloc, &mut out, input)?;
+        tell_input(told, input);
     }
     for output in job.outputs.as_slice() {
-        add_output(alloc, &mut out, output)?;
+        tell_output(told, output);
     }
-    Ok(out)
 }
 
-fn show_kind(alloc: Global, kind: WordKind) -> Result<String, AllocError> {
-    let text = match kind {
-        WordKind::UnknownOption => "unknown option",
-        WordKind::MissingValue => "missing value",
-        WordKind::BadValue => "bad value",
-        WordKind::BadTime { at } => return format!(in alloc; "bad time at {at}"),
-        WordKind::BadMap { at } => return format!(in alloc; "bad map at {at}"),
-        WordKind::BadGraph { at } => return format!(in alloc; "bad graph at {at}"),
-        WordKind::Misplaced => "misplaced option",
-        WordKind::TooMany => "too many",
-        WordKind::NoInput => "no input",
-        WordKind::NoOutput => "no output",
-        WordKind::SameName => "same name",
-    };
-    String::from_str(alloc, text)
+fn tell_place(told: &mut Told, what: &str, at: usize) {
+    told.text(what);
+    told.count(at as u64);
 }
 
-fn shown(alloc: Global, read: Result<Command, WordError>) -> Result<String, Stop> {
-    match read {
-        Ok(Command::Run(job)) => show_job(alloc, &job),
-        Ok(Command::Solo(Solo::Help)) => Ok(String::from_str(alloc, "help")?),
-        Ok(Command::Solo(Solo::Version)) => Ok(String::from_str(alloc, "version")?),
-        Ok(Command::Solo(Solo::SelfRun(seconds))) => Ok(format!(in alloc; "selfrun {seconds}")?),
-        Err(WordError::At { word, kind }) => {
-            let kind = show_kind(alloc, kind)?;
-            let kind = kind.as_str();
-            Ok(format!(in alloc; "word {word}: {kind}")?)
+fn tell_kind(told: &mut Told, kind: WordKind) {
+    match kind {
+        WordKind::UnknownOption => told.text("unknown option"),
+        WordKind::MissingValue => told.text("missing value"),
+        WordKind::BadValue => told.text("bad value"),
+        WordKind::BadTime { at } => tell_place(told, "bad time at ", at),
+        WordKind::BadMap { at } => tell_place(told, "bad map at ", at),
+        WordKind::BadGraph { at } => tell_place(told, "bad graph at ", at),
+        WordKind::Misplaced => told.text("misplaced option"),
+        WordKind::TooMany => told.text("too many"),
+        WordKind::NoInput => told.text("no input"),
+        WordKind::NoOutput => told.text("no output"),
+        WordKind::SameName => told.text("same name"),
+    }
+}
+
+fn tell_solo(told: &mut Told, solo: Solo) {
+    match solo {
+        Solo::Help => told.text("help"),
+        Solo::Version => told.text("version"),
+        Solo::SelfRun(seconds) => {
+            told.text("selfrun ");
+            told.count(u64::from(seconds));
         }
-        Err(WordError::NoMemory) => Err(Stop::Broken),
+    }
+}
+
+fn tell_read(told: &mut Told, read: Result<Command, WordError>) {
+    match read {
+        Ok(Command::Run(job)) => tell_job(told, &job),
+        Ok(Command::Solo(solo)) => tell_solo(told, solo),
+        Err(WordError::At { word, kind }) => {
+            told.text("word ");
+            told.count(u64::from(word));
+            told.text(": ");
+            tell_kind(told, kind);
+        }
+        Err(WordError::NoMemory) => told.fail(Stop::Broken),
     }
 }
 
 /// `command WORD..`: what the arguments ask for.
-pub fn command(words: Words) -> Result<String, Stop> {
-    shown(words.alloc, read_words(words.alloc, words.all()))
+pub fn command(call: &mut Call, told: &mut Told) {
+    tell_read(told, read_words(call.alloc, call.all()));
 }
 
 // So many arguments of a string more.
-fn add_words(words: Words, out: &mut Vec<String>, at: usize) -> Result<(), Stop> {
-    let times = read_number(words.text(at)?)?;
-    let text = text_of(words.bytes(at.saturating_add(1))?)?;
+fn add_words(call: &mut Call, out: &mut Vec<String>, at: usize) {
+    let times = call.number(at);
+    let Ok(text) = String::from_utf8(call.bytes(at.saturating_add(1))) else {
+        return call.misread();
+    };
     for _ in 0..times {
-        out.push(text.clone()?)?;
+        let text = call.own(text.as_str());
+        if !call.note(out.push(text)) {
+            return;
+        }
     }
-    Ok(())
 }
 
 /// `command_of TIMES BYTES ..`: the same of so many arguments of a string, then so many of the next, and so on. Each
 /// string is told as bytes are.
-pub fn made(words: Words) -> Result<String, Stop> {
-    let mut made = Vec::new(words.alloc);
-    for pair in 0..words.len() / 2 {
-        add_words(words, &mut made, pair * 2)?;
+pub fn made(call: &mut Call, told: &mut Told) {
+    let mut made = Vec::new(call.alloc);
+    for pair in 0..call.len() / 2 {
+        add_words(call, &mut made, pair * 2);
     }
-    shown(words.alloc, read_words(words.alloc, made.as_slice()))
+    tell_read(told, read_words(call.alloc, made.as_slice()));
 }

@@ -1,10 +1,11 @@
 //! Calls that cut inputs into packets.
-ghost use Rattle.std.specs.Prelude.{◌≤◌, IfOk};
+ghost use Rattle.std.specs.Prelude.{◌≤◌, IfSome};
 
 use crate::cutter::Cutter;
 use crate::runs::Runs;
 use crate::table::Stop;
-use crate::words::Words;
+use crate::told::Told;
+use crate::words::Call;
 use ff_flac_dec::FlacCut;
 use ff_frame::{Cut, Pkt};
 use ff_lists::front;
@@ -96,154 +97,204 @@ fn take_all<C: PacketCut + Drop>(
     })
 }
 
-// The same of an input of this format.
-fn given_by(
-    alloc: Global,
-    format: &str,
-    bytes: &[u8],
+// A format whose packets are cut.
+#[derive(Clone, Copy)]
+enum Format {
+    Wav,
+    Y4m,
+    Flac,
+}
+
+// How an input is cut: by which format, and how it is fed.
+#[derive(Clone, Copy)]
+struct Manner {
+    format: Format,
     way: Way,
-    piece: usize,
-) -> Result<Given, Stop>
+}
+
+// The packets of an input of this format that is fed so.
+fn given_by(alloc: Global, manner: Manner, bytes: &[u8], piece: usize) -> Result<Given, Stop>
     requires { 1 ≤ piece }
 {
-    match format {
-        "wav" => {
-            let Ok(head) = ff_wav::read_head(bytes, true) else {
-                return Err(Stop::Unreadable);
-            };
-            take_all::<WavCut>(alloc, &head, bytes, way, piece)
-        }
-        "y4m" => {
-            let Ok(head) = ff_y4m::read_head(bytes, true) else {
-                return Err(Stop::Unreadable);
-            };
-            take_all::<Y4mCut>(alloc, &head, bytes, way, piece)
-        }
-        "flac" => {
-            let Ok(head) = ff_flac_dec::read_head(bytes, true) else {
-                return Err(Stop::Unreadable);
-            };
-            take_all::<FlacCut>(alloc, &head, bytes, way, piece)
-        }
-        _ => Err(Stop::Unreadable),
+    match manner.format {
+        Format::Wav => match ff_wav::read_head(bytes, true) {
+            Ok(head) => take_all::<WavCut>(alloc, &head, bytes, manner.way, piece),
+            Err(_) => Err(Stop::Unreadable),
+        },
+        Format::Y4m => match ff_y4m::read_head(bytes, true) {
+            Ok(head) => take_all::<Y4mCut>(alloc, &head, bytes, manner.way, piece),
+            Err(_) => Err(Stop::Unreadable),
+        },
+        Format::Flac => match ff_flac_dec::read_head(bytes, true) {
+            Ok(head) => take_all::<FlacCut>(alloc, &head, bytes, manner.way, piece),
+            Err(_) => Err(Stop::Unreadable),
+        },
     }
 }
 
-fn show_packet(alloc: Global, packet: &Pkt) -> Result<String, Stop> {
-    let (place, pts, dts, duration) = (packet.pos, packet.pts, packet.dts, packet.duration);
-    let size = packet.bytes.as_slice().len();
-    Ok(format!(in alloc; "packet {place} {pts} {dts} {duration} {size}")?)
-}
-
-fn show_last(alloc: Global, last: &Cut) -> Result<String, Stop> {
-    let text = match last {
-        Cut::Pkt(_) => String::from_str(alloc, "more")?,
-        Cut::NotYet => String::from_str(alloc, "not yet")?,
-        Cut::End => String::from_str(alloc, "end")?,
-        Cut::Broken { offset } => format!(in alloc; "broken at {offset}")?,
-    };
-    Ok(text)
-}
-
-// What came after the packets, what then came again where that differs, and what is held.
-fn add_end(alloc: Global, text: &mut String, given: &Given) -> Result<(), Stop> {
-    let last = show_last(alloc, &given.last)?;
-    let again = show_last(alloc, &given.again)?;
-    text.push_str(last.as_str())?;
-    if again != last {
-        text.push_str(", then ")?;
-        text.push_str(again.as_str())?;
+fn tell_packet(told: &mut Told, packet: &Pkt) {
+    told.text("packet ");
+    told.count(packet.pos);
+    for time in &[packet.pts, packet.dts, packet.duration] {
+        told.text(" ");
+        told.number(*time);
     }
-    let held = format!(in alloc; ", held {}", given.held)?;
-    Ok(text.push_str(held.as_str())?)
+    told.text(" ");
+    told.count(packet.bytes.as_slice().len() as u64);
 }
 
-fn show(alloc: Global, given: &Given) -> Result<String, Stop> {
-    let mut text = String::new(alloc);
+fn tell_cut(told: &mut Told, last: &Cut) {
+    match last {
+        Cut::Pkt(_) => told.text("more"),
+        Cut::NotYet => told.text("not yet"),
+        Cut::End => told.text("end"),
+        Cut::Broken { offset } => {
+            told.text("broken at ");
+            told.count(*offset);
+        }
+    }
+}
+
+// Whether the two are told alike.
+fn are_alike(last: &Cut, again: &Cut) -> bool {
+    match (last, again) {
+        (Cut::Pkt(_), Cut::Pkt(_)) | (Cut::NotYet, Cut::NotYet) | (Cut::End, Cut::End) => true,
+        (Cut::Broken { offset }, Cut::Broken { offset: other }) => offset == other,
+        _ => false,
+    }
+}
+
+// Tells what came after the packets, what then came again where that differs, and what is held.
+fn tell_end(told: &mut Told, given: &Given) {
+    tell_cut(told, &given.last);
+    if !are_alike(&given.last, &given.again) {
+        told.text(", then ");
+        tell_cut(told, &given.again);
+    }
+    told.text(", held ");
+    told.count(given.held);
+}
+
+fn tell_given(told: &mut Told, given: &Given) {
     for packet in given.packets.as_slice() {
-        text.push_str(show_packet(alloc, packet)?.as_str())?;
-        text.push_str(", ")?;
+        tell_packet(told, packet);
+        told.text(", ");
     }
-    add_end(alloc, &mut text, given)?;
-    Ok(text)
+    tell_end(told, given);
 }
 
-fn show_bytes(alloc: Global, given: &Given) -> Result<String, Stop> {
-    let mut text = String::new(alloc);
+fn tell_bytes(told: &mut Told, given: &Given) {
     for packet in given.packets.as_slice() {
-        text.push_str(hex::encode(alloc, packet.bytes.as_slice())?.as_str())?;
-        text.push_str(" ")?;
+        told.hex(packet.bytes.as_slice());
+        told.text(" ");
     }
-    add_end(alloc, &mut text, given)?;
-    Ok(text)
+    tell_end(told, given);
 }
 
-fn way_of(words: Words) -> Result<Way, Stop> {
-    match words.text(1)? {
-        "soon" => Ok(Way::Soon),
-        "late" => Ok(Way::Late),
-        "open" => Ok(Way::Open),
-        _ => Err(Stop::Unreadable),
+fn format_at(call: &mut Call, at: usize) -> Option<Format> {
+    match call.text(at) {
+        "wav" => Some(Format::Wav),
+        "y4m" => Some(Format::Y4m),
+        "flac" => Some(Format::Flac),
+        _ => call.read(None),
     }
 }
 
-fn size_at(words: Words, at: usize) -> Result<usize, Stop>
-    ensures { IfOk result (λ size. 1 ≤ size) }
+fn way_at(call: &mut Call, at: usize) -> Option<Way> {
+    match call.text(at) {
+        "soon" => Some(Way::Soon),
+        "late" => Some(Way::Late),
+        "open" => Some(Way::Open),
+        _ => call.read(None),
+    }
+}
+
+// `FORMAT soon|late|open`
+fn manner_of(call: &mut Call) -> Option<Manner> {
+    let (format, way) = (format_at(call, 0), way_at(call, 1));
+    Some(Manner {
+        format: format?,
+        way: way?,
+    })
+}
+
+fn size_at(call: &mut Call, at: usize) -> Option<usize>
+    ensures { IfSome result (λ size. 1 ≤ size) }
 {
-    let size = words.number(at)?;
-    if size < 1 || size > 1_000_000 {
-        return Err(Stop::Unreadable);
+    let size = call.up_to(at, 1_000_000);
+    if size < 1 {
+        return call.read(None);
     }
-    Ok(size as usize)
+    Some(size as usize)
 }
 
-fn cut_text(words: Words, bytes: &[u8], piece: usize) -> Result<String, Stop>
+// Tells the packets of an input that is fed so.
+fn tell_input(alloc: Global, told: &mut Told, manner: Manner, bytes: &[u8], piece: usize)
     requires { 1 ≤ piece }
 {
-    let given = given_by(words.alloc, words.text(0)?, bytes, way_of(words)?, piece)?;
-    show(words.alloc, &given)
+    match given_by(alloc, manner, bytes, piece) {
+        Ok(given) => tell_given(told, &given),
+        Err(stop) => told.fail(stop),
+    }
 }
 
 /// `cut FORMAT soon|late|open PIECE BYTES`: the packets of an input that is fed in pieces of this size. Each is
 /// `packet PLACE PTS DTS DURATION SIZE`. Then comes what comes after them, and how many bytes are held then. `soon`:
 /// packets are taken after each piece; `late`: when the input ended; `open`: as `soon`, and the input doesn't end.
-pub fn cut(words: Words) -> Result<String, Stop> {
-    let bytes = words.bytes(3)?;
-    cut_text(words, bytes.as_slice(), size_at(words, 2)?)
+pub fn cut(call: &mut Call, told: &mut Told) {
+    let bytes = call.bytes(3);
+    if let (Some(manner), Some(piece)) = (manner_of(call), size_at(call, 2)) {
+        tell_input(call.alloc, told, manner, bytes.as_slice(), piece);
+    }
 }
 
 /// `packets FORMAT soon|late|open PIECE BYTES`: the bytes of the same packets.
-pub fn packets(words: Words) -> Result<String, Stop> {
-    let bytes = words.bytes(3)?;
-    let piece = size_at(words, 2)?;
-    let given = given_by(
-        words.alloc,
-        words.text(0)?,
-        bytes.as_slice(),
-        way_of(words)?,
-        piece,
-    )?;
-    show_bytes(words.alloc, &given)
+pub fn packets(call: &mut Call, told: &mut Told) {
+    let bytes = call.bytes(3);
+    let (Some(manner), Some(piece)) = (manner_of(call), size_at(call, 2)) else {
+        return;
+    };
+    match given_by(call.alloc, manner, bytes.as_slice(), piece) {
+        Ok(given) => tell_bytes(told, &given),
+        Err(stop) => told.fail(stop),
+    }
 }
 
 /// `cut_pieces FORMAT soon|late|open MOST BYTES`: `cut` for pieces of each size from 1 to this.
-pub fn cut_pieces(words: Words) -> Result<String, Stop> {
-    let bytes = words.bytes(3)?;
-    let mut runs = Runs::new(words.alloc);
-    for piece in 1..=size_at(words, 2)? {
-        runs.add(piece, cut_text(words, bytes.as_slice(), piece)?)?;
+pub fn cut_pieces(call: &mut Call, told: &mut Told) {
+    let bytes = call.bytes(3);
+    let (Some(manner), Some(most)) = (manner_of(call), size_at(call, 2)) else {
+        return;
+    };
+    let mut runs = Runs::new();
+    for piece in 1..=most {
+        let mut one = Told::new(call.alloc);
+        tell_input(call.alloc, &mut one, manner, bytes.as_slice(), piece);
+        if !runs.add(told, piece, one) {
+            return;
+        }
     }
-    runs.text()
+    runs.end(told);
 }
 
 /// `cut_fronts FORMAT soon|late|open PIECE FROM BYTES`: `cut` for each prefix of these bytes, from so many bytes to all.
-pub fn cut_fronts(words: Words) -> Result<String, Stop> {
-    let bytes = words.bytes(4)?;
-    let piece = size_at(words, 2)?;
-    let mut runs = Runs::new(words.alloc);
-    for length in size_at(words, 3)?..=bytes.len() {
+pub fn cut_fronts(call: &mut Call, told: &mut Told) {
+    let bytes = call.bytes(4);
+    let (Some(manner), Some(piece), Some(from)) = (
+        manner_of(call),
+        size_at(call, 2),
+        size_at(call, 3),
+    ) else {
+        return;
+    };
+    let mut runs = Runs::new();
+    for length in from..=bytes.len() {
         let front = front(bytes.as_slice(), length);
-        runs.add(length, cut_text(words, front, piece)?)?;
+        let mut one = Told::new(call.alloc);
+        tell_input(call.alloc, &mut one, manner, front, piece);
+        if !runs.add(told, length, one) {
+            return;
+        }
     }
-    runs.text()
+    runs.end(told);
 }

@@ -1,16 +1,17 @@
 //! Calls that read and decode FLAC frames and heads.
-ghost use Rattle.std.specs.Prelude.{IfOk};
+ghost use Rattle.std.specs.Prelude.{IfSome};
 ghost use Rattle.ff_flac_frame.specs.Frame.{IsStream};
 ghost use Rattle.ff_flac_dec.specs.Streams.{stream_of};
 
-use crate::heads::{show_end, show_flac};
-use crate::pcm::add_samples;
+use crate::heads::{tell_end, tell_flac};
+use crate::pcm::tell_samples;
 use crate::runs::Runs;
 use crate::table::Stop;
-use crate::words::Words;
+use crate::told::Told;
+use crate::words::Call;
 use ff_flac_dec::{DecodeEnd, FlacHead, FlacWalk, decode};
 use ff_flac_frame::{FlacFrame, FlacStream, FrameEnd, SubKind, Subframe, frame_at};
-use ff_frame::{Codec, StreamHead};
+use ff_frame::{AFrame, Codec, StreamHead};
 use ff_lists::front;
 use ff_time::Rational;
 use std::alloc::Global;
@@ -24,88 +25,103 @@ fn name_of(kind: SubKind) -> &'static str {
     }
 }
 
-fn add_subframe(alloc: Global, text: &mut String, subframe: &Subframe) -> Result<(), Stop> {
-    let (name, order) = (name_of(subframe.kind), subframe.order);
-    text.push_str(format!(in alloc; "; {name} {order} warm")?.as_str())?;
-    add_samples(alloc, text, subframe.warm.as_slice())?;
-    text.push_str(" rest")?;
-    add_samples(alloc, text, subframe.rest.as_slice())
+// A name, and a number after it.
+fn tell_field(told: &mut Told, name: &str, number: u64) {
+    told.text(name);
+    told.count(number);
 }
 
-fn show_frame(alloc: Global, frame: &FlacFrame) -> Result<String, Stop> {
-    let (size, block, form) = (frame.len, frame.block, frame.form);
-    let mut text = format!(in alloc; "{size} bytes block {block} form {form}")?;
+fn tell_subframe(told: &mut Told, subframe: &Subframe) {
+    told.texts(&["; ", name_of(subframe.kind)]);
+    tell_field(told, " ", u64::from(subframe.order));
+    told.text(" warm");
+    tell_samples(told, subframe.warm.as_slice());
+    told.text(" rest");
+    tell_samples(told, subframe.rest.as_slice());
+}
+
+fn tell_frame(told: &mut Told, frame: &FlacFrame) {
+    told.count(frame.len as u64);
+    tell_field(told, " bytes block ", u64::from(frame.block));
+    tell_field(told, " form ", u64::from(frame.form));
     for subframe in frame.subframes.as_slice() {
-        add_subframe(alloc, &mut text, subframe)?;
+        tell_subframe(told, subframe);
     }
-    Ok(text)
 }
 
-fn show_no_frame(alloc: Global, end: FrameEnd) -> Result<String, Stop> {
+fn tell_no_frame(told: &mut Told, end: FrameEnd) {
     match end {
-        FrameEnd::NotYet => Ok(String::from_str(alloc, "not yet")?),
-        FrameEnd::Never => Ok(String::from_str(alloc, "never")?),
-        FrameEnd::NoMemory => Err(Stop::Broken),
+        FrameEnd::NotYet => told.text("not yet"),
+        FrameEnd::Never => told.text("never"),
+        FrameEnd::NoMemory => told.fail(Stop::Broken),
     }
 }
 
 // `RATE BITS CHANNELS`
-fn stream_at(words: Words) -> Result<FlacStream, Stop>
-    ensures { IfOk result IsStream }
+fn stream_at(call: &mut Call) -> Option<FlacStream>
+    ensures { IfSome result IsStream }
 {
-    let (rate, bits, channels) = (words.number(0)?, words.number(1)?, words.number(2)?);
-    if rate < 1 || rate >= 1048576 || bits < 4 || bits > 24 || channels < 1 || channels > 8 {
-        return Err(Stop::Unreadable);
+    let (rate, bits, channels) = (call.up_to(0, 1048575), call.up_to(1, 24), call.up_to(2, 8));
+    if rate < 1 || bits < 4 || channels < 1 {
+        return call.read(None);
     }
-    Ok(FlacStream {
+    Some(FlacStream {
         rate: rate as u32,
         bits: bits as u8,
         channels: channels as u8,
     })
 }
 
-fn frame_text(alloc: Global, stream: &FlacStream, bytes: &[u8]) -> Result<String, Stop>
+fn tell_frame_at(alloc: Global, told: &mut Told, stream: &FlacStream, bytes: &[u8])
     requires { IsStream stream.now }
 {
     match frame_at(alloc, bytes, stream) {
-        Ok(frame) => show_frame(alloc, &frame),
-        Err(end) => show_no_frame(alloc, end),
+        Ok(frame) => tell_frame(told, &frame),
+        Err(end) => tell_no_frame(told, end),
     }
 }
 
 /// `flac_frame RATE BITS CHANNELS BYTES`: the frame with which bytes begin: its size, its block size and channel
 /// code. Of each subframe there are the kind, the order, the warm-up samples and the residuals.
-pub fn frame(words: Words) -> Result<String, Stop> {
-    let bytes = words.bytes(3)?;
-    frame_text(words.alloc, &stream_at(words)?, bytes.as_slice())
+pub fn frame(call: &mut Call, told: &mut Told) {
+    let bytes = call.bytes(3);
+    if let Some(stream) = stream_at(call) {
+        tell_frame_at(call.alloc, told, &stream, bytes.as_slice());
+    }
 }
 
 /// `flac_frame_fronts RATE BITS CHANNELS BYTES`: the same of each prefix of these bytes, from none to all.
-pub fn frame_fronts(words: Words) -> Result<String, Stop> {
-    let bytes = words.bytes(3)?;
-    let stream = stream_at(words)?;
-    let mut runs = Runs::new(words.alloc);
+pub fn frame_fronts(call: &mut Call, told: &mut Told) {
+    let bytes = call.bytes(3);
+    let Some(stream) = stream_at(call) else {
+        return;
+    };
+    let mut runs = Runs::new();
     for length in 0..=bytes.len() {
-        let text = frame_text(words.alloc, &stream, front(bytes.as_slice(), length))?;
-        runs.add(length, text)?;
+        let mut one = Told::new(call.alloc);
+        tell_frame_at(
+            call.alloc,
+            &mut one,
+            &stream,
+            front(bytes.as_slice(), length),
+        );
+        runs.add(told, length, one);
     }
-    runs.text()
+    runs.end(told);
 }
 
 // The head of such a stream.
-fn head_of(stream: FlacStream) -> Result<FlacHead, Stop>
+fn head_of(stream: FlacStream) -> Option<FlacHead>
     requires { IsStream stream }
-    ensures { IfOk result (λ head. IsStream (stream_of head.head)) }
+    ensures { IfSome result (λ head. IsStream (stream_of head.head)) }
 {
     let FlacStream {
         rate,
         bits,
         channels,
     } = stream;
-    let Ok(tb) = Rational::new(1, i64::from(rate)) else {
-        return Err(Stop::Unreadable);
-    };
-    Ok(FlacHead {
+    let tb = Rational::new(1, i64::from(rate)).ok()?;
+    Some(FlacHead {
         head: StreamHead::Audio {
             tb,
             rate,
@@ -117,59 +133,59 @@ fn head_of(stream: FlacStream) -> Result<FlacHead, Stop>
     })
 }
 
-// The audio of the frame with which bytes begin.
-fn decoded(alloc: Global, head: &FlacHead, pts: i64, bytes: &[u8]) -> Result<String, Stop>
+fn tell_sound(told: &mut Told, size: usize, sound: &AFrame) {
+    told.count(size as u64);
+    told.text(" bytes time ");
+    told.number(sound.pts);
+    tell_field(told, " rate ", u64::from(sound.rate));
+    tell_field(told, " bits ", u64::from(sound.bits));
+    tell_field(told, " channels ", u64::from(sound.channels));
+    told.text(":");
+    tell_samples(told, sound.samples.as_slice());
+}
+
+// Tells the audio of the frame with which bytes begin.
+fn tell_decoded(alloc: Global, told: &mut Told, head: &FlacHead, pts: i64, bytes: &[u8])
     requires { IsStream (stream_of head.now.head) }
 {
     let frame = match ff_flac_dec::frame_at(alloc, bytes, head) {
         Ok(frame) => frame,
-        Err(end) => return show_no_frame(alloc, end),
+        Err(end) => return tell_no_frame(told, end),
     };
     match decode(alloc, &frame, head, pts) {
-        Ok(sound) => {
-            let (size, pts, rate) = (frame.len, sound.pts, sound.rate);
-            let (bits, channels) = (sound.bits, sound.channels);
-            let mut text = format!(in alloc;
-                "{size} bytes time {pts} rate {rate} bits {bits} channels {channels}:"
-            )?;
-            add_samples(alloc, &mut text, sound.samples.as_slice())?;
-            Ok(text)
-        }
-        Err(DecodeEnd::OutOfDepth) => Ok(String::from_str(alloc, "out of depth")?),
-        Err(DecodeEnd::NoMemory) => Err(Stop::Broken),
+        Ok(sound) => tell_sound(told, frame.len, &sound),
+        Err(DecodeEnd::OutOfDepth) => told.text("out of depth"),
+        Err(DecodeEnd::NoMemory) => told.fail(Stop::Broken),
     }
 }
 
 /// `flac_sound RATE BITS CHANNELS TIME BYTES`: the samples of the frame with which bytes begin, decoded at this time.
-pub fn sound(words: Words) -> Result<String, Stop> {
-    let bytes = words.bytes(4)?;
-    let time = words.signed(3)?;
-    let stream = stream_at(words)?;
-    sound_in(words.alloc, stream, time, bytes.as_slice())
-}
-
-fn sound_in(alloc: Global, stream: FlacStream, time: i64, bytes: &[u8]) -> Result<String, Stop>
-    requires { IsStream stream }
-{
+pub fn sound(call: &mut Call, told: &mut Told) {
+    let bytes = call.bytes(4);
+    let time = call.signed(3);
+    let Some(stream) = stream_at(call) else {
+        return;
+    };
     match head_of(stream) {
-        Ok(head) => decoded(alloc, &head, time, bytes),
-        Err(stop) => Err(stop),
+        Some(head) => tell_decoded(call.alloc, told, &head, time, bytes.as_slice()),
+        None => call.misread(),
     }
 }
 
 /// `flac_walk BYTES`: what one walk over a head answers to each prefix of these bytes, from none to all. Beside it
 /// stands the offset of the block that it reads at last.
-pub fn walk(words: Words) -> Result<String, Stop> {
-    let bytes = words.bytes(0)?;
+pub fn walk(call: &mut Call, told: &mut Told) {
+    let bytes = call.bytes(0);
     let mut walk = FlacWalk::new();
-    let mut runs = Runs::new(words.alloc);
+    let mut runs = Runs::new();
     for length in 0..=bytes.len() {
-        let text = match walk.read(front(bytes.as_slice(), length), false) {
-            Ok(head) => show_flac(words.alloc, &head)?,
-            Err(end) => show_end(words.alloc, length, end)?,
-        };
-        runs.add(length, text)?;
+        let mut one = Told::new(call.alloc);
+        match walk.read(front(bytes.as_slice(), length), false) {
+            Ok(head) => tell_flac(&mut one, &head),
+            Err(end) => tell_end(&mut one, length, end),
+        }
+        runs.add(told, length, one);
     }
-    let (text, at) = (runs.text()?, walk.at);
-    Ok(format!(in words.alloc; "{text}; at {at}")?)
+    runs.end(told);
+    tell_field(told, "; at ", walk.at as u64);
 }

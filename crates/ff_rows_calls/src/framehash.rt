@@ -1,99 +1,117 @@
 //! Calls of the framehash writer: the lines before those of the packets, and the line of a packet.
 use crate::heads::codec_named;
-use crate::table::{Stop, bytes_of, text_of};
+use crate::told::Told;
+use crate::words::Call;
 use ff_frame::{Bytes, Format, HashKind, Pkt, StreamHead};
 use ff_mux::HashPut;
-use ff_time::Rational;
-use std::alloc::Global;
 
 /// More streams than any row has.
 const MANY: usize = 16;
 
-// A second in so many ticks.
-fn base(ticks: u32) -> Result<Rational, Stop> {
-    match Rational::new(1, i64::from(ticks)) {
-        Ok(base) => Ok(base),
-        Err(_) => Err(Stop::Unreadable),
+/// The digest that the argument at this place names.
+pub fn kind_at(call: &mut Call, at: usize) -> HashKind {
+    match call.text(at) {
+        "sha256" => HashKind::Sha256,
+        "md5" => HashKind::Md5,
+        _ => {
+            call.misread();
+            HashKind::Sha256
+        }
     }
 }
 
-fn kind_of(word: &str) -> Result<HashKind, Stop> {
-    match word {
-        "sha256" => Ok(HashKind::Sha256),
-        "md5" => Ok(HashKind::Md5),
-        _ => Err(Stop::Unreadable),
-    }
-}
-
-fn sound_head(words: &[String]) -> Result<StreamHead, Stop> {
-    let [rate, channels, name] = words else {
-        return Err(Stop::Unreadable);
-    };
-    let rate = rate.parse::<u32>()?;
-    Ok(StreamHead::Audio {
-        tb: base(rate)?,
+// `RATE CHANNELS CODEC` from this place on.
+fn sound_head(call: &mut Call, at: usize) -> Option<StreamHead> {
+    let (rate, channels) = (call.wide(at), call.small(at.saturating_add(1)));
+    let codec = codec_named(call.text(at.saturating_add(2)));
+    let codec = call.read(codec)?;
+    let tb = call.base_of(1, i64::from(rate))?;
+    Some(StreamHead::Audio {
+        tb,
         rate,
         bits: 8,
-        channels: channels.parse::<u8>()?,
-        codec: codec_named(name)?,
+        channels,
+        codec,
     })
 }
 
-fn picture_head(words: &[String]) -> Result<StreamHead, Stop> {
-    let [rate, width, height, sar_num, sar_den] = words else {
-        return Err(Stop::Unreadable);
-    };
-    Ok(StreamHead::Video {
-        tb: base(rate.parse::<u32>()?)?,
+// `RATE WIDTH HEIGHT SAR_NUM SAR_DEN` from this place on.
+fn picture_head(call: &mut Call, at: usize) -> Option<StreamHead> {
+    let rate = call.wide(at);
+    let (width, height) = (
+        call.wide(at.saturating_add(1)),
+        call.wide(at.saturating_add(2)),
+    );
+    let (sar_num, sar_den) = (
+        call.wide(at.saturating_add(3)),
+        call.wide(at.saturating_add(4)),
+    );
+    let tb = call.base_of(1, i64::from(rate))?;
+    Some(StreamHead::Video {
+        tb,
         format: Format::Mono,
-        width: width.parse::<u32>()?,
-        height: height.parse::<u32>()?,
-        sar_num: sar_num.parse::<u32>()?,
-        sar_den: sar_den.parse::<u32>()?,
+        width,
+        height,
+        sar_num,
+        sar_den,
     })
 }
 
-fn first_lines(alloc: Global, kind: HashKind, heads: &[StreamHead]) -> Result<String, Stop> {
-    let heads = Vec::from_slice(alloc, heads)?;
-    if heads.len() > MANY {
-        return Err(Stop::Unreadable);
+// Notes where there are more or fewer arguments.
+fn want(call: &mut Call, count: usize) {
+    if call.len() != count {
+        call.misread();
     }
-    text_of(HashPut::new(alloc, kind, heads).first()?)
+}
+
+fn tell_first(call: &mut Call, told: &mut Told, kind: HashKind, heads: &[Option<StreamHead>]) {
+    let mut all = Vec::new(call.alloc);
+    for head in heads {
+        if let Some(head) = head {
+            call.note(all.push(*head));
+        }
+    }
+    if all.len() > MANY {
+        return call.misread();
+    }
+    told.made_text(HashPut::new(call.alloc, kind, all).first());
 }
 
 /// The lines before those of the packets of an audio stream: `RATE CHANNELS CODEC`.
-pub fn sound(alloc: Global, words: &[String]) -> Result<String, Stop> {
-    first_lines(alloc, HashKind::Sha256, &[sound_head(words)?])
+pub fn sound(call: &mut Call, told: &mut Told) {
+    want(call, 3);
+    let head = sound_head(call, 0);
+    tell_first(call, told, HashKind::Sha256, &[head]);
 }
 
 /// The lines before those of the packets of a video stream: `RATE WIDTH HEIGHT SAR_NUM SAR_DEN`.
-pub fn pictures(alloc: Global, words: &[String]) -> Result<String, Stop> {
-    first_lines(alloc, HashKind::Sha256, &[picture_head(words)?])
+pub fn pictures(call: &mut Call, told: &mut Told) {
+    want(call, 5);
+    let head = picture_head(call, 0);
+    tell_first(call, told, HashKind::Sha256, &[head]);
 }
 
 /// The lines before those of the packets of a video stream and an audio stream:
 /// `sha256|md5 RATE WIDTH HEIGHT SAR_NUM SAR_DEN RATE CHANNELS CODEC`.
-pub fn both(alloc: Global, words: &[String]) -> Result<String, Stop> {
-    if words.len() != 9 {
-        return Err(Stop::Unreadable);
-    }
-    let pictures = picture_head(&words[1..6])?;
-    let sound = sound_head(&words[6..9])?;
-    first_lines(alloc, kind_of(&words[0])?, &[pictures, sound])
+pub fn both(call: &mut Call, told: &mut Told) {
+    want(call, 9);
+    let kind = kind_at(call, 0);
+    let heads = [picture_head(call, 1), sound_head(call, 6)];
+    tell_first(call, told, kind, &heads);
 }
 
 /// The line of a packet: `sha256|md5 STREAM DTS PTS DURATION HEX`.
-pub fn line(alloc: Global, words: &[String]) -> Result<String, Stop> {
-    let [kind, stream, dts, pts, duration, bytes] = words else {
-        return Err(Stop::Unreadable);
-    };
+pub fn line(call: &mut Call, told: &mut Told) {
+    want(call, 6);
+    let (kind, stream) = (kind_at(call, 0), call.wide(1));
+    let hex = call.text(5);
     let packet = Pkt {
-        pts: pts.parse::<i64>()?,
-        dts: dts.parse::<i64>()?,
-        duration: duration.parse::<i64>()?,
+        dts: call.signed(2),
+        pts: call.signed(3),
+        duration: call.signed(4),
         pos: 7,
-        bytes: Bytes::new(bytes_of(alloc, bytes)?),
+        bytes: Bytes::new(call.hex(hex)),
     };
-    let put = HashPut::new(alloc, kind_of(kind)?, Vec::new(alloc));
-    text_of(put.line(stream.parse::<u32>()?, &packet)?)
+    let put = HashPut::new(call.alloc, kind, Vec::new(call.alloc));
+    told.made_text(put.line(stream, &packet));
 }

@@ -1,7 +1,8 @@
 //! Calls that read the heads of inputs.
 use crate::runs::Runs;
 use crate::table::Stop;
-use crate::words::Words;
+use crate::told::Told;
+use crate::words::Call;
 use ff_flac_dec::FlacHead;
 use ff_frame::{Codec, Format, HeadEnd, StreamHead};
 use ff_lists::front;
@@ -9,16 +10,15 @@ use ff_pcm_cut::PcmHead;
 use ff_time::Rational;
 use ff_words::AUDIO_CODECS;
 use ff_y4m::Y4mHead;
-use std::alloc::Global;
 
 /// The audio codec of this name.
-pub fn codec_named(name: &str) -> Result<Codec, Stop> {
+pub fn codec_named(name: &str) -> Option<Codec> {
     for codec in AUDIO_CODECS.iter() {
         if codec.name() == name {
-            return Ok(*codec);
+            return Some(*codec);
         }
     }
-    Err(Stop::Unreadable)
+    None
 }
 
 /// The name of a pixel format, as a table has it.
@@ -31,14 +31,22 @@ pub fn name_of_format(format: Format) -> &'static str {
     }
 }
 
-fn show_base(alloc: Global, base: Rational) -> Result<String, Stop> {
-    let (num, den) = (base.num(), base.den());
-    Ok(format!(in alloc; "{num}/{den}")?)
+/// Tells a time base.
+pub fn tell_base(told: &mut Told, base: Rational) {
+    told.number(base.num());
+    told.text("/");
+    told.number(base.den());
 }
 
-/// What a head says of its stream.
-pub fn show_stream(alloc: Global, head: &StreamHead) -> Result<String, Stop> {
-    let text = match *head {
+// A name, and a number after it.
+fn tell_field(told: &mut Told, name: &str, number: u64) {
+    told.text(name);
+    told.count(number);
+}
+
+/// Tells what a head says of its stream.
+pub fn tell_stream(told: &mut Told, head: &StreamHead) {
+    match *head {
         StreamHead::Audio {
             tb,
             rate,
@@ -46,11 +54,12 @@ pub fn show_stream(alloc: Global, head: &StreamHead) -> Result<String, Stop> {
             channels,
             codec,
         } => {
-            let base = show_base(alloc, tb)?;
-            let codec = codec.name();
-            format!(in alloc;
-                "audio base {base} rate {rate} bits {bits} channels {channels} codec {codec}"
-            )?
+            told.text("audio base ");
+            tell_base(told, tb);
+            tell_field(told, " rate ", u64::from(rate));
+            tell_field(told, " bits ", u64::from(bits));
+            tell_field(told, " channels ", u64::from(channels));
+            told.texts(&[" codec ", codec.name()]);
         }
         StreamHead::Video {
             tb,
@@ -60,106 +69,121 @@ pub fn show_stream(alloc: Global, head: &StreamHead) -> Result<String, Stop> {
             sar_num,
             sar_den,
         } => {
-            let base = show_base(alloc, tb)?;
-            let format = name_of_format(format);
-            format!(in alloc;
-                "video base {base} format {format} width {width} height {height} aspect {sar_num}:{sar_den}"
-            )?
+            told.text("video base ");
+            tell_base(told, tb);
+            told.texts(&[" format ", name_of_format(format)]);
+            tell_field(told, " width ", u64::from(width));
+            tell_field(told, " height ", u64::from(height));
+            tell_field(told, " aspect ", u64::from(sar_num));
+            tell_field(told, ":", u64::from(sar_den));
         }
-    };
-    Ok(text)
+    }
 }
 
-/// The head of a format whose body is linear PCM, as a string.
-pub fn show_pcm(alloc: Global, head: &PcmHead) -> Result<String, Stop> {
-    let stream = show_stream(alloc, &head.head)?;
-    let start = head.start;
-    let text = match head.len {
-        Some(size) => format!(in alloc; "{stream} start {start} size {size}")?,
-        None => format!(in alloc; "{stream} start {start} size none")?,
-    };
-    Ok(text)
+/// Tells the head of a format whose body is linear PCM.
+pub fn tell_pcm(told: &mut Told, head: &PcmHead) {
+    tell_stream(told, &head.head);
+    tell_field(told, " start ", head.start);
+    match head.len {
+        Some(size) => tell_field(told, " size ", size),
+        None => told.text(" size none"),
+    }
 }
 
-/// The head of a YUV4MPEG2 as a string.
-pub fn show_y4m(alloc: Global, head: &Y4mHead) -> Result<String, Stop> {
-    let stream = show_stream(alloc, &head.head)?;
-    let (start, size) = (head.start, head.frame_bytes);
-    Ok(format!(in alloc; "{stream} start {start} frame {size}")?)
+/// Tells the head of a YUV4MPEG2.
+pub fn tell_y4m(told: &mut Told, head: &Y4mHead) {
+    tell_stream(told, &head.head);
+    tell_field(told, " start ", head.start);
+    tell_field(told, " frame ", head.frame_bytes);
 }
 
-/// The head of a FLAC as a string.
-pub fn show_flac(alloc: Global, head: &FlacHead) -> Result<String, Stop> {
-    let stream = show_stream(alloc, &head.head)?;
-    let start = head.start;
-    Ok(format!(in alloc; "{stream} start {start}")?)
+/// Tells the head of a FLAC.
+pub fn tell_flac(told: &mut Told, head: &FlacHead) {
+    tell_stream(told, &head.head);
+    tell_field(told, " start ", head.start);
 }
 
-/// Why so many bytes give no head, or none yet.
-pub fn show_end(alloc: Global, length: usize, end: HeadEnd) -> Result<String, Stop> {
-    let text = match end {
-        HeadEnd::NotYet => String::from_str(alloc, "not yet")?,
-        HeadEnd::Damaged { offset } if offset == length as u64 => {
-            String::from_str(alloc, "damaged at its end")?
+/// Tells why so many bytes give no head, or none yet.
+pub fn tell_end(told: &mut Told, length: usize, end: HeadEnd) {
+    match end {
+        HeadEnd::NotYet => told.text("not yet"),
+        HeadEnd::Damaged { offset } => {
+            if offset == length as u64 {
+                told.text("damaged at its end");
+            } else {
+                tell_field(told, "damaged at ", offset);
+            }
         }
-        HeadEnd::Damaged { offset } => format!(in alloc; "damaged at {offset}")?,
-        HeadEnd::Unsupported { offset } => format!(in alloc; "unsupported at {offset}")?,
-        HeadEnd::NoMemory => return Err(Stop::Broken),
-    };
-    Ok(text)
+        HeadEnd::Unsupported { offset } => tell_field(told, "unsupported at ", offset),
+        HeadEnd::NoMemory => told.fail(Stop::Broken),
+    }
 }
 
-// The head of an input of this format, whether it ends after these bytes or goes on.
-fn head_of(alloc: Global, format: &str, whole: bool, bytes: &[u8]) -> Result<String, Stop> {
-    let told = match format {
-        "wav" => match ff_wav::read_head(bytes, whole) {
-            Ok(head) => Ok(show_pcm(alloc, &head)?),
-            Err(end) => Err(end),
+/// A format whose head is read.
+#[derive(Clone, Copy)]
+enum Read {
+    Wav,
+    Y4m,
+    Flac,
+}
+
+fn format_at(call: &mut Call, at: usize) -> Read {
+    match call.text(at) {
+        "wav" => Read::Wav,
+        "y4m" => Read::Y4m,
+        "flac" => Read::Flac,
+        _ => {
+            call.misread();
+            Read::Wav
+        }
+    }
+}
+
+// Tells the head of an input of this format, whether it ends after these bytes or goes on.
+fn tell_head(told: &mut Told, format: Read, whole: bool, bytes: &[u8]) {
+    match format {
+        Read::Wav => match ff_wav::read_head(bytes, whole) {
+            Ok(head) => tell_pcm(told, &head),
+            Err(end) => tell_end(told, bytes.len(), end),
         },
-        "y4m" => match ff_y4m::read_head(bytes, whole) {
-            Ok(head) => Ok(show_y4m(alloc, &head)?),
-            Err(end) => Err(end),
+        Read::Y4m => match ff_y4m::read_head(bytes, whole) {
+            Ok(head) => tell_y4m(told, &head),
+            Err(end) => tell_end(told, bytes.len(), end),
         },
-        "flac" => match ff_flac_dec::read_head(bytes, whole) {
-            Ok(head) => Ok(show_flac(alloc, &head)?),
-            Err(end) => Err(end),
+        Read::Flac => match ff_flac_dec::read_head(bytes, whole) {
+            Ok(head) => tell_flac(told, &head),
+            Err(end) => tell_end(told, bytes.len(), end),
         },
-        _ => return Err(Stop::Unreadable),
-    };
-    match told {
-        Ok(text) => Ok(text),
-        Err(end) => show_end(alloc, bytes.len(), end),
     }
 }
 
 /// Whether an input ends after its bytes.
-pub fn is_whole(words: Words, at: usize) -> Result<bool, Stop> {
-    match words.text(at)? {
-        "whole" => Ok(true),
-        "begun" => Ok(false),
-        _ => Err(Stop::Unreadable),
+pub fn is_whole(call: &mut Call, at: usize) -> bool {
+    match call.text(at) {
+        "whole" => true,
+        "begun" => false,
+        _ => {
+            call.misread();
+            false
+        }
     }
 }
 
 /// `head FORMAT whole|begun BYTES`: the head of an input that is these bytes, or goes on after them.
-pub fn head(words: Words) -> Result<String, Stop> {
-    let bytes = words.bytes(2)?;
-    head_of(
-        words.alloc,
-        words.text(0)?,
-        is_whole(words, 1)?,
-        bytes.as_slice(),
-    )
+pub fn head(call: &mut Call, told: &mut Told) {
+    let (format, whole) = (format_at(call, 0), is_whole(call, 1));
+    tell_head(told, format, whole, call.bytes(2).as_slice());
 }
 
 /// `head_fronts FORMAT whole|begun BYTES`: the same of each prefix of these bytes, from none to all.
-pub fn head_fronts(words: Words) -> Result<String, Stop> {
-    let bytes = words.bytes(2)?;
-    let (format, whole) = (words.text(0)?, is_whole(words, 1)?);
-    let mut runs = Runs::new(words.alloc);
+pub fn head_fronts(call: &mut Call, told: &mut Told) {
+    let (format, whole) = (format_at(call, 0), is_whole(call, 1));
+    let bytes = call.bytes(2);
+    let mut runs = Runs::new();
     for length in 0..=bytes.len() {
-        let text = head_of(words.alloc, format, whole, front(bytes.as_slice(), length))?;
-        runs.add(length, text)?;
+        let mut one = Told::new(call.alloc);
+        tell_head(&mut one, format, whole, front(bytes.as_slice(), length));
+        runs.add(told, length, one);
     }
-    runs.text()
+    runs.end(told);
 }

@@ -1,99 +1,122 @@
 //! Calls that read heads in the format that is given, or that their first bytes tell.
-use crate::heads::{is_whole, show_end, show_flac, show_pcm, show_stream, show_y4m};
+use crate::heads::{is_whole, tell_end, tell_flac, tell_pcm, tell_stream, tell_y4m};
 use crate::runs::Runs;
 use crate::table::Stop;
-use crate::words::Words;
+use crate::told::Told;
+use crate::words::Call;
 use ff_format::FileFormat;
 use ff_frame::HeadEnd;
 use ff_input::{InputHead, InputWalk, OneOf, read_input_head};
 use ff_lists::front;
-use std::alloc::Global;
 
-fn format_of(word: &str) -> Result<Option<FileFormat>, Stop> {
-    match word {
-        "any" => Ok(None),
-        "wav" => Ok(Some(FileFormat::Wav)),
-        "au" => Ok(Some(FileFormat::Au)),
-        "y4m" => Ok(Some(FileFormat::Y4m)),
-        "flac" => Ok(Some(FileFormat::Flac)),
-        "framehash" => Ok(Some(FileFormat::FrameHash)),
-        _ => Err(Stop::Unreadable),
+fn format_at(call: &mut Call, at: usize) -> Option<FileFormat> {
+    match call.text(at) {
+        "any" => None,
+        "wav" => Some(FileFormat::Wav),
+        "au" => Some(FileFormat::Au),
+        "y4m" => Some(FileFormat::Y4m),
+        "flac" => Some(FileFormat::Flac),
+        "framehash" => Some(FileFormat::FrameHash),
+        _ => call.read(None),
     }
 }
 
-fn show(alloc: Global, head: &InputHead) -> Result<String, Stop> {
-    let (name, text) = match head {
-        OneOf::First(head) => ("wav", show_pcm(alloc, head)?),
-        OneOf::Other(OneOf::First(head)) => ("y4m", show_y4m(alloc, head)?),
-        OneOf::Other(OneOf::Other(OneOf::First(head))) => ("flac", show_flac(alloc, head)?),
-        OneOf::Other(OneOf::Other(OneOf::Other(head))) => ("au", show_pcm(alloc, head)?),
-    };
-    Ok(format!(in alloc; "{name} {text}")?)
+fn tell_head(told: &mut Told, head: &InputHead) {
+    match head {
+        OneOf::First(head) => {
+            told.text("wav ");
+            tell_pcm(told, head);
+        }
+        OneOf::Other(OneOf::First(head)) => {
+            told.text("y4m ");
+            tell_y4m(told, head);
+        }
+        OneOf::Other(OneOf::Other(OneOf::First(head))) => {
+            told.text("flac ");
+            tell_flac(told, head);
+        }
+        OneOf::Other(OneOf::Other(OneOf::Other(head))) => {
+            told.text("au ");
+            tell_pcm(told, head);
+        }
+    }
 }
 
-fn show_answer(
-    alloc: Global,
-    length: usize,
-    answer: Result<InputHead, HeadEnd>,
-) -> Result<String, Stop> {
+fn tell_answer(told: &mut Told, length: usize, answer: Result<InputHead, HeadEnd>) {
     match answer {
-        Ok(head) => show(alloc, &head),
-        Err(end) => show_end(alloc, length, end),
+        Ok(head) => tell_head(told, &head),
+        Err(end) => tell_end(told, length, end),
     }
 }
 
 /// `input FORMAT|any whole|begun BYTES`: the head of an input that is these bytes, or goes on after them.
-pub fn head(words: Words) -> Result<String, Stop> {
-    let (format, whole) = (format_of(words.text(0)?)?, is_whole(words, 1)?);
-    let bytes = words.bytes(2)?;
+pub fn head(call: &mut Call, told: &mut Told) {
+    let (format, whole) = (format_at(call, 0), is_whole(call, 1));
+    let bytes = call.bytes(2);
     let answer = read_input_head(format, bytes.as_slice(), whole);
-    show_answer(words.alloc, bytes.len(), answer)
+    tell_answer(told, bytes.len(), answer);
 }
 
 /// `input_fronts FORMAT|any whole|begun BYTES`: the same of each prefix of these bytes, from none to all.
-pub fn head_fronts(words: Words) -> Result<String, Stop> {
-    let (format, whole) = (format_of(words.text(0)?)?, is_whole(words, 1)?);
-    let bytes = words.bytes(2)?;
-    let mut runs = Runs::new(words.alloc);
+pub fn head_fronts(call: &mut Call, told: &mut Told) {
+    let (format, whole) = (format_at(call, 0), is_whole(call, 1));
+    let bytes = call.bytes(2);
+    let mut runs = Runs::new();
     for length in 0..=bytes.len() {
         let answer = read_input_head(format, front(bytes.as_slice(), length), whole);
-        runs.add(length, show_answer(words.alloc, length, answer)?)?;
+        let mut one = Told::new(call.alloc);
+        tell_answer(&mut one, length, answer);
+        runs.add(told, length, one);
     }
-    runs.text()
+    runs.end(told);
+}
+
+// Tells what a walk answers to each prefix of these bytes, and answers whether it read a head.
+fn tell_walk(
+    call: &Call,
+    told: &mut Told,
+    runs: &mut Runs,
+    walk: &mut InputWalk,
+    bytes: &[u8],
+) -> bool {
+    for length in 0..=bytes.len() {
+        let answer = walk.read(front(bytes, length), false);
+        let decided = answer.is_ok();
+        let mut one = Told::new(call.alloc);
+        tell_answer(&mut one, length, answer);
+        if !runs.add(told, length, one) || decided {
+            return true;
+        }
+    }
+    false
 }
 
 /// `input_pieces FORMAT|any BYTES`: the answers of one walk, to which one byte more is shown at a time, and at last that the
 /// input ends.
-pub fn pieces(words: Words) -> Result<String, Stop> {
-    let mut walk = InputWalk::new(format_of(words.text(0)?)?);
-    let bytes = words.bytes(1)?;
-    let mut runs = Runs::new(words.alloc);
-    for length in 0..=bytes.len() {
-        let answer = walk.read(front(bytes.as_slice(), length), false);
-        let decided = answer.is_ok();
-        runs.add(length, show_answer(words.alloc, length, answer)?)?;
-        if decided {
-            return runs.text();
-        }
+pub fn pieces(call: &mut Call, told: &mut Told) {
+    let mut walk = InputWalk::new(format_at(call, 0));
+    let bytes = call.bytes(1);
+    let mut runs = Runs::new();
+    if !tell_walk(call, told, &mut runs, &mut walk, bytes.as_slice()) {
+        let mut last = Told::new(call.alloc);
+        let answer = walk.read(bytes.as_slice(), true);
+        tell_answer(&mut last, bytes.len(), answer);
+        runs.add(told, bytes.len() + 1, last);
     }
-    let answer = walk.read(bytes.as_slice(), true);
-    runs.add(
-        bytes.len() + 1,
-        show_answer(words.alloc, bytes.len(), answer)?,
-    )?;
-    runs.text()
+    runs.end(told);
 }
 
 /// `input_streams FORMAT|any BYTES`: the heads of the streams of an input.
-pub fn streams(words: Words) -> Result<String, Stop> {
-    let bytes = words.bytes(1)?;
-    let Ok(head) = read_input_head(format_of(words.text(0)?)?, bytes.as_slice(), true) else {
-        return Err(Stop::Unreadable);
+pub fn streams(call: &mut Call, told: &mut Told) {
+    let format = format_at(call, 0);
+    let Ok(head) = read_input_head(format, call.bytes(1).as_slice(), true) else {
+        return call.misread();
     };
-    let mut text = String::new(words.alloc);
-    for stream in head.streams(words.alloc)?.as_slice() {
-        text.push_str("stream ")?;
-        text.push_str(show_stream(words.alloc, stream)?.as_str())?;
+    let Ok(streams) = head.streams(call.alloc) else {
+        return call.fail(Stop::Broken);
+    };
+    for stream in streams.as_slice() {
+        told.text("stream ");
+        tell_stream(told, stream);
     }
-    Ok(text)
 }

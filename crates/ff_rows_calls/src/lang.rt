@@ -1,120 +1,118 @@
 //! Calls that read and print filtergraphs.
 use crate::table::Stop;
-use crate::words::Words;
+use crate::told::Told;
+use crate::words::Call;
 use ff_lang::{
     Arg, Chain, Filter, Graph, LangError, Sequence, Text, graph_ok, print_graph, read_graph,
 };
-use std::alloc::{AllocError, Global};
 
-fn show_labels(out: &mut String, labels: &[Text]) -> Result<(), AllocError> {
+fn tell_labels(told: &mut Told, labels: &[Text]) {
     for label in labels {
-        out.push_str("<")?;
-        out.push_str(label.as_str())?;
-        out.push_str(">")?;
+        told.texts(&["<", label.as_str(), ">"]);
     }
-    Ok(())
 }
 
-fn show_arg(out: &mut String, arg: &Arg) -> Result<(), AllocError> {
-    out.push_str("{")?;
+fn tell_arg(told: &mut Told, arg: &Arg) {
+    told.text("{");
     if let Some(key) = &arg.key {
-        out.push_str(key.as_str())?;
-        out.push_str("|")?;
+        told.texts(&[key.as_str(), "|"]);
     }
-    out.push_str(arg.value.as_str())?;
-    out.push_str("}")
+    told.texts(&[arg.value.as_str(), "}"]);
 }
 
-fn show_filter(out: &mut String, filter: &Filter) -> Result<(), AllocError> {
-    out.push_str(" ")?;
-    show_labels(out, filter.ins.as_slice())?;
-    out.push_str(filter.name.as_str())?;
+fn tell_filter(told: &mut Told, filter: &Filter) {
+    told.text(" ");
+    tell_labels(told, filter.ins.as_slice());
+    told.text(filter.name.as_str());
     for arg in filter.args.as_slice() {
-        show_arg(out, arg)?;
+        tell_arg(told, arg);
     }
-    show_labels(out, filter.outs.as_slice())
+    tell_labels(told, filter.outs.as_slice());
 }
 
-fn show_chain(out: &mut String, chain: &Chain) -> Result<(), AllocError> {
-    out.push_str("/")?;
+fn tell_chain(told: &mut Told, chain: &Chain) {
+    told.text("/");
     for filter in chain.filters.as_slice() {
-        show_filter(out, filter)?;
+        tell_filter(told, filter);
     }
-    Ok(())
 }
 
 /// A graph: `/` before each chain, a blank before each filter, a label as `<LABEL>`, an argument as `{VALUE}` or `{KEY|VALUE}`.
-pub fn show(alloc: Global, graph: &Graph) -> Result<String, Stop> {
-    let mut out = String::new(alloc);
+pub fn tell_graph(told: &mut Told, graph: &Graph) {
     for chain in graph.chains.as_slice() {
-        show_chain(&mut out, chain)?;
+        tell_chain(told, chain);
     }
-    Ok(out)
 }
 
 /// `graph TEXT`: the graph of a string.
-pub fn graph(words: Words) -> Result<String, Stop> {
-    match read_graph(words.alloc, words.text(0)?) {
-        Ok(graph) => show(words.alloc, &graph),
-        Err(LangError::Bad { at }) => Ok(format!(in words.alloc; "bad at {at}")?),
-        Err(LangError::NoMemory) => Err(Stop::Unreadable),
+pub fn graph(call: &mut Call, told: &mut Told) {
+    match read_graph(call.alloc, call.text(0)) {
+        Ok(graph) => tell_graph(told, &graph),
+        Err(LangError::Bad { at }) => {
+            told.text("bad at ");
+            told.count(at as u64);
+        }
+        Err(LangError::NoMemory) => call.misread(),
     }
 }
 
 /// `print TEXT`: the string that is printed of the graph of a string.
-pub fn printed(words: Words) -> Result<String, Stop> {
-    match read_graph(words.alloc, words.text(0)?) {
-        Ok(graph) => Ok(print_graph(words.alloc, &graph)?),
-        Err(_) => Err(Stop::Unreadable),
+pub fn printed(call: &mut Call, told: &mut Told) {
+    let Ok(graph) = read_graph(call.alloc, call.text(0)) else {
+        return call.misread();
+    };
+    match print_graph(call.alloc, &graph) {
+        Ok(text) => told.text(text.as_str()),
+        Err(_) => told.fail(Stop::Broken),
     }
 }
 
-fn word(words: Words, at: usize) -> Result<Text, Stop> {
-    let text = words.text(at)?;
-    Ok(Text::of(String::from_str(words.alloc, text)?))
+fn word(call: &mut Call, at: usize) -> Text {
+    let text = call.text(at);
+    Text::of(call.own(text))
 }
 
 // `[LABEL]NAME=KEY=1[LABEL]`
-fn one_filter(words: Words) -> Result<Filter, Stop> {
-    let alloc = words.alloc;
-    let mut args = Sequence::new(alloc);
-    args.push(Arg {
-        key: Some(word(words, 1)?),
-        value: Text::of(String::from_str(alloc, "1")?),
-    })?;
-    let mut ins = Sequence::new(alloc);
-    ins.push(word(words, 2)?)?;
-    let mut outs = Sequence::new(alloc);
-    outs.push(word(words, 2)?)?;
-    Ok(Filter {
-        ins,
-        name: word(words, 0)?,
-        args,
-        outs,
-    })
+fn one_filter(call: &mut Call) -> Filter {
+    let (name, key) = (word(call, 0), word(call, 1));
+    let mut filter = Filter {
+        ins: Sequence::new(call.alloc),
+        name,
+        args: Sequence::new(call.alloc),
+        outs: Sequence::new(call.alloc),
+    };
+    let value = Text::of(call.own("1"));
+    let arg = Arg {
+        key: Some(key),
+        value,
+    };
+    call.note(filter.args.push(arg));
+    let (label, again) = (word(call, 2), word(call, 2));
+    call.note(filter.ins.push(label));
+    call.note(filter.outs.push(again));
+    filter
 }
 
 // The chain of one filter, and after it an empty one where a fourth argument says so.
-fn add_chains(words: Words, graph: &mut Graph) -> Result<(), Stop> {
-    let mut filters = Sequence::new(words.alloc);
-    filters.push(one_filter(words)?)?;
-    graph.chains.push(Chain { filters })?;
-    if words.len() > 3 {
-        let filters = Sequence::new(words.alloc);
-        graph.chains.push(Chain { filters })?;
+fn add_chains(call: &mut Call, graph: &mut Graph) {
+    let mut filters = Sequence::new(call.alloc);
+    let filter = one_filter(call);
+    call.note(filters.push(filter));
+    call.note(graph.chains.push(Chain { filters }));
+    if call.len() > 3 {
+        let filters = Sequence::new(call.alloc);
+        call.note(graph.chains.push(Chain { filters }));
     }
-    Ok(())
 }
 
 /// `has_text NAME KEY LABEL`: whether the graph `[LABEL]NAME=KEY=1[LABEL]` has a string. `empty` after them adds a
 /// chain without filters, and no arguments at all stand for a graph without chains.
-pub fn has_text(words: Words) -> Result<String, Stop> {
+pub fn has_text(call: &mut Call, told: &mut Told) {
     let mut graph = Graph {
-        chains: Sequence::new(words.alloc),
+        chains: Sequence::new(call.alloc),
     };
-    if words.len() > 0 {
-        add_chains(words, &mut graph)?;
+    if call.len() > 0 {
+        add_chains(call, &mut graph);
     }
-    let text = if graph_ok(&graph) { "yes" } else { "no" };
-    Ok(String::from_str(words.alloc, text)?)
+    told.text(if graph_ok(&graph) { "yes" } else { "no" });
 }

@@ -26,80 +26,126 @@ mod runs;
 mod sched;
 mod table;
 mod time;
+mod told;
 mod wav;
 mod words;
 
-use crate::words::Words;
+use crate::told::Told;
+use crate::words::Call;
 use std::alloc::Global;
 pub use table::{
     Stop, bytes_of, escaped, halves, plain, plain_text, plain_words, printable, text_of,
 };
 
+// Calls of times and of what a command line says.
+fn tell(call: &mut Call, told: &mut Told, name: &str) {
+    match name {
+        "base" => time::base(call, told),
+        "common_base" => time::common(call, told),
+        "rescale" => time::rescaled(call, told),
+        "compare" => time::compared(call, told),
+        "least_units" => time::least_units(call, told),
+        "duration" => time::duration(call, told),
+        "graph" => lang::graph(call, told),
+        "print" => lang::printed(call, told),
+        "has_text" => lang::has_text(call, told),
+        _ => tell_command(call, told, name),
+    }
+}
+
+fn tell_command(call: &mut Call, told: &mut Told, name: &str) {
+    match name {
+        "map" => maps::map(call, told),
+        "select" => maps::selected(call, told),
+        "best" => maps::best(call, told),
+        "command" => commands::command(call, told),
+        "command_of" => commands::made(call, told),
+        "plan" => plans::plan_of(call, told),
+        _ => tell_input(call, told, name),
+    }
+}
+
+fn tell_input(call: &mut Call, told: &mut Told, name: &str) {
+    match name {
+        "head" => heads::head(call, told),
+        "head_fronts" => heads::head_fronts(call, told),
+        "input" => inputs::head(call, told),
+        "input_fronts" => inputs::head_fronts(call, told),
+        "input_pieces" => inputs::pieces(call, told),
+        "input_streams" => inputs::streams(call, told),
+        "cut" => cuts::cut(call, told),
+        "packets" => cuts::packets(call, told),
+        "cut_pieces" => cuts::cut_pieces(call, told),
+        "cut_fronts" => cuts::cut_fronts(call, told),
+        _ => tell_output(call, told, name),
+    }
+}
+
+fn tell_output(call: &mut Call, told: &mut Told, name: &str) {
+    match name {
+        "wav_file" => files::wav(call, told),
+        "flac_file" => files::flac(call, told),
+        "flac_file_told" => files::flac_told(call, told),
+        "y4m_file" => files::y4m(call, told),
+        "hash_file" => files::hashes(call, told),
+        "au_first" => au::first(call, told),
+        "au_last" => au::last(call, told),
+        "wav_first" => wav::first(call, told),
+        "wav_last" => wav::last(call, told),
+        _ => tell_codec(call, told, name),
+    }
+}
+
+fn tell_codec(call: &mut Call, told: &mut Told, name: &str) {
+    match name {
+        "y4m_line" => pictures::line(call, told),
+        "picture" => pictures::picture(call, told),
+        "pcm_samples" => pcm::samples(call, told),
+        "pcm_bytes" => pcm::bytes(call, told),
+        "depth_change" => pcm::depths(call, told),
+        "bits" => bits::read(call, told),
+        "written" => bits::written(call, told),
+        "crc8" => bits::sum_of_8(call, told),
+        "crc16" => bits::sum_of_16(call, told),
+        _ => tell_flac(call, told, name),
+    }
+}
+
+fn tell_flac(call: &mut Call, told: &mut Told, name: &str) {
+    match name {
+        "flac_frame" => flac::frame(call, told),
+        "flac_frame_fronts" => flac::frame_fronts(call, told),
+        "flac_sound" => flac::sound(call, told),
+        "flac_walk" => flac::walk(call, told),
+        "residual" => residuals::residual(call, told),
+        "subframe" => residuals::subframe(call, told),
+        "flac_block" => blocks::encoded(call, told),
+        "flac_block_made" => blocks::encoded_made(call, told),
+        "flac_totals" => blocks::totals(call, told),
+        _ => tell_run(call, told, name),
+    }
+}
+
+fn tell_run(call: &mut Call, told: &mut Told, name: &str) {
+    match name {
+        "sched_state" => sched::state(call, told),
+        "unchoked" => sched::sources(call, told),
+        "scheduled" => sched::scheduled(call, told),
+        "generated_wav" => generated::sound(call, told),
+        "generated_y4m" => generated::moving(call, told),
+        "framehash_sound" => framehash::sound(call, told),
+        "framehash_pictures" => framehash::pictures(call, told),
+        "framehash_both" => framehash::both(call, told),
+        "framehash_line" => framehash::line(call, told),
+        _ => call.misread(),
+    }
+}
+
 /// The answer of the library call of this name on these arguments, as a string.
 pub fn answer(alloc: Global, name: &str, arguments: &[String]) -> Result<String, Stop> {
-    let words = Words::new(alloc, arguments);
-    match name {
-        "base" => time::base(words),
-        "common_base" => time::common(words),
-        "rescale" => time::rescaled(words),
-        "compare" => time::compared(words),
-        "least_units" => time::least_units(words),
-        "duration" => time::duration(words),
-        "graph" => lang::graph(words),
-        "print" => lang::printed(words),
-        "has_text" => lang::has_text(words),
-        "map" => maps::map(words),
-        "select" => maps::selected(words),
-        "best" => maps::best(words),
-        "command" => commands::command(words),
-        "command_of" => commands::made(words),
-        "plan" => plans::plan_of(words),
-        "head" => heads::head(words),
-        "head_fronts" => heads::head_fronts(words),
-        "input" => inputs::head(words),
-        "input_fronts" => inputs::head_fronts(words),
-        "input_pieces" => inputs::pieces(words),
-        "input_streams" => inputs::streams(words),
-        "wav_file" => files::wav(words),
-        "flac_file" => files::flac(words),
-        "flac_file_told" => files::flac_told(words),
-        "y4m_file" => files::y4m(words),
-        "hash_file" => files::hashes(words),
-        "cut" => cuts::cut(words),
-        "packets" => cuts::packets(words),
-        "cut_pieces" => cuts::cut_pieces(words),
-        "cut_fronts" => cuts::cut_fronts(words),
-        "au_first" => au::first(words),
-        "au_last" => au::last(words),
-        "wav_first" => wav::first(words),
-        "wav_last" => wav::last(words),
-        "y4m_line" => pictures::line(words),
-        "picture" => pictures::picture(words),
-        "pcm_samples" => pcm::samples(words),
-        "pcm_bytes" => pcm::bytes(words),
-        "depth_change" => pcm::depths(words),
-        "bits" => bits::read(words),
-        "written" => bits::written(words),
-        "crc8" => bits::sum_of_8(words),
-        "crc16" => bits::sum_of_16(words),
-        "flac_frame" => flac::frame(words),
-        "flac_frame_fronts" => flac::frame_fronts(words),
-        "flac_sound" => flac::sound(words),
-        "flac_walk" => flac::walk(words),
-        "residual" => residuals::residual(words),
-        "subframe" => residuals::subframe(words),
-        "flac_block" => blocks::encoded(words),
-        "flac_block_made" => blocks::encoded_made(words),
-        "flac_totals" => blocks::totals(words),
-        "sched_state" => sched::state(words),
-        "unchoked" => sched::sources(words),
-        "scheduled" => sched::scheduled(words),
-        "generated_wav" => generated::sound(words),
-        "generated_y4m" => generated::moving(words),
-        "framehash_sound" => framehash::sound(alloc, arguments),
-        "framehash_pictures" => framehash::pictures(alloc, arguments),
-        "framehash_both" => framehash::both(alloc, arguments),
-        "framehash_line" => framehash::line(alloc, arguments),
-        _ => Err(Stop::Unreadable),
-    }
+    let mut call = Call::new(alloc, arguments);
+    let mut told = Told::new(alloc);
+    tell(&mut call, &mut told, name);
+    call.end()?;
+    told.finish()
 }

@@ -3,11 +3,11 @@ ghost use Rattle.std.specs.Prelude.{◌≡◌, ◌<◌, ◌^◌, true, vec_len};
 ghost use Rattle.std.specs.List.{AllByRecursion};
 
 use crate::table::Stop;
-use crate::words::{Words, read_number};
+use crate::told::Told;
+use crate::words::Call;
 use ff_frame::{Codec, Format, StreamHead};
 use ff_map::{Kind, MapError, MapFrom, MapSpec, Pick, StreamRef, best_streams, read_map, select};
 use ff_time::Rational;
-use std::alloc::{AllocError, Global};
 
 fn name_of(kind: Kind) -> &'static str {
     match kind {
@@ -16,52 +16,51 @@ fn name_of(kind: Kind) -> &'static str {
     }
 }
 
-fn show_pick(alloc: Global, file: u32, pick: Pick) -> Result<String, AllocError> {
+fn tell_pick(told: &mut Told, file: u32, pick: Pick) {
+    told.text("input ");
+    told.count(u64::from(file));
     match pick {
-        Pick::All => format!(in alloc; "input {file}"),
-        Pick::Index(number) => format!(in alloc; "input {file} stream {number}"),
-        Pick::Kind(kind) => {
-            let name = name_of(kind);
-            format!(in alloc; "input {file} {name}")
+        Pick::All => {}
+        Pick::Index(number) => {
+            told.text(" stream ");
+            told.count(u64::from(number));
         }
+        Pick::Kind(kind) => told.texts(&[" ", name_of(kind)]),
         Pick::Nth(kind, number) => {
-            let name = name_of(kind);
-            format!(in alloc; "input {file} {name} {number}")
+            told.texts(&[" ", name_of(kind), " "]);
+            told.count(u64::from(number));
         }
     }
 }
 
 /// A map: `input FILE`, after it `stream NUMBER`, or a kind and maybe a number; or `label LABEL`; and then `or none` where it
 /// may name nothing.
-pub fn show_map(alloc: Global, map: &MapSpec) -> Result<String, AllocError> {
-    let mut text = match &map.from {
-        MapFrom::Input { file, pick } => show_pick(alloc, *file, *pick)?,
-        MapFrom::Label(label) => {
-            let label = label.as_str();
-            format!(in alloc; "label {label}")?
-        }
-    };
-    if map.optional {
-        text.push_str(" or none")?;
+pub fn tell_map(told: &mut Told, map: &MapSpec) {
+    match &map.from {
+        MapFrom::Input { file, pick } => tell_pick(told, *file, *pick),
+        MapFrom::Label(label) => told.texts(&["label ", label.as_str()]),
     }
-    Ok(text)
+    if map.optional {
+        told.text(" or none");
+    }
 }
 
 /// `map TEXT`: the map of a string.
-pub fn map(words: Words) -> Result<String, Stop> {
-    match read_map(words.alloc, words.text(0)?) {
-        Ok(map) => Ok(show_map(words.alloc, &map)?),
-        Err(MapError::Bad { at }) => Ok(format!(in words.alloc; "bad at {at}")?),
-        Err(MapError::NoMemory) => Err(Stop::Broken),
+pub fn map(call: &mut Call, told: &mut Told) {
+    match read_map(call.alloc, call.text(0)) {
+        Ok(map) => tell_map(told, &map),
+        Err(MapError::Bad { at }) => {
+            told.text("bad at ");
+            told.count(at as u64);
+        }
+        Err(MapError::NoMemory) => told.fail(Stop::Broken),
     }
 }
 
-fn sound(channels: &str) -> Result<StreamHead, Stop> {
-    let (Ok(channels), Ok(tb)) = (u8::try_from(read_number(channels)?), Rational::new(1, 8000))
-    else {
-        return Err(Stop::Unreadable);
-    };
-    Ok(StreamHead::Audio {
+fn sound(call: &mut Call, channels: &str) -> Option<StreamHead> {
+    let channels = call.read_up_to(channels, 255) as u8;
+    let tb = call.base_of(1, 8000)?;
+    Some(StreamHead::Audio {
         tb,
         rate: 8000,
         bits: 8,
@@ -70,18 +69,11 @@ fn sound(channels: &str) -> Result<StreamHead, Stop> {
     })
 }
 
-fn picture(size: &str) -> Result<StreamHead, Stop> {
-    let Some((width, height)) = size.split_once('x') else {
-        return Err(Stop::Unreadable);
-    };
-    let (Ok(width), Ok(height), Ok(tb)) = (
-        u32::try_from(read_number(width)?),
-        u32::try_from(read_number(height)?),
-        Rational::new(1, 25),
-    ) else {
-        return Err(Stop::Unreadable);
-    };
-    Ok(StreamHead::Video {
+fn picture(call: &mut Call, size: &str) -> Option<StreamHead> {
+    let (width, height) = size.split_once('x').unwrap_or(("", ""));
+    let (width, height) = (call.read_wide(width), call.read_wide(height));
+    let tb = call.base_of(1, 25)?;
+    Some(StreamHead::Video {
         tb,
         format: Format::Mono,
         width,
@@ -92,33 +84,37 @@ fn picture(size: &str) -> Result<StreamHead, Stop> {
 }
 
 // Audio of so many channels is `a2`, video of so many columns and rows are `v4x3`.
-fn head(text: &str) -> Result<StreamHead, Stop> {
+fn head(call: &mut Call, text: &str) -> Option<StreamHead> {
     if let Some(channels) = text.strip_prefix('a') {
-        return sound(channels);
+        return sound(call, channels);
     }
     match text.strip_prefix('v') {
-        Some(size) => picture(size),
-        None => Err(Stop::Unreadable),
+        Some(size) => picture(call, size),
+        None => call.read(None),
     }
 }
 
-/// The streams of an input with commas between them; `-` has none.
-pub fn streams(alloc: Global, text: &str) -> Result<Vec<StreamHead>, Stop> {
-    let mut heads = Vec::new(alloc);
+/// The streams at this place with commas between them; `-` has none.
+pub fn streams(call: &mut Call, at: usize) -> Vec<StreamHead> {
+    let mut heads = Vec::new(call.alloc);
+    let text = call.text(at);
     if text != "-" {
         for one in text.split(',') {
-            heads.push(head(one)?)?;
+            if let Some(head) = head(call, one) {
+                call.note(heads.push(head));
+            }
         }
     }
-    Ok(heads)
+    heads
 }
 
-fn inputs(words: Words) -> Result<Vec<Vec<StreamHead>>, Stop> {
-    let mut heads = Vec::new(words.alloc);
-    for at in 1..words.len() {
-        heads.push(streams(words.alloc, words.text(at)?)?)?;
+fn inputs(call: &mut Call) -> Vec<Vec<StreamHead>> {
+    let mut heads = Vec::new(call.alloc);
+    for at in 1..call.len() {
+        let streams = streams(call, at);
+        call.note(heads.push(streams));
     }
-    Ok(heads)
+    heads
 }
 
 // Whether each input has few streams.
@@ -133,49 +129,48 @@ fn are_few(heads: &[Vec<StreamHead>]) -> bool
     true
 }
 
-fn show_streams(alloc: Global, refs: &[StreamRef]) -> Result<String, Stop> {
+fn tell_streams<E: Drop>(told: &mut Told, found: Result<Vec<StreamRef>, E>) {
+    let Ok(refs) = found else {
+        return told.fail(Stop::Broken);
+    };
     if refs.is_empty() {
-        return Ok(String::from_str(alloc, "none")?);
+        told.text("none");
     }
-    let mut out = String::new(alloc);
-    for one in refs {
-        let (input, stream) = (one.input, one.stream);
-        let text = format!(in alloc; "{input}:{stream}")?;
-        if out.len() > 0 {
-            out.push_str(" ")?;
+    for (place, one) in refs.iter().enumerate() {
+        if place > 0 {
+            told.text(" ");
         }
-        out.push_str(text.as_str())?;
+        told.counts(":", &[u64::from(one.input), u64::from(one.stream)]);
     }
-    Ok(out)
 }
 
 /// `select MAP STREAMS..`: the streams that a map names among those of each input.
-pub fn selected(words: Words) -> Result<String, Stop> {
-    let alloc = words.alloc;
-    let heads = inputs(words)?;
-    let Ok(map) = read_map(alloc, words.text(0)?) else {
-        return Err(Stop::Unreadable);
+pub fn selected(call: &mut Call, told: &mut Told) {
+    let heads = inputs(call);
+    let Ok(map) = read_map(call.alloc, call.text(0)) else {
+        return call.misread();
     };
     if heads.len() > 1024 || !are_few(heads.as_slice()) {
-        return Err(Stop::Unreadable);
+        return call.misread();
     }
-    let refs = select(alloc, &map, heads.as_slice())?;
-    show_streams(alloc, refs.as_slice())
+    tell_streams(told, select(call.alloc, &map, heads.as_slice()));
 }
 
 /// `best video|audio|both|none STREAMS..`: the best streams of the wanted kinds among those of each input.
-pub fn best(words: Words) -> Result<String, Stop> {
-    let heads = inputs(words)?;
-    let (video, audio) = match words.text(0)? {
+pub fn best(call: &mut Call, told: &mut Told) {
+    let heads = inputs(call);
+    let (video, audio) = match call.text(0) {
         "video" => (true, false),
         "audio" => (false, true),
         "both" => (true, true),
         "none" => (false, false),
-        _ => return Err(Stop::Unreadable),
+        _ => return call.misread(),
     };
     if heads.len() > 1024 || !are_few(heads.as_slice()) {
-        return Err(Stop::Unreadable);
+        return call.misread();
     }
-    let refs = best_streams(words.alloc, heads.as_slice(), video, audio)?;
-    show_streams(words.alloc, refs.as_slice())
+    tell_streams(
+        told,
+        best_streams(call.alloc, heads.as_slice(), video, audio),
+    );
 }

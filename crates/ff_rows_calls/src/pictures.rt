@@ -1,42 +1,48 @@
 //! Calls on raw video frames, and on the first line of YUV4MPEG2.
-ghost use Rattle.std.specs.Prelude.{◌≤◌, IfOk};
+ghost use Rattle.std.specs.Prelude.{◌≤◌, IfSome};
 ghost use Rattle.ff_frame.specs.Video.{IsVideo};
 
 use crate::heads::name_of_format;
 use crate::table::Stop;
-use crate::words::Words;
+use crate::told::Told;
+use crate::words::Call;
 use ff_frame::{Bytes, Format, Pkt, StreamHead, VFrame};
 use ff_pcm::{raw_decode, raw_encode};
 use ff_time::Rational;
 use ff_y4m::y4m_header;
-use std::alloc::Global;
 
-fn format_of(name: &str) -> Result<Format, Stop> {
-    match name {
-        "420" => Ok(Format::C420),
-        "422" => Ok(Format::C422),
-        "444" => Ok(Format::C444),
-        "mono" => Ok(Format::Mono),
-        _ => Err(Stop::Unreadable),
+fn format_at(call: &mut Call, at: usize) -> Format {
+    match call.text(at) {
+        "420" => Format::C420,
+        "422" => Format::C422,
+        "444" => Format::C444,
+        "mono" => Format::Mono,
+        _ => {
+            call.misread();
+            Format::Mono
+        }
     }
 }
 
-fn show(alloc: Global, frame: &VFrame, bytes: &[u8]) -> Result<String, Stop> {
-    let format = name_of_format(frame.format);
-    let (pts, duration, width, height) = (frame.pts, frame.duration, frame.width, frame.height);
-    let hex = hex::encode(alloc, bytes)?;
-    Ok(format!(in alloc; "{pts} {duration} {format} {width} {height} {hex}")?)
+fn tell_frame(told: &mut Told, frame: &VFrame) {
+    told.number(frame.pts);
+    told.text(" ");
+    told.number(frame.duration);
+    told.texts(&[" ", name_of_format(frame.format), " "]);
+    told.counts(" ", &[u64::from(frame.width), u64::from(frame.height)]);
+    told.text(" ");
 }
 
-// The planes of a frame as a packet's bytes, decoded, copied and encoded again.
-fn again(
-    alloc: Global,
+// Tells the planes of a frame as a packet's bytes, decoded, copied and encoded again.
+fn tell_again(
+    call: &Call,
+    told: &mut Told,
     tb: Rational,
     format: Format,
     width: u32,
     height: u32,
     bytes: Vec<u8>,
-) -> Result<String, Stop>
+)
     requires { IsVideo format width height bytes.items }
 {
     let head = StreamHead::Video {
@@ -54,59 +60,61 @@ fn again(
         pos: 100,
         bytes: Bytes::new(bytes),
     };
-    let frame = raw_decode(alloc, &head, &packet)?.try_copy(alloc)?;
-    let bytes = raw_encode(alloc, &frame)?;
-    show(alloc, &frame, bytes.as_slice())
+    let Ok(frame) = raw_decode(call.alloc, &head, &packet) else {
+        return told.fail(Stop::Broken);
+    };
+    let Ok(frame) = frame.try_copy(call.alloc) else {
+        return told.fail(Stop::Broken);
+    };
+    tell_frame(told, &frame);
+    told.made_hex(raw_encode(call.alloc, &frame));
 }
 
 // A number of columns or rows.
-fn side_at(words: Words, at: usize) -> Result<u32, Stop>
-    ensures { IfOk result (λ side. (1 ≤ side) × (side ≤ 16384)) }
+fn side_at(call: &mut Call, at: usize) -> Option<u32>
+    ensures { IfSome result (λ side. (1 ≤ side) × (side ≤ 16384)) }
 {
-    let side = words.number(at)?;
-    if side < 1 || side > 16384 {
-        return Err(Stop::Unreadable);
+    let side = call.up_to(at, 16384);
+    if side < 1 {
+        return call.read(None);
     }
-    Ok(side as u32)
+    Some(side as u32)
 }
 
 /// `picture FORMAT WIDTH HEIGHT PLANES`: the frame of a packet of these planes, at time 7. It has its time, duration,
 /// format, columns and rows, and the bytes of its packet again.
-pub fn picture(words: Words) -> Result<String, Stop> {
-    let format = format_of(words.text(0)?)?;
-    let (width, height) = (side_at(words, 1)?, side_at(words, 2)?);
-    let bytes = words.bytes(3)?;
-    if bytes.len() != format.frame_size(width, height) {
-        return Ok(String::from_str(words.alloc, "out of range")?);
-    }
-    let Ok(tb) = Rational::new(1, 25) else {
-        return Err(Stop::Unreadable);
+pub fn picture(call: &mut Call, told: &mut Told) {
+    let format = format_at(call, 0);
+    let bytes = call.bytes(3);
+    let (Some(width), Some(height), Some(tb)) = (
+        side_at(call, 1),
+        side_at(call, 2),
+        call.base_of(1, 25),
+    ) else {
+        return;
     };
-    again(words.alloc, tb, format, width, height, bytes)
-}
-
-fn small_at(words: Words, at: usize) -> Result<u32, Stop> {
-    let number = words.number(at)?;
-    if number > 4294967295 {
-        return Err(Stop::Unreadable);
+    if bytes.len() != format.frame_size(width, height) {
+        return told.text("out of range");
     }
-    Ok(number as u32)
+    tell_again(call, told, tb, format, width, height, bytes);
 }
 
 /// `y4m_line BASE FORMAT WIDTH HEIGHT NUM DEN`: the line before the frames of a stream with this time base, format, sides
 /// and aspect.
-pub fn line(words: Words) -> Result<String, Stop> {
-    let head = StreamHead::Video {
-        tb: words.base(0)?,
-        format: format_of(words.text(1)?)?,
-        width: small_at(words, 2)?,
-        height: small_at(words, 3)?,
-        sar_num: small_at(words, 4)?,
-        sar_den: small_at(words, 5)?,
+pub fn line(call: &mut Call, told: &mut Told) {
+    let format = format_at(call, 1);
+    let (width, height) = (call.wide(2), call.wide(3));
+    let (sar_num, sar_den) = (call.wide(4), call.wide(5));
+    let Some(tb) = call.base(0) else {
+        return;
     };
-    let bytes = y4m_header(words.alloc, &head)?;
-    match std::str::from_utf8(bytes.as_slice()) {
-        Ok(line) => Ok(String::from_str(words.alloc, line)?),
-        Err(_) => Err(Stop::Unreadable),
-    }
+    let head = StreamHead::Video {
+        tb,
+        format,
+        width,
+        height,
+        sar_num,
+        sar_den,
+    };
+    told.made_text(y4m_header(call.alloc, &head));
 }

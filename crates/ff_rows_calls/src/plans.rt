@@ -1,7 +1,8 @@
 //! Calls that plan a command over inputs with given streams.
 use crate::maps::streams;
 use crate::table::Stop;
-use crate::words::Words;
+use crate::told::Told;
+use crate::words::Call;
 use ff_frame::{ConfigError, StreamHead};
 use ff_lang::Text;
 use ff_plan::{Plan, PlanNode, plan};
@@ -10,70 +11,68 @@ use ff_plan_rules::GraphRules;
 use ff_sched::Way;
 use ff_stream::{Edge, Lane};
 use ff_words::{Command, Job, read_words};
-use std::alloc::{AllocError, Global};
 
-fn show_node(alloc: Global, node: PlanNode) -> Result<String, AllocError> {
+// A word, and a number after it.
+fn tell_numbered(told: &mut Told, what: &str, number: u32) {
+    told.text(what);
+    told.count(u64::from(number));
+}
+
+fn tell_node(told: &mut Told, node: PlanNode) {
     match node {
-        PlanNode::Demux { input } => format!(in alloc; "demux {input}"),
+        PlanNode::Demux { input } => tell_numbered(told, "demux ", input),
         PlanNode::Dec { stream } => {
-            let (input, number) = (stream.input, stream.stream);
-            format!(in alloc; "dec {input}:{number}")
+            tell_numbered(told, "dec ", stream.input);
+            tell_numbered(told, ":", stream.stream);
         }
-        PlanNode::Graph { graph } => format!(in alloc; "graph {graph}"),
-        PlanNode::Shortest { output } => format!(in alloc; "shortest {output}"),
-        PlanNode::Enc { output, stream } => format!(in alloc; "enc {output} {stream}"),
-        PlanNode::Mux { output } => format!(in alloc; "mux {output}"),
+        PlanNode::Graph { graph } => tell_numbered(told, "graph ", graph),
+        PlanNode::Shortest { output } => tell_numbered(told, "shortest ", output),
+        PlanNode::Enc { output, stream } => {
+            tell_numbered(told, "enc ", output);
+            tell_numbered(told, " ", stream);
+        }
+        PlanNode::Mux { output } => tell_numbered(told, "mux ", output),
     }
 }
 
-fn show_lane(alloc: Global, lane: &Lane) -> Result<String, AllocError> {
+fn name_of(lane: &Lane) -> &'static str {
     match lane {
-        Lane::Frames(_) => format!(in alloc; "frames"),
-        Lane::Packets(StreamHead::Audio { codec, .. }) => {
-            let codec = codec.name();
-            format!(in alloc; "{codec}")
-        }
-        Lane::Packets(StreamHead::Video { .. }) => format!(in alloc; "rawvideo"),
+        Lane::Frames(_) => "frames",
+        Lane::Packets(StreamHead::Audio { codec, .. }) => codec.name(),
+        Lane::Packets(StreamHead::Video { .. }) => "rawvideo",
     }
 }
 
-fn show_edge(alloc: Global, edge: &Edge) -> Result<String, AllocError> {
-    let (from, out_port, to, in_port) = (edge.from, edge.out_port, edge.to, edge.in_port);
-    let lane = show_lane(alloc, &edge.lane)?;
-    let lane = lane.as_str();
-    format!(in alloc; "{from}.{out_port} to {to}.{in_port} {lane}")
+fn tell_edge(told: &mut Told, edge: &Edge) {
+    told.counts(".", &[u64::from(edge.from), u64::from(edge.out_port)]);
+    told.text(" to ");
+    told.counts(".", &[u64::from(edge.to), u64::from(edge.in_port)]);
+    told.texts(&[" ", name_of(&edge.lane)]);
 }
 
-fn show_way(alloc: Global, way: Way) -> Result<String, AllocError> {
+fn tell_way(told: &mut Told, way: Way) {
     match way {
-        Way::Source(source) => format!(in alloc; "source {source}"),
-        Way::Graph(graph) => format!(in alloc; "graph {graph}"),
+        Way::Source(source) => tell_numbered(told, "source ", source),
+        Way::Graph(graph) => tell_numbered(told, "graph ", graph),
     }
 }
 
-fn add(out: &mut String, text: &str) -> Result<(), AllocError> {
-    if out.len() > 0 {
-        out.push_str(", ")?;
-    }
-    out.push_str(text)
-}
-
-fn show_plan(alloc: Global, plan: &Plan) -> Result<String, AllocError> {
-    let mut out = String::new(alloc);
+fn tell_plan(told: &mut Told, plan: &Plan) {
     for node in plan.nodes.as_slice() {
-        add(&mut out, show_node(alloc, *node)?.as_str())?;
+        tell_node(told, *node);
+        told.text(", ");
     }
     for edge in plan.edges.as_slice() {
-        add(&mut out, show_edge(alloc, edge)?.as_str())?;
+        tell_edge(told, edge);
+        told.text(", ");
     }
-    let sources = plan.routes.sources;
-    add(&mut out, format!(in alloc; "of {sources}")?.as_str())?;
+    tell_numbered(told, "of ", plan.routes.sources);
     for number in 0..plan.routes.streams.len() {
         if let Some(way) = plan.routes.streams.get(number) {
-            add(&mut out, show_way(alloc, way)?.as_str())?;
+            told.text(", ");
+            tell_way(told, way);
         }
     }
-    Ok(out)
 }
 
 fn reason(kind: ConfigError) -> &'static str {
@@ -89,77 +88,80 @@ fn reason(kind: ConfigError) -> &'static str {
     }
 }
 
-fn show_config(
-    alloc: Global,
-    graph: u32,
-    filter: u32,
-    kind: ConfigError,
-) -> Result<String, AllocError> {
-    let why = reason(kind);
-    format!(in alloc; "graph {graph} filter {filter}: {why}")
+fn tell_label(told: &mut Told, before: &str, label: &Text, behind: &str) {
+    told.texts(&[before, label.as_str(), behind]);
 }
 
-fn show_label(
-    alloc: Global,
-    before: &str,
-    label: &Text,
-    behind: &str,
-) -> Result<String, AllocError> {
-    let label = label.as_str();
-    format!(in alloc; "{before}{label}{behind}")
+fn tell_config(told: &mut Told, graph: u32, filter: u32, kind: ConfigError) {
+    tell_numbered(told, "graph ", graph);
+    tell_numbered(told, " filter ", filter);
+    told.texts(&[": ", reason(kind)]);
 }
 
-fn show_error(alloc: Global, error: PlanError) -> Result<String, Stop> {
-    let text = match error {
+fn tell_error(told: &mut Told, error: PlanError) {
+    match error {
         PlanError::NoStream { output, map } => {
-            format!(in alloc; "output {output} map {map}: no stream")?
+            tell_numbered(told, "output ", output);
+            tell_numbered(told, " map ", map);
+            told.text(": no stream");
         }
-        PlanError::NoStreams { output } => format!(in alloc; "output {output}: no streams")?,
-        PlanError::UnknownLabel { label } => show_label(alloc, "unknown label ", &label, "")?,
-        PlanError::UnusedLabel { label } => show_label(alloc, "unused label ", &label, "")?,
-        PlanError::LabelTwice { label } => show_label(alloc, "label ", &label, " used twice")?,
-        PlanError::Loop { graph } => format!(in alloc; "loop in graph {graph}")?,
+        PlanError::NoStreams { output } => {
+            tell_numbered(told, "output ", output);
+            told.text(": no streams");
+        }
+        PlanError::UnknownLabel { label } => tell_label(told, "unknown label ", &label, ""),
+        PlanError::UnusedLabel { label } => tell_label(told, "unused label ", &label, ""),
+        PlanError::LabelTwice { label } => tell_label(told, "label ", &label, " used twice"),
+        PlanError::Loop { graph } => tell_numbered(told, "loop in graph ", graph),
         PlanError::Config {
             graph,
             filter,
             kind,
-        } => show_config(alloc, graph, filter, kind)?,
+        } => tell_config(told, graph, filter, kind),
         PlanError::Takes { output, stream } => {
-            format!(in alloc; "output {output} stream {stream}: not taken")?
+            tell_numbered(told, "output ", output);
+            tell_numbered(told, " stream ", stream);
+            told.text(": not taken");
         }
-        PlanError::TooManyStreams => format!(in alloc; "too many streams")?,
-        PlanError::TooManyGraphs => format!(in alloc; "too many graphs")?,
-        PlanError::NoMemory => return Err(Stop::Broken),
-    };
-    Ok(text)
+        PlanError::TooManyStreams => told.text("too many streams"),
+        PlanError::TooManyGraphs => told.text("too many graphs"),
+        PlanError::NoMemory => told.fail(Stop::Broken),
+    }
 }
 
-fn planned(alloc: Global, job: &Job, heads: &[Vec<StreamHead>]) -> Result<String, Stop> {
+fn planned(call: &mut Call, told: &mut Told, job: &Job, heads: &[Vec<StreamHead>]) {
     if !is_within_limits(job, heads) {
-        return Err(Stop::Unreadable);
+        return call.misread();
     }
-    match plan(alloc, &GraphRules, job, heads) {
-        Ok(plan) => Ok(show_plan(alloc, &plan)?),
-        Err(error) => show_error(alloc, error),
+    match plan(call.alloc, &GraphRules, job, heads) {
+        Ok(plan) => tell_plan(told, &plan),
+        Err(error) => tell_error(told, error),
     }
+}
+
+// The streams of so many inputs, which stand from the second argument on.
+fn inputs(call: &mut Call, count: usize) -> Vec<Vec<StreamHead>> {
+    let mut heads = Vec::new(call.alloc);
+    for at in 0..count {
+        let streams = streams(call, at.saturating_add(1));
+        call.note(heads.push(streams));
+    }
+    heads
 }
 
 /// `plan INPUTS STREAMS.. WORD..`: the plan of the command of these arguments, where so many inputs have these streams.
-pub fn plan_of(words: Words) -> Result<String, Stop> {
-    let alloc = words.alloc;
-    let count = words.number(0)?;
-    let mut heads = Vec::new(alloc);
-    let mut at: usize = 1;
-    for _ in 0..count {
-        heads.push(streams(alloc, words.text(at)?)?)?;
-        at = at.saturating_add(1);
+pub fn plan_of(call: &mut Call, told: &mut Told) {
+    let most = call.len() as u64;
+    let count = call.up_to(0, most) as usize;
+    let heads = inputs(call, count);
+    let mut rest = Vec::new(call.alloc);
+    for place in count.saturating_add(1)..call.len() {
+        let word = call.text(place);
+        let word = call.own(word);
+        call.note(rest.push(word));
     }
-    let mut rest = Vec::new(alloc);
-    for place in at..words.len() {
-        rest.push(String::from_str(alloc, words.text(place)?)?)?;
-    }
-    match read_words(alloc, rest.as_slice()) {
-        Ok(Command::Run(job)) => planned(alloc, &job, heads.as_slice()),
-        _ => Err(Stop::Unreadable),
+    match read_words(call.alloc, rest.as_slice()) {
+        Ok(Command::Run(job)) => planned(call, told, &job, heads.as_slice()),
+        _ => call.misread(),
     }
 }

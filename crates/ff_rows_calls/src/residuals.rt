@@ -3,34 +3,41 @@ ghost use Rattle.std.specs.Prelude.{◌≡◌, ◌≤◌, true, All};
 ghost use Rattle.ff_frame.specs.Audio.{FitsBits};
 
 use crate::table::Stop;
-use crate::words::Words;
+use crate::told::Told;
+use crate::words::Call;
 use ff_bits::BitWriter;
 use ff_flac_subframe::{best_coding, write_residual, write_subframe};
-use std::alloc::Global;
 
-// The bits of the best coding, filled up to bytes, and how many they are.
-fn coded(alloc: Global, us: &[u32], order: usize) -> Result<String, Stop> {
-    if us.is_empty() || us.len() > 4096 || order > 4 {
-        return Ok(String::from_str(alloc, "out of range")?);
+// Tells the bits, filled up to bytes.
+fn tell_bits<E: Drop>(told: &mut Told, out: BitWriter, done: Result<(), E>) {
+    let mut out = out;
+    if done.is_err() || out.pad().is_err() {
+        return told.fail(Stop::Broken);
     }
-    let found = best_coding(alloc, us, order)?;
-    let mut out = BitWriter::new(alloc);
-    write_residual(&mut out, us, order, found.method, found.partition_order)?;
-    out.pad()?;
-    let (cost, bytes) = (found.cost, out.into_bytes());
-    let hex = hex::encode(alloc, bytes.as_slice())?;
-    Ok(format!(in alloc; "{cost} bits {hex}")?)
+    told.hex(out.into_bytes().as_slice());
+}
+
+// Tells how many bits the best coding has, and these.
+fn tell_coded(call: &Call, told: &mut Told, us: &[u32], order: usize) {
+    if us.is_empty() || us.len() > 4096 || order > 4 {
+        return told.text("out of range");
+    }
+    let Ok(found) = best_coding(call.alloc, us, order) else {
+        return told.fail(Stop::Broken);
+    };
+    told.count(found.cost);
+    told.text(" bits ");
+    let mut out = BitWriter::new(call.alloc);
+    let done = write_residual(&mut out, us, order, found.method, found.partition_order);
+    tell_bits(told, out, done);
 }
 
 /// `residual ORDER NUMBER..`: the best coding of residuals after a predictor of this order. In it 0, -1, 1, -2 .. are
 /// told as 0, 1, 2, 3 ..
-pub fn residual(words: Words) -> Result<String, Stop> {
-    let order = words.number(0)?;
-    let us = words.numbers(1)?;
-    if order > 4 {
-        return Err(Stop::Unreadable);
-    }
-    coded(words.alloc, us.as_slice(), order as usize)
+pub fn residual(call: &mut Call, told: &mut Told) {
+    let order = call.up_to(0, 4) as usize;
+    let us = call.numbers(1);
+    tell_coded(call, told, us.as_slice(), order);
 }
 
 fn fits(x: i32, depth: u32) -> bool
@@ -55,27 +62,22 @@ fn all_fit(samples: &[i32], depth: u32) -> bool
     true
 }
 
-// The bits of the subframe, filled up to bytes.
-fn written(alloc: Global, samples: &[i32], depth: u32) -> Result<String, Stop> {
+// Tells the bits of the subframe.
+fn tell_subframe(call: &Call, told: &mut Told, samples: &[i32], depth: u32) {
     if samples.is_empty() || samples.len() > 4096 || depth < 1 || depth > 25 {
-        return Ok(String::from_str(alloc, "out of range")?);
+        return told.text("out of range");
     }
     if !all_fit(samples, depth) {
-        return Ok(String::from_str(alloc, "out of range")?);
+        return told.text("out of range");
     }
-    let mut out = BitWriter::new(alloc);
-    write_subframe(alloc, &mut out, samples, depth)?;
-    out.pad()?;
-    let bytes = out.into_bytes();
-    Ok(hex::encode(alloc, bytes.as_slice())?)
+    let mut out = BitWriter::new(call.alloc);
+    let done = write_subframe(call.alloc, &mut out, samples, depth);
+    tell_bits(told, out, done);
 }
 
 /// `subframe DEPTH SAMPLE..`: the subframe of samples of so many bits, filled up to bytes.
-pub fn subframe(words: Words) -> Result<String, Stop> {
-    let depth = words.number(0)?;
-    let samples = words.samples(1)?;
-    if depth > 25 {
-        return Err(Stop::Unreadable);
-    }
-    written(words.alloc, samples.as_slice(), depth as u32)
+pub fn subframe(call: &mut Call, told: &mut Told) {
+    let depth = call.up_to(0, 25) as u32;
+    let samples = call.samples(1);
+    tell_subframe(call, told, samples.as_slice(), depth);
 }

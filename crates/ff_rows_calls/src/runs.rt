@@ -1,64 +1,71 @@
 //! Answers to numbers in a row, told in runs.
 use crate::table::Stop;
-use std::alloc::Global;
+use crate::told::Told;
 
 /// Answers to numbers in a row, of which those that follow each other and are the same are told once: `0-43 not yet; 44 end`.
 #[derive(Drop)]
 pub struct Runs {
-    alloc: Global,
-    told: String,
+    /// Whether a run was told.
+    begun: bool,
     /// The first and the last number of the run in hand, and its answer.
     run: Option<(usize, usize, String)>,
 }
 
-fn show_run(alloc: Global, first: usize, last: usize, answer: &str) -> Result<String, Stop> {
-    let text = if first == last {
-        format!(in alloc; "{first} {answer}")?
-    } else {
-        format!(in alloc; "{first}-{last} {answer}")?
-    };
-    Ok(text)
-}
-
 impl Runs {
     /// No answers.
-    pub fn new(alloc: Global) -> Runs {
+    pub fn new() -> Runs {
         Runs {
-            alloc,
-            told: String::new(alloc),
+            begun: false,
             run: None,
         }
     }
 
-    fn tell(&mut self, first: usize, last: usize, answer: &str) -> Result<(), Stop> {
-        if !self.told.is_empty() {
-            self.told.push_str("; ")?;
+    // Tells a run that is over.
+    fn tell(&mut self, told: &mut Told, first: usize, last: usize, answer: &str) {
+        if self.begun {
+            told.text("; ");
         }
-        let text = show_run(self.alloc, first, last, answer)?;
-        Ok(self.told.push_str(text.as_str())?)
+        self.begun = true;
+        told.count(first as u64);
+        if first != last {
+            told.text("-");
+            told.count(last as u64);
+        }
+        told.texts(&[" ", answer]);
     }
 
-    /// Adds the answer to the next number.
-    pub fn add(&mut self, number: usize, answer: String) -> Result<(), Stop> {
+    // Adds the answer to the next number.
+    fn add_text(&mut self, told: &mut Told, number: usize, answer: String) {
         let run = match self.run.take() {
             None => (number, number, answer),
             Some((first, _, same)) if same == answer => (first, number, answer),
             Some((first, last, other)) => {
-                self.tell(first, last, other.as_str())?;
+                self.tell(told, first, last, other.as_str());
                 (number, number, answer)
             }
         };
         self.run = Some(run);
-        Ok(())
     }
 
-    /// All runs.
-    pub fn text(self) -> Result<String, Stop> {
+    /// Adds the answer to the next number, and answers whether there is one.
+    pub fn add(&mut self, told: &mut Told, number: usize, answer: Told) -> bool {
+        match answer.finish() {
+            Ok(answer) => {
+                self.add_text(told, number, answer);
+                true
+            }
+            Err(stop) => {
+                told.fail(stop);
+                false
+            }
+        }
+    }
+
+    /// Tells the run in hand, the last.
+    pub fn end(self, told: &mut Told) {
         let mut all = self;
         if let Some((first, last, answer)) = all.run.take() {
-            all.tell(first, last, answer.as_str())?;
+            all.tell(told, first, last, answer.as_str());
         }
-        let Runs { told, .. } = all;
-        Ok(told)
     }
 }

@@ -3,87 +3,93 @@ ghost use Rattle.std.specs.Prelude.{◌≡◌, ◌<◌, true};
 ghost use Rattle.ff_sched.specs.Events.{IsSmall};
 
 use crate::runs::Runs;
-use crate::table::{Stop, text_of};
-use crate::words::{Words, read_number};
+use crate::table::Stop;
+use crate::told::Told;
+use crate::words::Call;
 use ff_frame::Event;
 use ff_sched::{
     Grant, Graphs, Routes, SchedNode, SchedState, Way, Ways, print_history, step, unchoked,
 };
 use std::alloc::Global;
 
-fn small(text: &str) -> Result<u32, Stop> {
-    Ok(text.parse::<u32>()?)
-}
-
 // `sNUMBER` is a source, `gNUMBER` a graph.
-fn way(text: &str) -> Result<Way, Stop> {
+fn way(call: &mut Call, text: &str) -> Way {
     if let Some(source) = text.strip_prefix('s') {
-        return Ok(Way::Source(small(source)?));
+        return Way::Source(call.read_wide(source));
     }
     match text.strip_prefix('g') {
-        Some(graph) => Ok(Way::Graph(small(graph)?)),
-        None => Err(Stop::Unreadable),
+        Some(graph) => Way::Graph(call.read_wide(graph)),
+        None => {
+            call.misread();
+            Way::Source(0)
+        }
     }
 }
 
 // Ways with commas between them, or `-` for none.
-fn ways(alloc: Global, text: &str) -> Result<Ways, Stop> {
-    let mut items = Vec::new(alloc);
-    if text == "-" {
-        return Ok(Ways::new(items));
+fn ways(call: &mut Call, text: &str) -> Ways {
+    let mut items = Vec::new(call.alloc);
+    if text != "-" {
+        for one in text.split(',') {
+            let way = way(call, one);
+            call.note(items.push(way));
+        }
     }
-    for one in text.split(',') {
-        items.push(way(one)?)?;
-    }
-    Ok(Ways::new(items))
+    Ways::new(items)
 }
 
 // The ways of each graph with a `/` between graphs, or `-` for no graph.
-fn graphs(alloc: Global, text: &str) -> Result<Graphs, Stop> {
-    let mut items = Vec::new(alloc);
-    if text == "-" {
-        return Ok(Graphs::new(items));
+fn graphs(call: &mut Call, text: &str) -> Graphs {
+    let mut items = Vec::new(call.alloc);
+    if text != "-" {
+        for one in text.split('/') {
+            let ways = ways(call, one);
+            call.note(items.push(ways));
+        }
     }
-    for one in text.split('/') {
-        items.push(ways(alloc, one)?)?;
-    }
-    Ok(Graphs::new(items))
+    Graphs::new(items)
 }
 
-fn routes(words: Words) -> Result<Routes, Stop> {
-    Ok(Routes {
-        sources: small(words.text(0)?)?,
-        streams: ways(words.alloc, words.text(1)?)?,
-        graphs: graphs(words.alloc, words.text(2)?)?,
-    })
+fn routes(call: &mut Call) -> Routes {
+    let (streams, inputs) = (call.text(1), call.text(2));
+    Routes {
+        sources: call.wide(0),
+        streams: ways(call, streams),
+        graphs: graphs(call, inputs),
+    }
 }
 
-fn opening(words: Words, routes: &Routes) -> Result<SchedState, Stop> {
-    let unused = words.text(3)?.parse::<u16>()?;
-    Ok(SchedState::opening(routes, unused))
+fn opening(call: &mut Call, routes: &Routes) -> SchedState {
+    SchedState::opening(routes, call.up_to(3, 65535) as u16)
 }
 
 // An event of two numbers.
-fn pair(name: &str, numbers: &str) -> Result<Event, Stop> {
-    let Some((first, second)) = numbers.split_once(':') else {
-        return Err(Stop::Unreadable);
-    };
+fn pair(call: &mut Call, name: &str, numbers: &str) -> Option<Event> {
+    let (first, second) = numbers.split_once(':')?;
+    let first = call.read_wide(first);
     match name {
-        "sent" => Ok(Event::Sent(small(first)?, read_number(second)?)),
-        "best" => Ok(Event::Best(small(first)?, small(second)?)),
-        _ => Err(Stop::Unreadable),
+        "sent" => Some(Event::Sent(first, call.read_number(second))),
+        "best" => Some(Event::Best(first, call.read_wide(second))),
+        _ => None,
     }
 }
 
 // `grant=SOURCE`, `sent=STREAM:TIME`, `finished=STREAM`, `best=GRAPH:INPUT` or `exited=SOURCE`.
-fn event(text: &str) -> Result<Event, Stop> {
-    match text.split_once('=') {
-        Some(("grant", source)) => Ok(Event::Grant(small(source)?)),
-        Some(("finished", stream)) => Ok(Event::Finished(small(stream)?)),
-        Some(("exited", source)) => Ok(Event::Exited(small(source)?)),
-        Some((name, numbers)) => pair(name, numbers),
-        None => Err(Stop::Unreadable),
+fn event(call: &mut Call, text: &str) -> Option<Event> {
+    let (name, numbers) = text.split_once('=')?;
+    match name {
+        "grant" => Some(Event::Grant(call.read_wide(numbers))),
+        "finished" => Some(Event::Finished(call.read_wide(numbers))),
+        "exited" => Some(Event::Exited(call.read_wide(numbers))),
+        _ => pair(call, name, numbers),
     }
+}
+
+// The event of the argument at this place. None where it can't be read, and that is noted.
+fn event_at(call: &mut Call, at: usize) -> Option<Event> {
+    let text = call.text(at);
+    let event = event(call, text);
+    call.read(event)
 }
 
 fn is_small(event: Event) -> bool
@@ -106,114 +112,122 @@ fn happens(state: &mut SchedState, event: Event) -> bool {
 }
 
 // The state after the events of a row, where each can happen.
-fn state_after(words: Words, routes: &Routes) -> Result<Option<SchedState>, Stop> {
-    let mut state = opening(words, routes)?;
-    for at in 4..words.len() {
-        if !happens(&mut state, event(words.text(at)?)?) {
-            return Ok(None);
+fn state_after(call: &mut Call, routes: &Routes) -> Option<SchedState> {
+    let mut state = opening(call, routes);
+    for at in 4..call.len() {
+        if !happens(&mut state, event_at(call, at)?) {
+            return None;
         }
     }
-    Ok(Some(state))
+    Some(state)
 }
 
-// What the state has of the stream, the source and the graph of this number.
-fn show_number(alloc: Global, state: &SchedState, number: u32) -> Result<String, Stop>
+// Tells what the state has of the stream, the source and the graph of this number.
+fn tell_number(told: &mut Told, state: &SchedState, number: u32)
     requires { number < 16 }
 {
-    let last = match state.last(number) {
-        Some(time) => time.to_string(alloc)?,
-        None => String::from_str(alloc, "none")?,
-    };
-    let finished = if state.finished(number) {
+    match state.last(number) {
+        Some(time) => told.count(time),
+        None => told.text("none"),
+    }
+    told.text(if state.finished(number) {
         " finished"
     } else {
         ""
-    };
-    let exited = if state.exited(number) { " exited" } else { "" };
-    let best = state.best(number);
-    Ok(format!(in alloc; "{last}{finished}{exited} best {best}")?)
+    });
+    told.text(if state.exited(number) { " exited" } else { "" });
+    told.text(" best ");
+    told.count(u64::from(state.best(number)));
 }
 
-fn show_state(alloc: Global, state: &SchedState) -> Result<String, Stop> {
-    let mut runs = Runs::new(alloc);
+fn tell_state(alloc: Global, told: &mut Told, state: &SchedState) {
+    let mut runs = Runs::new();
     for number in 0..16 {
-        runs.add(number as usize, show_number(alloc, state, number)?)?;
+        let mut one = Told::new(alloc);
+        tell_number(&mut one, state, number);
+        runs.add(told, number as usize, one);
     }
-    let (all, count) = (runs.text()?, state.count());
-    Ok(format!(in alloc; "{all}; count {count}")?)
+    runs.end(told);
+    told.text("; count ");
+    told.count(state.count());
 }
 
 /// `sched_state SOURCES STREAMS GRAPHS UNUSED EVENT..`: the state after these events, where the sources with a bit in
 /// UNUSED have exited before. It has of each number the last dts and the marks, and the best input, and it has the
 /// count.
-pub fn state(words: Words) -> Result<String, Stop> {
-    match state_after(words, &routes(words)?)? {
-        Some(state) => show_state(words.alloc, &state),
-        None => Ok(String::from_str(words.alloc, "out of range")?),
+pub fn state(call: &mut Call, told: &mut Told) {
+    let routes = routes(call);
+    match state_after(call, &routes) {
+        Some(state) => tell_state(call.alloc, told, &state),
+        None => told.text("out of range"),
     }
 }
 
 /// `unchoked` with the same arguments: the sources that may be read then, each a bit.
-pub fn sources(words: Words) -> Result<String, Stop> {
-    let routes = routes(words)?;
+pub fn sources(call: &mut Call, told: &mut Told) {
+    let routes = routes(call);
     if !routes.fit() {
-        return Ok(String::from_str(words.alloc, "too many")?);
+        return told.text("too many");
     }
-    match state_after(words, &routes)? {
-        Some(state) => Ok(unchoked(&state, &routes).to_string(words.alloc)?),
-        None => Ok(String::from_str(words.alloc, "out of range")?),
+    match state_after(call, &routes) {
+        Some(state) => told.count(u64::from(unchoked(&state, &routes))),
+        None => told.text("out of range"),
     }
 }
 
-fn show_grant(alloc: Global, grant: Grant) -> Result<String, Stop> {
-    let text = match grant {
+fn tell_grant(told: &mut Told, grant: Grant) {
+    match grant {
         Grant::Go(ticket) => {
-            let (source, place) = (ticket.source, ticket.place);
-            format!(in alloc; "go {source} {place}")?
+            told.text("go ");
+            told.counts(" ", &[u64::from(ticket.source), ticket.place]);
         }
         Grant::Choked(state) => {
-            let count = state.count();
-            format!(in alloc; "choked {count}")?
+            told.text("choked ");
+            told.count(state.count());
         }
-    };
-    Ok(text)
+    }
 }
 
-// A grant is asked for, another event told.
-fn answer(alloc: Global, node: &mut SchedNode, event: Event) -> Result<String, Stop> {
+// A grant is asked for, another event told, and what is answered is told.
+fn answer(told: &mut Told, node: &mut SchedNode, event: Event) {
     if !node.routes().has(event) || node.state().count() >= 1 << 63 {
-        return Ok(String::from_str(alloc, "out of range")?);
+        return told.text("out of range");
     }
     match event {
-        Event::Grant(source) => show_grant(alloc, node.offer(source)?),
+        Event::Grant(source) => match node.offer(source) {
+            Ok(grant) => tell_grant(told, grant),
+            Err(_) => told.fail(Stop::Broken),
+        },
         Event::Sent(_, _) | Event::Finished(_) | Event::Best(_, _) | Event::Exited(_) => {
-            Ok(node.hear(event)?.to_string(alloc)?)
+            match node.hear(event) {
+                Ok(place) => told.count(place),
+                Err(_) => told.fail(Stop::Broken),
+            }
         }
     }
 }
 
-// What each event of a row is answered, with commas between.
-fn answers(words: Words, node: &mut SchedNode) -> Result<String, Stop> {
-    let mut text = String::new(words.alloc);
-    for at in 4..words.len() {
+// Tells what each event of a row is answered, with commas between.
+fn tell_answers(call: &mut Call, told: &mut Told, node: &mut SchedNode) {
+    for at in 4..call.len() {
         if at > 4 {
-            text.push_str(", ")?;
+            told.text(", ");
         }
-        let told = answer(words.alloc, node, event(words.text(at)?)?)?;
-        text.push_str(told.as_str())?;
+        if let Some(event) = event_at(call, at) {
+            answer(told, node, event);
+        }
     }
-    Ok(text)
 }
 
 /// `scheduled` with the same arguments: what the scheduler in one place answers, a line, and the history that it prints.
-pub fn scheduled(words: Words) -> Result<String, Stop> {
-    let routes = routes(words)?;
+pub fn scheduled(call: &mut Call, told: &mut Told) {
+    let routes = routes(call);
     if !routes.fit() {
-        return Ok(String::from_str(words.alloc, "too many")?);
+        return told.text("too many");
     }
-    let state = opening(words, &routes)?;
-    let mut node = SchedNode::new(words.alloc, state, routes);
-    let answers = answers(words, &mut node)?;
-    let history = text_of(print_history(words.alloc, &node.into_history())?)?;
-    Ok(format!(in words.alloc; "{answers}\n{history}")?)
+    let state = opening(call, &routes);
+    let mut node = SchedNode::new(call.alloc, state, routes);
+    tell_answers(call, told, &mut node);
+    told.text("\n");
+    told.made_text(print_history(call.alloc, &node.into_history()));
 }
