@@ -1,6 +1,6 @@
 //! The fields of an AU's head.
 use crate::bytes::high_first;
-use std::alloc::{AllocError, Global};
+use crate::told::Told;
 
 // A field of 32 bits: what it is, and what of it is read.
 fn field(at: usize) -> Option<(&'static str, &'static str)> {
@@ -13,17 +13,13 @@ fn field(at: usize) -> Option<(&'static str, &'static str)> {
     }
 }
 
-/// The field at an offset, with what stands there.
-pub(crate) fn au_field(
-    alloc: Global,
-    front: &[u8],
-    at: usize,
-) -> Result<Option<String>, AllocError> {
-    let Some((what, read)) = field(at) else {
-        return Ok(None);
+/// Tells the field at an offset with what stands there, and answers whether it could.
+pub(crate) fn tell_au_field(told: &mut Told, front: &[u8], at: usize) -> bool {
+    let (Some((what, read)), Some(number)) = (field(at), high_first(front, at, 4)) else {
+        return false;
     };
-    match high_first(front, at, 4) {
-        Some(number) => Ok(Some(format!(in alloc; "{what} is {number}; {read}")?)),
-        None => Ok(None),
-    }
+    told.texts(&[what, " is "]);
+    told.number(number);
+    told.texts(&["; ", read]);
+    true
 }

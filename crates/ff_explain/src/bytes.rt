@@ -1,5 +1,5 @@
 //! Numbers and words among the first bytes of an input.
-use std::alloc::{AllocError, Global};
+use crate::told::Told;
 
 // So many bytes from a place on.
 fn part(front: &[u8], at: usize, count: usize) -> Option<&[u8]> {
@@ -37,23 +37,22 @@ fn is_printed(byte: u8) -> bool {
     b' ' <= byte && byte <= b'~'
 }
 
-fn hexadecimal(alloc: Global, bytes: &[u8]) -> Result<String, AllocError> {
-    let mut text = String::from_str(alloc, "the bytes")?;
+fn tell_hexadecimal(told: &mut Told, bytes: &[u8]) {
+    told.text("the bytes");
     for byte in bytes.iter() {
-        text.push_str(format!(in alloc; " {byte:02X}")?.as_str())?;
+        told.text(" ");
+        told.byte(*byte);
     }
-    Ok(text)
 }
 
-/// Bytes as a string in quotes where they can all be printed, else in hexadecimal.
-pub(crate) fn told(alloc: Global, bytes: &[u8]) -> Result<String, AllocError> {
+/// Tells bytes as a string in quotes where they can all be printed, else in hexadecimal.
+pub(crate) fn tell_bytes(told: &mut Told, bytes: &[u8]) {
     if !bytes.iter().all(|byte| is_printed(*byte)) {
-        return hexadecimal(alloc, bytes);
+        return tell_hexadecimal(told, bytes);
     }
-    let mut text = String::from_str(alloc, "\"")?;
+    told.text("\"");
     for byte in bytes.iter() {
-        text.push(char::from(*byte))?;
+        told.char(char::from(*byte));
     }
-    text.push('"')?;
-    Ok(text)
+    told.text("\"");
 }

@@ -1,10 +1,10 @@
 //! What a fault is, for a person.
-use crate::input::{damaged, unsupported};
+use crate::input::{Known, tell_damaged, tell_unsupported};
 use crate::line::{CommandLine, FilePlace};
-use crate::plan::plan_text;
-use crate::quoted::quoted;
-use crate::roles::{Role, role_behind};
-use crate::word::word_text;
+use crate::plan::tell_plan;
+use crate::quoted::tell_quoted;
+use crate::told::Told;
+use crate::word::tell_word;
 use ff_command::{FileRef, Status};
 use ff_words::Kind;
 use std::alloc::{AllocError, Global};
@@ -60,26 +60,10 @@ pub fn named_file<'a>(
     Ok(name_in(&line, words.len(), status))
 }
 
-// Whether the words ask that files which are there are kept: the last of `-n` and `-y` counts.
-fn keeps_files(words: &[String]) -> bool {
-    let mut keeps = false;
-    let mut before = None;
-    for word in words.iter() {
-        let role = role_behind(before, word.as_str());
-        match role {
-            Role::Named(_, Kind::Keeps) => keeps = true,
-            Role::Named(_, Kind::Replaces) => keeps = false,
-            _ => {}
-        }
-        before = Some(role);
-    }
-    keeps
-}
-
-// Why a call on a file failed. A file that is kept wasn't called on.
-fn cause_of<'a>(words: &[String], file: FileRef, cause: Option<&'a str>) -> Option<&'a str> {
+// Why a file failed. One that is kept had no call that could fail.
+fn cause_of<'a>(line: &CommandLine, file: FileRef, cause: Option<&'a str>) -> Option<&'a str> {
     match (cause, file) {
-        (None, FileRef::Output(_) | FileRef::Trace) if keeps_files(words) => {
+        (None, FileRef::Output(_) | FileRef::Trace) if line.keeps_files() => {
             Some("it is there, and -n keeps it")
         }
         _ => cause,
@@ -87,65 +71,59 @@ fn cause_of<'a>(words: &[String], file: FileRef, cause: Option<&'a str>) -> Opti
 }
 
 // A call on a file that failed.
-fn device(
-    alloc: Global,
-    name: Option<&str>,
-    file: FileRef,
-    cause: Option<&str>,
-) -> Result<String, AllocError> {
-    let name = quoted(alloc, name.unwrap_or(""))?;
-    let what = match file {
-        FileRef::Input(_) => "read",
-        FileRef::Output(_) | FileRef::Trace => "written",
-    };
-    match cause {
-        Some(cause) => format!(in alloc; "{name} can't be {what}: {cause}"),
-        None => format!(in alloc; "{name} can't be {what}"),
+fn tell_device(told: &mut Told, name: &str, file: FileRef, cause: Option<&str>) {
+    tell_quoted(told, name);
+    told.text(match file {
+        FileRef::Input(_) => " can't be read",
+        FileRef::Output(_) | FileRef::Trace => " can't be written",
+    });
+    if let Some(cause) = cause {
+        told.texts(&[": ", cause]);
     }
 }
 
-fn too_large(alloc: Global, name: Option<&str>) -> Result<String, AllocError> {
-    let name = quoted(alloc, name.unwrap_or(""))?;
-    format!(in alloc;
-        "{name} would pass 4 GiB, the most that a WAV holds; -rf64 auto writes a longer one"
-    )
+fn tell_too_large(told: &mut Told, name: &str) {
+    tell_quoted(told, name);
+    told.text(" would pass 4 GiB, the most that a WAV holds; -rf64 auto writes a longer one");
 }
 
-// What the fault is; nothing where there is none.
-fn text_of(
-    alloc: Global,
-    words: &[String],
-    status: &Status,
-    seen: &Seen,
-) -> Result<Option<String>, AllocError> {
-    let line = CommandLine::new(alloc, words)?;
-    let name = name_in(&line, words.len(), status);
-    let text = match status {
-        Status::Fine => return Ok(None),
-        Status::Words { word, kind } => word_text(alloc, &line, *word as usize, *kind)?,
-        Status::Plan(why) => plan_text(alloc, &line, why)?,
-        Status::Device { file } => {
-            device(alloc, name, *file, cause_of(words, *file, seen.cause))?
-        }
+// Tells what the fault is of a status on this file; nothing where there is none.
+fn tell_status(told: &mut Told, line: &CommandLine, status: &Status, name: &str, seen: &Seen) {
+    let front = seen.front;
+    match status {
+        Status::Fine => {}
+        Status::Words { word, kind } => tell_word(told, line, *word as usize, *kind),
+        Status::Plan(why) => tell_plan(told, line, why),
+        Status::Device { file } => tell_device(
+            told,
+            name,
+            *file,
+            cause_of(line, *file, seen.cause),
+        ),
         Status::Damaged { input, offset } => {
-            damaged(alloc, &line, *input, *offset, seen.front, seen.begun)?
+            let (input, offset) = (*input, *offset);
+            let known = Known {
+                input,
+                offset,
+                front,
+            };
+            tell_damaged(told, line, known, seen.begun);
         }
         Status::Unsupported { input, offset } => {
-            unsupported(alloc, &line, *input, *offset, seen.front)?
+            let (input, offset) = (*input, *offset);
+            let known = Known {
+                input,
+                offset,
+                front,
+            };
+            tell_unsupported(told, line, known);
         }
-        Status::TooLong { .. } => {
-            String::from_str(
-                alloc,
-                "a stream lasts past 1000000000 seconds, or has more packets than it may",
-            )?
-        }
-        Status::TooLarge { .. } => too_large(alloc, name)?,
-        Status::NoMemory => String::from_str(
-            alloc,
-            "memory ran out; -thread_queue_size 1 holds least",
-        )?,
-    };
-    Ok(Some(text))
+        Status::TooLong { .. } => told.text(
+            "a stream lasts past 1000000000 seconds, or has more packets than it may",
+        ),
+        Status::TooLarge { .. } => tell_too_large(told, name),
+        Status::NoMemory => told.text("memory ran out; -thread_queue_size 1 holds least"),
+    }
 }
 
 /// The line that tells a person what the fault is, with LF at its end; nothing where there is none.
@@ -155,13 +133,18 @@ pub fn explain(
     status: &Status,
     seen: &Seen,
 ) -> Result<Option<String>, AllocError> {
-    let Some(text) = text_of(alloc, words, status, seen)? else {
+    if let Status::Fine = status {
         return Ok(None);
-    };
-    let stays = if seen.begun {
-        "; what was written until then stays"
+    }
+    let line = CommandLine::new(alloc, words)?;
+    let name = name_in(&line, words.len(), status).unwrap_or("");
+    let mut told = Told::new(alloc);
+    told.text("ffmpeg: ");
+    tell_status(&mut told, &line, status, name, seen);
+    told.text(if seen.begun {
+        "; what was written until then stays\n"
     } else {
-        ""
-    };
-    Ok(Some(format!(in alloc; "ffmpeg: {text}{stays}\n")?))
+        "\n"
+    });
+    Ok(Some(told.finish()?))
 }

@@ -2,17 +2,17 @@
 use crate::graphs::{Written, filter_of};
 use crate::line::CommandLine;
 use crate::nearest::nearest;
-use crate::quoted::{clipped, quoted};
+use crate::quoted::{tell_clipped, tell_quoted};
+use crate::told::Told;
 use ff_filters::FILTERS;
 use ff_frame::ConfigError;
-use std::alloc::{AllocError, Global};
 
-fn filter_names(alloc: Global) -> Result<Vec<&'static str>, AllocError> {
-    let mut names = Vec::new(alloc);
+fn filter_names(told: &mut Told) -> Vec<&'static str> {
+    let mut names = Vec::new(told.alloc);
     for (name, _filter, _arguments, _effect) in FILTERS.iter() {
-        names.push(*name)?;
+        told.note(names.push(*name));
     }
-    Ok(names)
+    names
 }
 
 // How a filter is written with its arguments.
@@ -25,24 +25,29 @@ fn arguments_of(name: &str) -> &'static str {
     ""
 }
 
-fn unknown(alloc: Global, filter: &Written) -> Result<String, AllocError> {
-    let names = filter_names(alloc)?;
-    let name = quoted(alloc, filter.name.as_str())?;
-    match nearest(alloc, filter.name.as_str(), names.as_slice())? {
-        Some(near) => format!(in alloc; "there is no filter {name}; the nearest is {near}"),
-        None => format!(in alloc; "there is no filter {name}; ffmpeg -h lists them"),
+fn tell_unknown(told: &mut Told, filter: &Written) {
+    let names = filter_names(told);
+    told.text("there is no filter ");
+    tell_quoted(told, filter.name.as_str());
+    match nearest(told, filter.name.as_str(), names.as_slice()) {
+        Some(near) => told.texts(&["; the nearest is ", near]),
+        None => told.text("; ffmpeg -h lists them"),
     }
 }
 
 // What a filter takes instead.
-fn with_arguments(alloc: Global, filter: &Written, what: &str) -> Result<String, AllocError> {
-    let text = quoted(alloc, filter.text.as_str())?;
-    let name = clipped(alloc, filter.name.as_str())?;
+fn tell_arguments(told: &mut Told, filter: &Written, what: &str) {
     let arguments = arguments_of(filter.name.as_str());
+    tell_quoted(told, filter.text.as_str());
+    told.texts(&[": ", what]);
     if arguments.is_empty() {
-        format!(in alloc; "{text}: {what}; {name} has no arguments")
+        told.text("; ");
+        tell_clipped(told, filter.name.as_str());
+        told.text(" has no arguments");
     } else {
-        format!(in alloc; "{text}: {what}; it is written {name}{arguments}")
+        told.text("; it is written ");
+        tell_clipped(told, filter.name.as_str());
+        told.text(arguments);
     }
 }
 
@@ -54,43 +59,59 @@ fn kinds(takes_sound: Option<bool>) -> &'static str {
     }
 }
 
-fn of_filter(alloc: Global, filter: &Written, kind: ConfigError) -> Result<String, AllocError> {
-    let what = match kind {
-        ConfigError::UnknownFilter => return unknown(alloc, filter),
-        ConfigError::UnknownOption => return with_arguments(
-            alloc,
-            filter,
-            "it has no argument of such a name",
-        ),
-        ConfigError::BadOption => return with_arguments(
-            alloc,
-            filter,
-            "it doesn't take a value that stands there",
-        ),
-        ConfigError::Kind => kinds(filter.takes_sound),
-        ConfigError::Pads => "it has too many labels, or too few inputs or outputs",
-        ConfigError::Mismatch => "its inputs differ where they have to be alike",
-        ConfigError::BadSize =>
-            "a frame would be too small or too large, or cut from outside of one",
-        ConfigError::NoMemory => "memory ran out",
-    };
-    let text = quoted(alloc, filter.text.as_str())?;
-    format!(in alloc; "{text}: {what}")
+// What is wrong with a filter.
+fn tell_wrong(told: &mut Told, filter: &Written, what: &str) {
+    tell_quoted(told, filter.text.as_str());
+    told.texts(&[": ", what]);
 }
 
-/// Why a filter of a graph can't be had.
-pub(crate) fn filter_text(
-    alloc: Global,
+fn tell_of(told: &mut Told, filter: &Written, kind: ConfigError) {
+    match kind {
+        ConfigError::UnknownFilter => tell_unknown(told, filter),
+        ConfigError::UnknownOption => {
+            tell_arguments(told, filter, "it has no argument of such a name");
+        }
+        ConfigError::BadOption => {
+            tell_arguments(told, filter, "it doesn't take a value that stands there");
+        }
+        ConfigError::Kind => tell_wrong(told, filter, kinds(filter.takes_sound)),
+        ConfigError::Pads => tell_wrong(
+            told,
+            filter,
+            "it has too many labels, or too few inputs or outputs",
+        ),
+        ConfigError::Mismatch => tell_wrong(
+            told,
+            filter,
+            "its inputs differ where they have to be alike",
+        ),
+        ConfigError::BadSize => tell_wrong(
+            told,
+            filter,
+            "a frame would be too small or too large, or cut from outside of one",
+        ),
+        ConfigError::NoMemory => tell_wrong(told, filter, "memory ran out"),
+    }
+}
+
+/// Tells why a filter of a graph can't be had.
+pub(crate) fn tell_filter(
+    told: &mut Told,
     line: &CommandLine,
     graph: u32,
     number: u32,
     kind: ConfigError,
-) -> Result<String, AllocError> {
+) {
     let is_named = kind != ConfigError::UnknownFilter;
-    match filter_of(alloc, line, graph, number, is_named)? {
-        Some(filter) => of_filter(alloc, &filter, kind),
-        None => format!(in alloc;
-            "filter {number} of graph {graph} can't be had; both count from 0"
-        ),
+    match filter_of(told.alloc, line, graph, number, is_named) {
+        Ok(Some(filter)) => tell_of(told, &filter, kind),
+        Ok(None) => {
+            told.text("filter ");
+            told.number(u64::from(number));
+            told.text(" of graph ");
+            told.number(u64::from(graph));
+            told.text(" can't be had; both count from 0");
+        }
+        Err(_) => told.fail(),
     }
 }

@@ -1,6 +1,6 @@
 //! The fields of a FLAC file's head (RFC 9639, section 8).
 use crate::bytes::high_first;
-use std::alloc::{AllocError, Global};
+use crate::told::Told;
 
 // The number of bits of a sample, less one, is the five bits behind 20 bits of rate and 3 of channels.
 fn bits(front: &[u8]) -> Option<u64> {
@@ -20,25 +20,27 @@ fn block(front: &[u8], at: usize) -> Option<&'static str> {
     }
 }
 
-/// The field at an offset, with what stands there.
-pub(crate) fn flac_field(
-    alloc: Global,
-    front: &[u8],
-    at: usize,
-) -> Result<Option<String>, AllocError> {
-    if at == 18 {
-        return Ok(Some(String::from_str(alloc, "the sample rate is 0")?));
-    }
+// The number of bits.
+fn tell_bits(told: &mut Told, front: &[u8]) -> bool {
+    let Some(bits) = bits(front) else {
+        return false;
+    };
+    told.text("the number of bits is ");
+    told.number(bits);
+    told.text("; 4 to 24 are read");
+    true
+}
+
+/// Tells the field at an offset with what stands there, and answers whether it could.
+pub(crate) fn tell_flac_field(told: &mut Told, front: &[u8], at: usize) -> bool {
     if at == 20 {
-        return match bits(front) {
-            Some(bits) => Ok(Some(format!(in alloc;
-                "the number of bits is {bits}; 4 to 24 are read"
-            )?)),
-            None => Ok(None),
-        };
+        return tell_bits(told, front);
     }
-    match block(front, at) {
-        Some(what) => Ok(Some(String::from_str(alloc, what)?)),
-        None => Ok(None),
-    }
+    let what = if at == 18 {
+        Some("the sample rate is 0")
+    } else {
+        block(front, at)
+    };
+    told.text(what.unwrap_or(""));
+    what.is_some()
 }

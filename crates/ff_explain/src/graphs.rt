@@ -1,5 +1,6 @@
 //! The filter that a number means, in the graphs of a command line.
 use crate::line::CommandLine;
+use crate::told::Told;
 use ff_filters::named;
 use ff_lang::{Filter, Graph, LangError, read_graph};
 use ff_words::Kind;
@@ -20,17 +21,15 @@ pub(crate) struct Written {
 }
 
 // The name and the arguments, as in a filtergraph that needs no quotes.
-fn text_of(alloc: Global, filter: &Filter) -> Result<String, AllocError> {
-    let mut text = String::from_str(alloc, filter.name.as_str())?;
+fn tell_text(told: &mut Told, filter: &Filter) {
+    told.text(filter.name.as_str());
     for (number, arg) in filter.args.as_slice().iter().enumerate() {
-        text.push(if number == 0 { '=' } else { ':' })?;
+        told.text(if number == 0 { "=" } else { ":" });
         if let Some(key) = &arg.key {
-            text.push_str(key.as_str())?;
-            text.push('=')?;
+            told.texts(&[key.as_str(), "="]);
         }
-        text.push_str(arg.value.as_str())?;
+        told.text(arg.value.as_str());
     }
-    Ok(text)
 }
 
 fn as_written(alloc: Global, filter: &Filter) -> Result<Written, AllocError> {
@@ -38,9 +37,11 @@ fn as_written(alloc: Global, filter: &Filter) -> Result<Written, AllocError> {
         Some(name) => Some(ff_filters::takes_sound(name, filter.args.as_slice())),
         None => None,
     };
+    let mut told = Told::new(alloc);
+    tell_text(&mut told, filter);
     Ok(Written {
         name: String::from_str(alloc, filter.name.as_str())?,
-        text: text_of(alloc, filter)?,
+        text: told.finish()?,
         takes_sound,
     })
 }

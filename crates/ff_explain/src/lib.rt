@@ -24,6 +24,7 @@ mod nearest;
 mod plan;
 mod quoted;
 mod roles;
+mod told;
 mod values;
 mod wav;
 mod word;

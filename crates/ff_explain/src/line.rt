@@ -45,6 +45,19 @@ impl<'a> CommandLine<'a> {
         self.roles.get(place).copied()
     }
 
+    /// Whether files that are there are kept: the last of `-n` and `-y` counts.
+    pub(crate) fn keeps_files(&self) -> bool {
+        let mut keeps = false;
+        for role in self.roles.iter() {
+            match role {
+                Role::Named(_, Kind::Keeps) => keeps = true,
+                Role::Named(_, Kind::Replaces) => keeps = false,
+                _ => {}
+            }
+        }
+        keeps
+    }
+
     /// The option whose value stands at a place.
     pub(crate) fn option_of(&self, place: usize) -> &'a str {
         self.word(place.saturating_sub(1))

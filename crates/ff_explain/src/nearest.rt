@@ -1,5 +1,5 @@
 //! The name that somebody meant.
-use std::alloc::{AllocError, Global};
+use crate::told::Told;
 use strsim::osa_distance;
 
 /// How many edits are near: one for each four characters, at most three.
@@ -9,19 +9,19 @@ fn near(word: &str) -> usize {
 }
 
 /// The first of the names that are nearest to a word, if one is near. An edit changes, adds, drops or swaps characters.
-pub(crate) fn nearest<'a>(
-    alloc: Global,
-    word: &str,
-    names: &[&'a str],
-) -> Result<Option<&'a str>, AllocError> {
+pub(crate) fn nearest<'a>(told: &mut Told, word: &str, names: &[&'a str]) -> Option<&'a str> {
     let mut found = None;
     let mut least = near(word).saturating_add(1);
     for name in names.iter() {
-        let edits = osa_distance(alloc, word, name)?;
-        if edits < least {
-            least = edits;
-            found = Some(*name);
+        match osa_distance(told.alloc, word, name) {
+            Ok(edits) => {
+                if edits < least {
+                    least = edits;
+                    found = Some(*name);
+                }
+            }
+            Err(_) => told.fail(),
         }
     }
-    Ok(found)
+    found
 }

@@ -1,21 +1,17 @@
 //! Why there is no plan.
-use crate::filter::filter_text;
+use crate::filter::tell_filter;
 use crate::line::{CommandLine, FilePlace};
-use crate::quoted::{clipped, listed, quoted};
+use crate::quoted::{tell_clipped, tell_listed, tell_quoted};
+use crate::told::Told;
 use ff_format::{FORMATS, FileFormat, SoundTaken};
 use ff_plan_layout::PlanError;
 use ff_words::{AUDIO_CODECS, Kind};
-use std::alloc::{AllocError, Global};
 
 // The name of a file of the command line.
-fn name_of(
-    alloc: Global,
-    line: &CommandLine,
-    file: Option<FilePlace>,
-) -> Result<String, AllocError> {
+fn tell_name(told: &mut Told, line: &CommandLine, file: Option<FilePlace>) {
     match file {
-        Some(file) => quoted(alloc, line.word(file.name)),
-        None => String::from_str(alloc, "an output"),
+        Some(file) => tell_quoted(told, line.word(file.name)),
+        None => told.text("an output"),
     }
 }
 
@@ -35,138 +31,128 @@ fn format_of(line: &CommandLine, file: FilePlace) -> Option<(&'static str, FileF
 }
 
 // The audio codecs that are among these.
-fn sound_codecs(alloc: Global, sound: SoundTaken) -> Result<String, AllocError> {
-    let mut names = Vec::new(alloc);
+fn tell_sound_codecs(told: &mut Told, sound: SoundTaken) {
+    let mut names = Vec::new(told.alloc);
     for codec in AUDIO_CODECS.iter() {
         if sound.takes(*codec, 1) {
-            names.push(codec.name())?;
+            told.note(names.push(codec.name()));
         }
     }
-    listed(alloc, names.as_slice(), " or ")
+    tell_listed(told, names.as_slice(), " or ");
 }
 
 // What an output of a format takes.
-fn taken_by(alloc: Global, format: FileFormat) -> Result<String, AllocError> {
+fn tell_taken_by(told: &mut Told, format: FileFormat) {
     let taken = format.taken();
     if !taken.sound.is_some() {
-        return String::from_str(alloc, "one stream of video");
+        return told.text("one stream of video");
     }
-    let codecs = sound_codecs(alloc, taken.sound)?;
-    let most = taken.streams;
     if taken.pictures {
-        format!(in alloc; "up to {most} streams, of video and of audio as {codecs}")
+        told.text("up to ");
+        told.number(taken.streams as u64);
+        told.text(" streams, of video and of audio as ");
     } else {
-        format!(in alloc; "one stream of audio, as {codecs}")
+        told.text("one stream of audio, as ");
     }
+    tell_sound_codecs(told, taken.sound);
 }
 
 // An output whose streams aren't such as its format takes.
-fn not_so(
-    alloc: Global,
-    line: &CommandLine,
-    output: u32,
-    what: &str,
-) -> Result<String, AllocError> {
+fn tell_not_so(told: &mut Told, line: &CommandLine, output: u32, what: &str) {
     let file = line.output(output);
-    let name = name_of(alloc, line, file)?;
-    match file.and_then(|file| format_of(line, file)) {
-        Some((format, found)) => {
-            let taken = taken_by(alloc, found)?;
-            format!(in alloc; "{name} {what}: {format} takes {taken}")
-        }
-        None => format!(in alloc; "{name} {what}"),
+    tell_name(told, line, file);
+    told.texts(&[" ", what]);
+    if let Some((format, found)) = file.and_then(|file| format_of(line, file)) {
+        told.texts(&[": ", format, " takes "]);
+        tell_taken_by(told, found);
     }
 }
 
-fn no_stream(
-    alloc: Global,
-    line: &CommandLine,
-    output: u32,
-    map: u32,
-) -> Result<String, AllocError> {
+// An output that can't have a stream.
+fn tell_not_taken(told: &mut Told, line: &CommandLine, output: u32, stream: u32) {
+    let mut what = Told::new(told.alloc);
+    what.text("can't have its stream ");
+    what.number(u64::from(stream));
+    match what.finish() {
+        Ok(what) => tell_not_so(told, line, output, what.as_str()),
+        Err(_) => told.fail(),
+    }
+}
+
+fn tell_no_stream(told: &mut Told, line: &CommandLine, output: u32, map: u32) {
     let file = line.output(output);
-    let name = name_of(alloc, line, file)?;
     match file.and_then(|file| line.own_value(file, Kind::Map, map)) {
         Some(map) => {
-            let map = quoted(alloc, map)?;
-            format!(in alloc;
-                "-map {map} of {name} names no stream of the inputs; with ? at its end it may"
-            )
+            told.text("-map ");
+            tell_quoted(told, map);
+            told.text(" of ");
+            tell_name(told, line, file);
+            told.text(" names no stream of the inputs; with ? at its end it may");
         }
-        None => format!(in alloc; "map {map} of {name} names no stream of the inputs"),
+        None => {
+            told.text("map ");
+            told.number(u64::from(map));
+            told.text(" of ");
+            tell_name(told, line, file);
+            told.text(" names no stream of the inputs");
+        }
     }
 }
 
-fn of_label(alloc: Global, label: &str, what: &str) -> Result<String, AllocError> {
-    let label = clipped(alloc, label)?;
-    format!(in alloc; "[{label}] {what}")
+fn tell_label(told: &mut Told, label: &str, what: &str) {
+    told.text("[");
+    tell_clipped(told, label);
+    told.texts(&["] ", what]);
 }
 
-fn of_loop(alloc: Global, line: &CommandLine, graph: u32) -> Result<String, AllocError> {
+fn tell_loop(told: &mut Told, line: &CommandLine, graph: u32) {
+    told.text("the filters of ");
     match line.value(Kind::Complex, graph) {
         Some(text) => {
-            let text = quoted(alloc, text)?;
-            format!(in alloc;
-                "the filters of {text} feed each other in a circle, or those of several graphs do"
-            )
+            tell_quoted(told, text);
+            told.text(" feed each other in a circle, or those of several graphs do");
         }
-        None => format!(in alloc; "the filters of graph {graph} feed each other in a circle"),
+        None => {
+            told.text("graph ");
+            told.number(u64::from(graph));
+            told.text(" feed each other in a circle");
+        }
     }
 }
 
-/// Why there is no plan.
-pub(crate) fn plan_text(
-    alloc: Global,
-    line: &CommandLine,
-    why: &PlanError,
-) -> Result<String, AllocError> {
+/// Tells why there is no plan.
+pub(crate) fn tell_plan(told: &mut Told, line: &CommandLine, why: &PlanError) {
     match why {
-        PlanError::NoStream { output, map } => no_stream(alloc, line, *output, *map),
-        PlanError::NoStreams { output } => not_so(
-            alloc,
-            line,
-            *output,
-            "gets no stream of the inputs",
-        ),
-        PlanError::UnknownLabel { label } => {
-            of_label(
-                alloc,
-                label.as_str(),
-                "is no output of a graph, and names no stream of an input",
-            )
+        PlanError::NoStream { output, map } => tell_no_stream(told, line, *output, *map),
+        PlanError::NoStreams { output } => {
+            tell_not_so(told, line, *output, "gets no stream of the inputs");
         }
-        PlanError::UnusedLabel { label } => {
-            of_label(
-                alloc,
-                label.as_str(),
-                "is an output of a graph that no -map and no graph takes",
-            )
-        }
-        PlanError::LabelTwice { label } => of_label(
-            alloc,
+        PlanError::UnknownLabel { label } => tell_label(
+            told,
             label.as_str(),
-            "is given twice, or taken twice",
+            "is no output of a graph, and names no stream of an input",
         ),
-        PlanError::Loop { graph } => of_loop(alloc, line, *graph),
+        PlanError::UnusedLabel { label } => tell_label(
+            told,
+            label.as_str(),
+            "is an output of a graph that no -map and no graph takes",
+        ),
+        PlanError::LabelTwice { label } => {
+            tell_label(told, label.as_str(), "is given twice, or taken twice");
+        }
+        PlanError::Loop { graph } => tell_loop(told, line, *graph),
         PlanError::Config {
             graph,
             filter,
             kind,
-        } => filter_text(alloc, line, *graph, *filter, *kind),
-        PlanError::Takes { output, stream } => {
-            let what = format!(in alloc; "can't have its stream {stream}")?;
-            not_so(alloc, line, *output, what.as_str())
+        } => tell_filter(told, line, *graph, *filter, *kind),
+        PlanError::Takes { output, stream } => tell_not_taken(told, line, *output, *stream),
+        PlanError::TooManyStreams => {
+            told.text("the outputs have more than 16 streams together");
         }
-        PlanError::TooManyStreams => String::from_str(
-            alloc,
-            "the outputs have more than 16 streams together",
-        ),
         PlanError::TooManyGraphs => {
-            String::from_str(
-                alloc,
-                "there are more than 16 graphs; each stream of an output has one, too",
-            )
+            told.text("there are more than 16 graphs; each stream of an output has one, too");
         }
-        PlanError::NoMemory => String::from_str(alloc, "memory ran out"),
+        PlanError::NoMemory => told.text("memory ran out"),
     }
 }

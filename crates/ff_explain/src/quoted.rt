@@ -1,5 +1,5 @@
 //! Words as they are quoted, and lists of names, so that a line stays short and one.
-use std::alloc::{AllocError, Global};
+use crate::told::Told;
 
 /// How many characters of a word are quoted.
 const LONGEST: usize = 40;
@@ -9,36 +9,31 @@ fn shown(c: char) -> char {
     if c.is_control() { '?' } else { c }
 }
 
-/// A word, without what stands behind its first characters.
-pub(crate) fn clipped(alloc: Global, word: &str) -> Result<String, AllocError> {
-    let mut text = String::new(alloc);
+/// Tells a word, without what stands behind its first characters.
+pub(crate) fn tell_clipped(told: &mut Told, word: &str) {
     for (number, c) in word.chars().enumerate() {
         if number == LONGEST {
-            text.push_str("..")?;
+            told.text("..");
             break;
         }
-        text.push(shown(c))?;
+        told.char(shown(c));
     }
-    Ok(text)
 }
 
 /// The same in quotes.
-pub(crate) fn quoted(alloc: Global, word: &str) -> Result<String, AllocError> {
-    let text = clipped(alloc, word)?;
-    format!(in alloc; "\"{text}\"")
+pub(crate) fn tell_quoted(told: &mut Told, word: &str) {
+    told.text("\"");
+    tell_clipped(told, word);
+    told.text("\"");
 }
 
-/// The rest of a word from a byte on, in quotes; the empty string where nothing is left.
-pub(crate) fn quoted_rest(alloc: Global, word: &str, at: usize) -> Result<String, AllocError> {
-    match word.get(at..) {
-        Some(rest) if !rest.is_empty() => quoted(alloc, rest),
-        _ => Ok(String::new(alloc)),
-    }
+/// The rest of a word from a byte on; nothing where none is left.
+pub(crate) fn rest_of(word: &str, at: usize) -> Option<&str> {
+    word.get(at..).filter(|rest| !rest.is_empty())
 }
 
-/// `a, b or c`, with this word before the last.
-pub(crate) fn listed(alloc: Global, names: &[&str], last: &str) -> Result<String, AllocError> {
-    let mut text = String::new(alloc);
+/// Tells `a, b or c`, with this word before the last.
+pub(crate) fn tell_listed(told: &mut Told, names: &[&str], last: &str) {
     for (number, name) in names.iter().enumerate() {
         if number != 0 {
             let between = if number.saturating_add(1) == names.len() {
@@ -46,9 +41,8 @@ pub(crate) fn listed(alloc: Global, names: &[&str], last: &str) -> Result<String
             } else {
                 ", "
             };
-            text.push_str(between)?;
+            told.text(between);
         }
-        text.push_str(name)?;
+        told.text(name);
     }
-    Ok(text)
 }

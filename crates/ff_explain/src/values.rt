@@ -1,70 +1,79 @@
 //! What an option takes, in words.
-use crate::quoted::listed;
+use crate::quoted::tell_listed;
+use crate::told::Told;
 use ff_format::FORMATS;
 use ff_frame::Codec;
 use ff_words::{AUDIO_CODECS, FRAME_MODES, Kind, SYNC_MODES, VIDEO_CODECS};
-use std::alloc::{AllocError, Global};
 
 /// The formats that an input may have.
-pub(crate) fn read_formats(alloc: Global) -> Result<Vec<&'static str>, AllocError> {
-    let mut names = Vec::new(alloc);
+pub(crate) fn read_formats(told: &mut Told) -> Vec<&'static str> {
+    let mut names = Vec::new(told.alloc);
     for (name, _ending, _format, read, _written) in FORMATS.iter() {
         if *read {
-            names.push(*name)?;
+            told.note(names.push(*name));
         }
     }
-    Ok(names)
+    names
 }
 
 /// The formats that an output may have.
-pub(crate) fn written_formats(alloc: Global) -> Result<Vec<&'static str>, AllocError> {
-    let mut names = Vec::new(alloc);
+pub(crate) fn written_formats(told: &mut Told) -> Vec<&'static str> {
+    let mut names = Vec::new(told.alloc);
     for (name, _ending, _format, _read, written) in FORMATS.iter() {
         if *written {
-            names.push(*name)?;
+            told.note(names.push(*name));
         }
     }
-    Ok(names)
+    names
 }
 
 /// The endings that tell an output's format.
-pub(crate) fn endings(alloc: Global) -> Result<Vec<&'static str>, AllocError> {
-    let mut names = Vec::new(alloc);
+pub(crate) fn endings(told: &mut Told) -> Vec<&'static str> {
+    let mut names = Vec::new(told.alloc);
     for (_name, ending, _format, _read, written) in FORMATS.iter() {
         if *written && !ending.is_empty() {
-            names.push(*ending)?;
+            told.note(names.push(*ending));
         }
     }
-    Ok(names)
+    names
 }
 
-fn all_formats(alloc: Global) -> Result<Vec<&'static str>, AllocError> {
-    let mut names = Vec::new(alloc);
+fn all_formats(told: &mut Told) -> Vec<&'static str> {
+    let mut names = Vec::new(told.alloc);
     for (name, _ending, _format, _read, _written) in FORMATS.iter() {
-        names.push(*name)?;
+        told.note(names.push(*name));
     }
-    Ok(names)
+    names
 }
 
-fn codecs(alloc: Global, list: &[Codec]) -> Result<Vec<&'static str>, AllocError> {
-    let mut names = Vec::new(alloc);
+fn codecs(told: &mut Told, list: &[Codec]) -> Vec<&'static str> {
+    let mut names = Vec::new(told.alloc);
     for codec in list.iter() {
-        names.push(codec.name())?;
+        told.note(names.push(codec.name()));
     }
-    Ok(names)
+    names
+}
+
+// These names.
+fn names(told: &mut Told, list: &[&'static str]) -> Vec<&'static str> {
+    let mut names = Vec::new(told.alloc);
+    for name in list.iter() {
+        told.note(names.push(*name));
+    }
+    names
 }
 
 /// The values that an option of this kind has by name; nothing where they aren't a list.
-pub(crate) fn named_values(alloc: Global, kind: Kind) -> Result<Vec<&'static str>, AllocError> {
+pub(crate) fn named_values(told: &mut Told, kind: Kind) -> Vec<&'static str> {
     match kind {
-        Kind::Format => all_formats(alloc),
-        Kind::AudioCodec => codecs(alloc, &AUDIO_CODECS),
-        Kind::VideoCodec => codecs(alloc, &VIDEO_CODECS),
-        Kind::FrameMode => Vec::from_slice(alloc, &FRAME_MODES),
-        Kind::SyncMode => Vec::from_slice(alloc, &SYNC_MODES),
-        Kind::Hash => Vec::from_slice(alloc, &["SHA256", "MD5"]),
-        Kind::Rf64 => Vec::from_slice(alloc, &["never", "auto", "always"]),
-        _ => Ok(Vec::new(alloc)),
+        Kind::Format => all_formats(told),
+        Kind::AudioCodec => codecs(told, &AUDIO_CODECS),
+        Kind::VideoCodec => codecs(told, &VIDEO_CODECS),
+        Kind::FrameMode => names(told, &FRAME_MODES),
+        Kind::SyncMode => names(told, &SYNC_MODES),
+        Kind::Hash => names(told, &["SHA256", "MD5"]),
+        Kind::Rf64 => names(told, &["never", "auto", "always"]),
+        _ => names(told, &[]),
     }
 }
 
@@ -85,12 +94,12 @@ fn described(kind: Kind) -> &'static str {
     }
 }
 
-/// What an option of this kind takes.
-pub(crate) fn taken(alloc: Global, kind: Kind) -> Result<String, AllocError> {
-    let names = named_values(alloc, kind)?;
+/// Tells what an option of this kind takes.
+pub(crate) fn tell_taken(told: &mut Told, kind: Kind) {
+    let names = named_values(told, kind);
     if names.is_empty() {
-        String::from_str(alloc, described(kind))
+        told.text(described(kind));
     } else {
-        listed(alloc, names.as_slice(), " or ")
+        tell_listed(told, names.as_slice(), " or ");
     }
 }

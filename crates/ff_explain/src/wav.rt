@@ -1,6 +1,6 @@
 //! The fields of a WAV's head (RIFF WAVE; RF64, EBU Tech 3306).
 use crate::bytes::{low_first, stands};
-use std::alloc::{AllocError, Global};
+use crate::told::Told;
 
 /// Where the first chunk stands.
 const FIRST: usize = 12;
@@ -49,23 +49,24 @@ fn chunk(front: &[u8], at: usize) -> Option<&'static str> {
     None
 }
 
-/// The field at an offset, with what stands there.
-pub(crate) fn wav_field(
-    alloc: Global,
-    front: &[u8],
-    at: usize,
-) -> Result<Option<String>, AllocError> {
+// The field of `fmt ` at an offset with its number: what it is, the number, and what of it is read.
+fn numbered(front: &[u8], at: usize) -> Option<(&'static str, u64, &'static str)> {
+    let place = at.checked_sub(format_chunk(front)?)?;
+    let (size, what, read) = field(place)?;
+    Some((what, low_first(front, at, size)?, read))
+}
+
+/// Tells the field at an offset with what stands there, and answers whether it could.
+pub(crate) fn tell_wav_field(told: &mut Told, front: &[u8], at: usize) -> bool {
     if let Some(what) = chunk(front, at) {
-        return Ok(Some(String::from_str(alloc, what)?));
+        told.text(what);
+        return true;
     }
-    let Some(place) = format_chunk(front).and_then(|start| at.checked_sub(start)) else {
-        return Ok(None);
+    let Some((what, number, read)) = numbered(front, at) else {
+        return false;
     };
-    let Some((size, what, read)) = field(place) else {
-        return Ok(None);
-    };
-    match low_first(front, at, size) {
-        Some(number) => Ok(Some(format!(in alloc; "{what} is {number}; {read}")?)),
-        None => Ok(None),
-    }
+    told.texts(&[what, " is "]);
+    told.number(number);
+    told.texts(&["; ", read]);
+    true
 }

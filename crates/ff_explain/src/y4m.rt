@@ -1,6 +1,6 @@
 //! The words of a YUV4MPEG2 file's first line (yuv4mpeg(5)).
-use crate::bytes::told;
-use std::alloc::{AllocError, Global};
+use crate::bytes::tell_bytes;
+use crate::told::Told;
 
 // What is read of a parameter of this letter.
 fn read_of(letter: u8) -> Option<&'static str> {
@@ -25,21 +25,20 @@ fn parameter(front: &[u8], at: usize) -> Option<&[u8]> {
     Some(rest)
 }
 
-/// The parameter at an offset.
-pub(crate) fn y4m_field(
-    alloc: Global,
-    front: &[u8],
-    at: usize,
-) -> Result<Option<String>, AllocError> {
+/// Tells the parameter at an offset, and answers whether it could.
+pub(crate) fn tell_y4m_field(told: &mut Told, front: &[u8], at: usize) -> bool {
     let Some(word) = parameter(front, at) else {
-        return Ok(None);
+        return false;
     };
     let [letter, ..] = word else {
-        return Ok(Some(String::from_str(alloc, "its first line ends without W, H and F")?));
+        told.text("its first line ends without W, H and F");
+        return true;
     };
     let Some(read) = read_of(*letter) else {
-        return Ok(None);
+        return false;
     };
-    let word = told(alloc, word)?;
-    Ok(Some(format!(in alloc; "the parameter {word}; {read}")?))
+    told.text("the parameter ");
+    tell_bytes(told, word);
+    told.texts(&["; ", read]);
+    true
 }

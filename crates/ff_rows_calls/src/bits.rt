@@ -126,8 +126,10 @@ pub fn written(call: &mut Call, told: &mut Told) {
         let word = call.text(at);
         put_word(call, &mut writer, word);
     }
-    call.note(writer.pad());
-    told.hex(writer.into_bytes().as_slice());
+    match writer.pad() {
+        Ok(()) => told.hex(writer.into_bytes().as_slice()),
+        Err(_) => told.fail(Stop::Broken),
+    }
 }
 
 /// `crc8 BYTES`: the sum of 8 bits.

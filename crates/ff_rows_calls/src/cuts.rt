@@ -223,7 +223,8 @@ fn size_at(call: &mut Call, at: usize) -> Option<usize>
 {
     let size = call.up_to(at, 1_000_000);
     if size < 1 {
-        return call.read(None);
+        call.misread();
+        return None;
     }
     Some(size as usize)
 }

@@ -86,7 +86,8 @@ fn flac_head(call: &mut Call) -> Option<StreamHead>
     let (rate, bits, channels) = (call.up_to(0, 1048575), call.up_to(1, 24), call.up_to(2, 8));
     let tb = call.base_of(1, rate as i64)?;
     if bits < 4 || channels < 1 {
-        return call.read(None);
+        call.misread();
+        return None;
     }
     Some(StreamHead::Audio {
         tb,

@@ -63,7 +63,8 @@ fn stream_at(call: &mut Call) -> Option<FlacStream>
 {
     let (rate, bits, channels) = (call.up_to(0, 1048575), call.up_to(1, 24), call.up_to(2, 8));
     if rate < 1 || bits < 4 || channels < 1 {
-        return call.read(None);
+        call.misread();
+        return None;
     }
     Some(FlacStream {
         rate: rate as u32,

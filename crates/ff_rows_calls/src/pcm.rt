@@ -104,7 +104,8 @@ fn bits_at(call: &mut Call, at: usize) -> Option<u8>
 {
     let bits = call.up_to(at, 32);
     if bits < 4 {
-        return call.read(None);
+        call.misread();
+        return None;
     }
     Some(bits as u8)
 }

@@ -76,7 +76,8 @@ fn side_at(call: &mut Call, at: usize) -> Option<u32>
 {
     let side = call.up_to(at, 16384);
     if side < 1 {
-        return call.read(None);
+        call.misread();
+        return None;
     }
     Some(side as u32)
 }
