@@ -85,7 +85,8 @@ fn tell_bad(told: &mut Told, line: &CommandLine, place: usize) {
 // A value that leaves its language at a byte.
 fn tell_leaves(told: &mut Told, line: &CommandLine, place: usize, at: usize, what: &str) {
     let value = line.word(place);
-    told.texts(&[line.option_of(place), " takes ", what, "; "]);
+    told.texts(&[line.option_of(place), " takes "]);
+    told.texts(&[what, "; "]);
     tell_quoted(told, value);
     match rest_of(value, at) {
         None => told.text(" ends too early"),

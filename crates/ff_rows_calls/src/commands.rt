@@ -46,7 +46,8 @@ fn tell_input(told: &mut Told, input: &InputJob) {
 
 fn tell_codec(told: &mut Told, kind: &str, codec: Option<Codec>) {
     if let Some(codec) = codec {
-        told.texts(&[" ", kind, " ", codec.name()]);
+        told.texts(&[" ", kind]);
+        told.texts(&[" ", codec.name()]);
     }
 }
 
@@ -71,8 +72,8 @@ fn tell_maps(told: &mut Told, output: &OutputJob) {
 }
 
 fn tell_output(told: &mut Told, output: &OutputJob) {
-    let format = name_of_format(output.format);
-    told.texts(&["; out <", output.name.as_str(), "> ", format]);
+    told.texts(&["; out <", output.name.as_str(), "> "]);
+    told.text(name_of_format(output.format));
     tell_maps(told, output);
     tell_codec(told, "audio", output.audio);
     tell_codec(told, "video", output.video);

@@ -89,7 +89,9 @@ fn reason(kind: ConfigError) -> &'static str {
 }
 
 fn tell_label(told: &mut Told, before: &str, label: &Text, behind: &str) {
-    told.texts(&[before, label.as_str(), behind]);
+    told.text(before);
+    told.text(label.as_str());
+    told.text(behind);
 }
 
 fn tell_config(told: &mut Told, graph: u32, filter: u32, kind: ConfigError) {
