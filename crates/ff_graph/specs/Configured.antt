@@ -1,5 +1,5 @@
 -- What a graph is where its open input pads have these heads: its filters as they are made, its open output pads, or the first refusal.
-use Rattle.std.specs.Prelude.{ℕ, suc, ◌-◌, ◌==◌, nat_lt, ◌&&◌, ◌||◌, Bool, true, false, if◌then◌else◌, List, [], ◌∷◌, ◌++◌, length, replicate, slice_get}
+use Rattle.std.specs.Prelude.{◌≡◌, ℕ, suc, ◌-◌, ◌==◌, nat_lt, ◌&&◌, ◌||◌, Bool, true, false, if◌then◌else◌, List, [], ◌∷◌, ◌++◌, length, replicate, slice_get}
 use Rattle.std.specs.Prelude.{slice_index_or, slice_set, Option, None, Some, Result, Ok, Err}
 use Rattle.std.specs.List.{list_any}
 use Rattle.ff_frame.specs.declared.config.ConfigError.{ConfigError}
@@ -17,7 +17,7 @@ use Rattle.ff_filters.specs.Configured.{Filtered}
 use Rattle.ff_filters.specs.Makes.{configured_as}
 use Rattle.ff_filters.specs.Pads.{is_apart}
 use Rattle.ff_graph.specs.Drawings.{seen_graph}
-use Rattle.ff_graph.specs.Opens.{filter_order, sources_in, open_pads}
+use Rattle.ff_graph.specs.Opens.{filter_order, loops, sources_in, open_pads}
 
 -- the refusal of a filter, by its number in the order of writing
 pub record Refused : Type 0 where
@@ -162,3 +162,9 @@ outs_of ds (Err r) = Err r
 -- the open output pads of a graph where its open input pads have these heads (None: no stream), or the refusal that comes first
 abbrev pub configured : Graph → List (Option StreamHead) → Result (List OpenOut) Refused
 configured g given = outs_of (seen_graph g) (make_all (seen_graph g) given)
+
+-- A graph can be had where its open input pads have these heads: no filters of it feed one another in a loop, and none of them is refused.
+pub record CanBeHad (g : Graph) (given : List (Option StreamHead)) : Type 0 where
+  pub unlooped : loops g ≡ false
+  pub outs : List OpenOut
+  pub made : configured g given ≡ Ok outs

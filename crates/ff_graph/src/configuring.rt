@@ -1,10 +1,11 @@
 //! The configuration of all filters of a graph.
 ghost use Rattle.std.specs.Prelude.{◌≡◌, IfOk, IfErr, Ok, false, length, map};
 ghost use Rattle.ff_graph_links.specs.pads.Links.{all_seen, pads_in};
-ghost use Rattle.ff_graph.specs.Configured.{configured, make_all as all_made, open_outs as open_outs_of};
+ghost use Rattle.ff_graph.specs.Configured.{configured, make_all as all_made, open_outs as open_outs_of, CanBeHad};
 ghost use Rattle.ff_graph.specs.Drawings.{seen_graph};
 ghost use Rattle.ff_graph.specs.Opens.{filter_order, loops, sources_in};
 ghost use Rattle.ff_graph.specs.Pads.{heads_in, made_by, output_of, IsRefusal, IsRefused};
+ghost use Rattle.ff_graph.specs.declared.refusal.Refusal.TheVariants.{NoMemory};
 
 use crate::drawing::drawn;
 use crate::making::make_all;
@@ -75,6 +76,7 @@ pub fn configure_graph(
     ensures size { IfOk result (λ c. length c.heads.items ≡ length (seen_graph graph.now)) }
     ensures unlooped { IfOk result (λ c. loops graph.now ≡ false) }
     ensures refused { IfErr result (IsRefused graph.now given.now) }
+    ensures had { IfErr result (λ e. CanBeHad graph.now given.now → e ≡ NoMemory) }
 {
     let drawn = drawn(alloc, graph)?;
     match in_order(alloc, &drawn)? {

@@ -8,7 +8,9 @@ ghost use Rattle.ff_graph_links.specs.pads.Links.{pads_in, opens_from};
 ghost use Rattle.ff_filters.specs.limited.Cuts.{AreTimed};
 ghost use Rattle.ff_graph.specs.Meaning.{graph_means};
 ghost use Rattle.ff_graph.specs.Opens.{open_ins};
+ghost use Rattle.ff_graph.specs.Configured.{CanBeHad};
 ghost use Rattle.ff_graph.specs.Pads.{heads_in, output_of, IsRefused};
+ghost use Rattle.ff_graph.specs.declared.refusal.Refusal.TheVariants.{NoMemory};
 ghost use Rattle.ff_graph_dag.specs.wiring.Flows.{no_flows, flows_from, IsDrawing};
 ghost use Rattle.ff_graph_dag.specs.wiring.Limits.{flows_at};
 ghost use Rattle.ff_graph_links.specs.labels.Clear.{IsClear};
@@ -81,6 +83,7 @@ pub fn make_graph(alloc: Global, graph: &Graph, heads: &[StreamHead]) -> Result<
     requires clear { IsClear graph.now }
     requires counted { length heads.now ≡ length (open_ins graph.now) }
     ensures refused { IfErr result (IsRefused graph.now (all_given heads.now)) }
+    ensures had { IfErr result (λ e. CanBeHad graph.now (all_given heads.now) → e ≡ NoMemory) }
     ensures heads { IfOk result (λ m. m.outs.items ≡ out_heads graph.now heads.now) }
     ensures new { IfOk result (λ m. IsNew (⟦<GraphFilter as Filter>⟧.view m.filter)) }
     ensures ins { IfOk result (λ m. (⟦<GraphFilter as Filter>⟧.view m.filter).ins ≡ map FramesOf heads.now) }

@@ -4,7 +4,9 @@ ghost use Rattle.ff_stream.specs.declared.item.Lane.TheVariants.{Frames as Frame
 ghost use Rattle.ff_net.specs.Pasts.{start};
 ghost use Rattle.ff_filters.specs.limited.Cuts.{AreTimed};
 ghost use Rattle.ff_graph.specs.Opens.{open_ins};
+ghost use Rattle.ff_graph.specs.Configured.{CanBeHad};
 ghost use Rattle.ff_graph.specs.Pads.{IsRefused};
+ghost use Rattle.ff_graph.specs.declared.refusal.Refusal.TheVariants.{NoMemory};
 ghost use Rattle.ff_graph_links.specs.labels.Clear.{IsClear};
 ghost use Rattle.ff_graph.specs.composed.Cuts.{all_given, graph_outs, graph_task};
 ghost use Rattle.ff_graph.specs.composed.Pads.{HasFilter, HaveChannels};
@@ -98,6 +100,7 @@ pub fn graph_machine(
     requires counted { length heads.now ≡ length (open_ins graph.now) }
     requires each { length cuts.now ≡ length (graph_outs graph.now heads.now) }
     ensures refused { IfErr result (IsRefused graph.now (all_given heads.now)) }
+    ensures had { IfErr result (λ e. CanBeHad graph.now (all_given heads.now) → e ≡ NoMemory) }
     ensures ins { IfOk result (λ m. (⟦<GraphMachine as Machine>⟧.view m).in_lanes ≡ map FramesOf heads.now) }
     ensures outs { IfOk result (λ m. (⟦<GraphMachine as Machine>⟧.view m).out_lanes ≡ map (λ o. FramesOf o.head) (graph_outs graph.now heads.now)) }
     ensures source { IfOk result (λ m. (⟦<GraphMachine as Machine>⟧.view m).source ≡ None) }

@@ -32,15 +32,27 @@ heads_made : (looped : Bool) (r : Result (List of_graph.OpenOut) of_graph.Refuse
 heads_made true r first outs un e = absurd cc
 heads_made false r first outs un e = heads_as r outs e
 
+-- there are pads that the filters make
+pads_as : (r : Result (List of_graph.OpenOut) of_graph.Refused) (outs : List OpenOut) → outputs_as r ≡ Ok outs → (os : List of_graph.OpenOut) × (r ≡ Ok os)
+pads_as (Ok os) outs e = (os, refl)
+pads_as (Err r) outs e = absurd cc
+
+pads_made : (looped : Bool) (r : Result (List of_graph.OpenOut) of_graph.Refused) (first : Refused) (outs : List OpenOut) → looped ≡ false
+    → (if looped then Err first else outputs_as r) ≡ Ok outs → (os : List of_graph.OpenOut) × (r ≡ Ok os)
+pads_made true r first outs un e = absurd cc
+pads_made false r first outs un e = pads_as r outs e
+
 pub graphs_are_had : GraphsAreHad all_kinds
-graphs_are_had text heads outs made count unlooped clear fit = record {
-  fit = fit;
-  clear = clear;
-  counted = count ∙ length-map (pads.open_ins text) input_as;
-  few = subst (λ (n : ℕ). n ≤ 16) (sym count)
-      (keep_heads.few text (map (λ h. Some h) heads) outs (unlooped, length-map heads (λ h. Some h) ∙ count, made));
-  outs_are = heads_made (pads.loops text) (of_graph.configured text (all_given heads)) _ outs unlooped made;
-}
+graphs_are_had text heads outs made count unlooped clear fit =
+    let had = pads_made (pads.loops text) (of_graph.configured text (all_given heads)) _ outs unlooped made in record {
+      fit = fit;
+      clear = clear;
+      counted = count ∙ length-map (pads.open_ins text) input_as;
+      few = subst (λ (n : ℕ). n ≤ 16) (sym count)
+          (keep_heads.few text (map (λ h. Some h) heads) outs (unlooped, length-map heads (λ h. Some h) ∙ count, made));
+      had = record { unlooped = unlooped; outs = had.0; made = had.1 };
+      outs_are = heads_made (pads.loops text) (of_graph.configured text (all_given heads)) _ outs unlooped made;
+    }
 
 pub are_timed : (heads : List StreamHead) → AreFitHeads heads → AreTimed heads
 are_timed [] fit = tt

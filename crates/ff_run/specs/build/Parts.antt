@@ -14,9 +14,10 @@ use Rattle.ff_node_codec.specs.codecs.Choices.{CanDecode, CanEncode, frame_made,
 use Rattle.ff_node_codec.specs.Decoding.{dec_task}
 use Rattle.ff_node_codec.specs.Encoding.{enc_task}
 use Rattle.ff_graph_links.specs.labels.Clear.{IsClear}
-use Rattle.ff_graph.specs.composed.Cuts.{graph_outs, graph_task}
+use Rattle.ff_graph.specs.composed.Cuts.{all_given, graph_outs, graph_task}
 use Rattle.ff_node_demux.specs.Demuxing.{demux_task}
 use Rattle.ff_node_flac.specs.Coding.{CanCode, coded_head, flac_task}
+use Rattle.ff_graph.specs.Configured.{CanBeHad}
 use Rattle.ff_graph.specs.Opens.{open_ins}
 use Rattle.ff_input.specs.Formats.{InputHead, IsHead, any_cutter, stream_in}
 use Rattle.ff_lang.specs.declared.graph.Graph.{Graph}
@@ -54,12 +55,14 @@ abbrev pub enc_task_to : Bool → StreamHead → Task
 enc_task_to true coded = flac_task
 enc_task_to false coded = enc_task (packet_made coded)
 
--- a graph of this text, whose labels are clear, on frames of these heads at its open inputs, which are few, and of those at its outputs
+-- A graph of this text, whose labels are clear, on frames of these heads at its open inputs, which are few. With them it can be had, and it
+-- has frames of those at its outputs.
 pub record CanFilter (text : Graph) (heads outs : List StreamHead) : Type 0 where
   pub fit : AreFitHeads heads
   pub clear : IsClear text
   pub counted : length heads ≡ length (open_ins text)
   pub few : length heads ≤ 16
+  pub had : CanBeHad text (all_given heads)
   pub outs_are : outs ≡ map (λ o. o.head) (graph_outs text heads)
 
 -- what the graph of this number is there for: what its filters make of its streams, with one of these cuts behind each output, and to tell

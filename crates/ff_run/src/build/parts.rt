@@ -7,7 +7,7 @@ use crate::build::through::Through;
 use ff_flac_dec::frame_channel;
 use ff_format::OutputOptions;
 use ff_frame::{Codec, Coding, StreamHead};
-use ff_graph::graph_machine;
+use ff_graph::{Refusal, graph_machine};
 use ff_host::{Sink, Source};
 use ff_input::{AnyCut, InputHead};
 use ff_lang::Graph;
@@ -134,8 +134,10 @@ impl<Src: Source + Send + Drop, Snk: Sink + Send + Drop> Kinds<Src, Snk, Part<Sr
         heads: &[StreamHead],
         cuts: &[OutputCut],
     ) -> Result<Part<Src, Snk>, AllocError> {
-        let Ok(machine) = graph_machine(alloc, text, heads, cuts) else {
-            return Err(AllocError);
+        let machine = match graph_machine(alloc, text, heads, cuts) {
+            Ok(machine) => machine,
+            Err(Refusal::NoMemory) => return Err(AllocError),
+            Err(Refusal::Config { .. } | Refusal::Loop) => unreachable!(),
         };
         let Ok(graph) = Leading::new(alloc, number, heads, machine) else {
             return Err(AllocError);
