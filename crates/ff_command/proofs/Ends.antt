@@ -353,6 +353,10 @@ module _ (means : Job → Meaning InputHead PlanError RunFault) (job : Job) (bef
       by-files (Some b) None h = tt
       by-files (Some b) (Some a) h = by-trace b a job.trace refl h
 
+-- counts that don't change
+abbrev pub same_counts : (List ℕ → ℕ) → Counts
+same_counts counts = record { before = counts; after = counts }
+
 -- nothing was done
 front-same : (means : Job → Meaning InputHead PlanError RunFault) (job : Job) (files : Option Files) → HoldWritten (over means job) files files
 front-same means job None = tt
@@ -364,7 +368,7 @@ others-same job (Some files) = λ other h. refl
 
 -- for want of memory
 pub ran-none : (means : Job → Meaning InputHead PlanError RunFault) (job : Job) (files : Option Files) (ins outs : List ℕ → ℕ)
-    → Ran means job files files (record { before = ins; after = ins }) (record { before = outs; after = outs }) status.NoMemory
+    → Ran means job files files (same_counts ins) (same_counts outs) status.NoMemory
 ran-none means job files ins outs = record {
   bytes = λ e. absurd cc;
   front = front-same means job files;
@@ -382,32 +386,25 @@ ran-none means job files ins outs = record {
 
 -- since it keeps a file that is there
 pub ran-kept : (means : Job → Meaning InputHead PlanError RunFault) (job : Job) (files : Option Files) (ins outs : List ℕ → ℕ) (k : ℕ) → IsTrue job.keeps → IsFirstThere files (written job) k
-    → Ran means job files files (record { before = ins; after = ins }) (record { before = outs; after = outs }) (status.Device (written_file (length job.outputs) k))
+    → Ran means job files files (same_counts ins) (same_counts outs) (status.Device (written_file (length job.outputs) k))
 ran-kept means job files ins outs k keeps first = record {
   bytes = λ e. absurd cc;
   front = front-same means job files;
   others = others-same job files;
   untouched = λ h. absurd h;
-  comes = by-file (λ file. HasFile job file × HasFailed means job files read written_counts file) k (length job.outputs) (λ lt. (lt, inl (keeps, lt, first)))
-  (λ le.
-  let names = output_names job in
-  let many = names_len (λ (x : OutputJob). x.name) job.outputs in
-  let below = subst (λ n. n ≤ k) (sym many) le in
-  (
-    (trace-name names job.trace k below first.named).0,
-    inl (keeps, subst (IsFirstThere files (written job)) (trace-place names job.trace k below first.named ∙ many) first),
-  ));
+  comes = by-file (λ file. HasFile job file × HasFailed means job files (same_counts ins) (same_counts outs) file) k (length job.outputs) (λ lt. (lt, inl (keeps, lt, first)))
+      (λ le.
+      let names = output_names job in
+      let many = names_len (λ (x : OutputJob). x.name) job.outputs in
+      let below = subst (λ n. n ≤ k) (sym many) le in (
+        (trace-name names job.trace k below first.named).0,
+        inl (keeps, subst (IsFirstThere files (written job)) (trace-place names job.trace k below first.named ∙ many) first),
+      ));
   plan_memory = λ e. cc;
   kept = λ file kept. (files_same files, inl (ap (λ f. status.Device f) (kept-one job files k file first kept)));
   no_head = λ may j w none sound. absurd (may-not job files k keeps first may);
   no_plan = λ may w none sound. absurd (may-not job files k keeps first may);
   complete = λ may can sound_ins sound_outs. absurd (may-not job files k keeps first may);
-  in_counts = by-file (λ file. KeepsInputs means job files read (status.Device file)) k (length job.outputs) (λ lt n. refl) (λ le n. refl);
+  in_counts = by-file (λ file. KeepsInputs means job files (same_counts ins) (status.Device file)) k (length job.outputs) (λ lt n. refl) (λ le n. refl);
   out_counts = λ name below. refl;
 }
-  where
-    abbrev read : Counts
-    read = record { before = ins; after = ins }
-
-    abbrev written_counts : Counts
-    written_counts = record { before = outs; after = outs }
