@@ -29,12 +29,12 @@ module _ (outputs : List OutputJob) (nodes : List PlanNode) (edges : List Edge) 
   abbrev at_edge : ℕ → Option OutputCut
   at_edge w = cut_on outputs nodes (slice_get edges w)
 
-  pub cut_more : (numbers : List ℕ) (k : ℕ) → k < length numbers → (w : ℕ) (d : Edge) (cuts : List OutputCut) → w ≡ get_or numbers k 0 → w < length edges
+  pub cut_more : (numbers : List ℕ) (k : ℕ) → k < length numbers → (w : ℕ) (d : Edge) (cuts : List OutputCut) → w ≡ get_or numbers k 0 → w < length edges → d ≡ get_or edges w d
       → cuts ≡ filter_map (λ v. cut_on outputs nodes (slice_get edges v)) (take k numbers)
-      → cuts ++ for_lane (get_or edges w d).lane (cut_at_end outputs (slice_get nodes (get_or edges w d).to)) ∷ [] ≡ filter_map (λ v. cut_on outputs nodes (slice_get edges v)) (take (k + 1) numbers)
-  cut_more numbers k lt w d cuts e there h =
-      one_kept at_edge numbers k lt (for_lane (get_or edges w d).lane (cut_at_end outputs (slice_get nodes (get_or edges w d).to))) cuts
-      (sym (ap at_edge e) ∙ ap (cut_on outputs nodes) (slice_get-get_or edges w d there)) h
+      → cuts ++ for_lane d.lane (cut_at_end outputs (slice_get nodes d.to)) ∷ [] ≡ filter_map (λ v. cut_on outputs nodes (slice_get edges v)) (take (k + 1) numbers)
+  cut_more numbers k lt w d cuts e there is h =
+      one_kept at_edge numbers k lt (for_lane d.lane (cut_at_end outputs (slice_get nodes d.to))) cuts
+      (sym (ap at_edge e) ∙ ap (cut_on outputs nodes) (slice_get-get_or edges w d there ∙ ap (λ (x : Edge). Some x) (sym is))) h
 
   pub cut_passed : (numbers : List ℕ) (k : ℕ) → k < length numbers → (w : ℕ) (cuts : List OutputCut) → w ≡ get_or numbers k 0 → length edges ≤ w
       → cuts ≡ filter_map (λ v. cut_on outputs nodes (slice_get edges v)) (take k numbers) → cuts ≡ filter_map (λ v. cut_on outputs nodes (slice_get edges v)) (take (k + 1) numbers)
