@@ -144,6 +144,7 @@ impl<Src: Source + Send + Drop, Snk: Sink + Send + Drop> Kinds<Src, Snk, Part<Sr
         };
         match Through::new(graph) {
             Some(graph) => Ok(Part::Graph(graph)),
+            // A graph without a filter, which no string stands for.
             None => Err(AllocError),
         }
     }
