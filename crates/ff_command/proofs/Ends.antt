@@ -113,16 +113,16 @@ not-there (Some bytes) there none = cc
 not-kept : (job : Job) (files : Option Files) (file : FileRef) → IsFree job files → IsToldKept job files file → ⊥
 not-kept job None file free kept = kept
 not-kept job (Some files) (FileRefs.Input i) free kept = kept
-not-kept job (Some files) (Output o) (inl no) kept = not-both job.keeps kept.0 no
+not-kept job (Some files) (Output o) (inl never) kept = not-both job.keeps kept.0 never
 not-kept job (Some files) (Output o) (inr free) kept = not-there (files (name_at (written job) o)) kept.2.there (free o kept.2.named)
-not-kept job (Some files) Trace (inl no) kept = not-both job.keeps kept.0 no
+not-kept job (Some files) Trace (inl never) kept = not-both job.keeps kept.0 never
 not-kept job (Some files) Trace (inr free) kept =
     not-there (files (name_at (written job) (length job.outputs))) kept.1.there (free (length job.outputs) kept.1.named)
 
 -- where it keeps one it may not write
 may-not : (job : Job) (files : Option Files) (k : ℕ) → IsTrue job.keeps → IsFirstThere files (written job) k → MayWrite job files → ⊥
-may-not job None k keeps first no = not-both job.keeps keeps no
-may-not job (Some files) k keeps first (inl no) = not-both job.keeps keeps no
+may-not job None k keeps first never = not-both job.keeps keeps never
+may-not job (Some files) k keeps first (inl never) = not-both job.keeps keeps never
 may-not job (Some files) k keeps first (inr free) = not-there (files (name_at (written job) k)) first.there (free k first.named)
 
 -- and there is one first

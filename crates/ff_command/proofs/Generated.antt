@@ -20,7 +20,7 @@ use Rattle.ff_files.specs.Names.{name_at}
 use Rattle.ff_files.specs.Works.{Meaning, HasLog, meaning}
 use Rattle.ff_files.specs.Ends.{IsFirstRefused, HasNoPlan, CanBeDone}
 use Rattle.ff_selfrun.specs.SelfRun.{IsOwnJob, own_files, own_line, own_words}
-use Rattle.ff_selfrun.proofs.Own.{own_job, own-read}
+use Rattle.ff_selfrun.proofs.Own.{own_job, own-read, own-replaces}
 use Rattle.ff_command.specs.declared.report.FileRef.{FileRef}
 use Rattle.ff_command.specs.declared.report.FileRef.TheVariants.{Input, Output, Trace}
 use Rattle.ff_command.specs.declared.report.Status.{Status}
@@ -80,7 +80,7 @@ module _ (means : Job → Meaning InputHead PlanError RunFault) where
       → Ran means job (Some files) (Some after) quiet quiet answer → IsOwnAnswer means seconds answer
   own_ran seconds job files after answer own bounded is ran =
       let r = subst (λ f. Ran means job (Some f) (Some after) quiet quiet answer) is ran in
-      let free : job.keeps ≡ false = ap (λ (j : Job). j.keeps) (own-one job own_job own own-read) in
+      let free : job.keeps ≡ false = ap (λ (j : Job). j.keeps) (own-one job own_job own own-read) ∙ own-replaces in
       record {
         comes = (job, own, comes-of job (own_files seconds) after answer free bounded r);
         refused = λ k why g.

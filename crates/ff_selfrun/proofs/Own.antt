@@ -171,6 +171,11 @@ never-alone solo h = (let same : (let x : Result Command Fault = Ok (Run own_job
 pub never-wrong : (f : Fault) → IsAnswer own_words (Err f) → ⊥
 never-wrong f h = (let same : (let x : Result Command Fault = Ok (Run own_job) in x) ≡ Err f = own-one (Ok (Run own_job)) (Err f) own-read h in cc)
 
+-- it may replace what is there
+pub own-replaces : own_job.keeps ≡ false
+unfolding own_job made
+own-replaces = refl
+
 out-there : written own_job ≡ codes "out" ∷ []
 unfolding own_job made
 out-there = refl
