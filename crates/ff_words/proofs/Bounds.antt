@@ -30,7 +30,10 @@ use Rattle.ff_words.specs.declared.value.Value.{Value}
 use Rattle.ff_words.specs.declared.value.Value.TheVariants as value
 use Rattle.ff_words.specs.Bounds.{HasFewMaps, IsBounded}
 use Rattle.ff_words.specs.Table.{option_named, format_named, audio_codec, video_codec, is_level, is_frame_mode, is_sync_mode}
-use Rattle.ff_words.specs.Values.{Reads, ReadsWhole, ReadsTime, ReadsGraph, ReadsMap, Makes, made, switched, or_bad, format_value, codec_value, hash_value, rf64_value, is_spelled, mode_value, ReadsLevel}
+use Rattle.ff_words.specs.Values.{Reads, ReadsWhole, ReadsTime, ReadsGraph, ReadsMap, Makes, made, switched, or_bad, format_value, codec_value, hash_value, rf64_value, pixels_value, size_value, is_spelled, mode_value, ReadsLevel, ReadsRate}
+use Rattle.ff_words.specs.Numbers.{size_of}
+use Rattle.ff_words.specs.declared.job.Size.{Size}
+use Rattle.ff_frame.specs.declared.video.Format.TheVariants.{C420, C422, C444, Mono}
 use Rattle.ff_words.specs.Table.{format_ending}
 use Rattle.ff_words.specs.Words.{Token, Entry, fault, early, option_fault, given_fault, is_full, is_too_much, is_dashed, is_file, is_output, late, misplaced, bad_at, own_early, or_else, takes, placed, IsOption, IsNamed, IsToken, TokenReads, IsEntry, AreRead, IsAnswer, tokens, command, job, last, as_solo, end_fault, end_by, stands_alone, run_fault, groups, inputs, outputs, same_name, output_format, command_by, first_place, not_before_input, not_before_output, not_at_end, unreadable, unwritable}
 use Rattle.ff_words.specs.Reading.{reader, optioned, with_input, with_output}
@@ -73,6 +76,10 @@ of-test v k is false o other w e = other w e
 of-none : (k : Kind) (w : Value) → None ≡ Some w → OfKind w k
 of-none k w e = absurd cc
 
+of-size : (o : Option Size) (w : Value) → size_value o ≡ Some w → OfKind w kind.Size
+of-size (Some s) w e = (let same : value.Size s ≡ w = cc in subst (λ x. OfKind x kind.Size) same tt)
+of-size None w e = absurd cc
+
 of-mode : (v : Value) (k : Kind) → OfKind value.Nothing k → (b : Bool) → Ok v ≡ or_bad (mode_value b) → OfKind v k
 of-mode v k is b h = of-named v k (mode_value b) (of-test value.Nothing k is b None (of-none k)) h
 
@@ -110,6 +117,18 @@ reads-kind kind.VideoCodec text v h = of-named v kind.VideoCodec (codec_value va
 reads-kind kind.VideoGraph text v h = of-made value.VideoGraph (ReadsGraph text) v kind.VideoGraph (λ x is. tt) h
 reads-kind kind.AudioGraph text v h = of-made value.AudioGraph (ReadsGraph text) v kind.AudioGraph (λ x is. tt) h
 reads-kind kind.Frames text v h = of-made value.Frames (ReadsWhole 0 999999999 text) v kind.Frames (λ x is. tt) h
+reads-kind kind.Rate text v h = of-made value.Rate (ReadsWhole 1 999999999 text) v kind.Rate (λ x is. tt) h
+reads-kind kind.Channels text v h = of-made value.Channels (ReadsWhole 1 8 text) v kind.Channels (λ x is. tt) h
+reads-kind kind.Pixels text v h =
+    of-named v kind.Pixels (pixels_value text)
+    (of-test (value.Pixels C420) kind.Pixels tt (bytes_eq text (codes "yuv420p")) (if bytes_eq text (codes "yuv422p") then Some (value.Pixels C422) else (if bytes_eq text (codes "yuv444p") then Some (value.Pixels C444) else (if bytes_eq text (codes "gray") then Some (value.Pixels Mono) else None)))
+    (of-test (value.Pixels C422) kind.Pixels tt (bytes_eq text (codes "yuv422p")) (if bytes_eq text (codes "yuv444p") then Some (value.Pixels C444) else (if bytes_eq text (codes "gray") then Some (value.Pixels Mono) else None))
+    (of-test (value.Pixels C444) kind.Pixels tt (bytes_eq text (codes "yuv444p")) (if bytes_eq text (codes "gray") then Some (value.Pixels Mono) else None)
+    (of-test (value.Pixels Mono) kind.Pixels tt (bytes_eq text (codes "gray")) None
+    (of-none kind.Pixels)))))
+    h
+reads-kind kind.FrameRate text v h = of-made value.FrameRate (ReadsRate text) v kind.FrameRate (λ x is. tt) h
+reads-kind kind.Size text v h = of-named v kind.Size (size_value (size_of text)) (of-size (size_of text)) h
 reads-kind kind.Hash text v h =
     of-named v kind.Hash (hash_value text)
     (of-test (value.Hash Sha256) kind.Hash tt (is_spelled text (codes "SHA256")) (if is_spelled text (codes "MD5") then Some (value.Hash Md5) else None)
@@ -152,6 +171,11 @@ switched-kind kind.VideoCodec w e = absurd cc
 switched-kind kind.VideoGraph w e = absurd cc
 switched-kind kind.AudioGraph w e = absurd cc
 switched-kind kind.Frames w e = absurd cc
+switched-kind kind.Rate w e = absurd cc
+switched-kind kind.Channels w e = absurd cc
+switched-kind kind.Pixels w e = absurd cc
+switched-kind kind.FrameRate w e = absurd cc
+switched-kind kind.Size w e = absurd cc
 switched-kind kind.Hash w e = absurd cc
 switched-kind kind.Rf64 w e = absurd cc
 
@@ -257,6 +281,11 @@ small-option es token at concern (value.VideoCodec c) plain fine h s = s
 small-option es token at concern (value.VideoGraph g) plain fine h s = s
 small-option es token at concern (value.AudioGraph g) plain fine h s = s
 small-option es token at concern (value.Frames n) plain fine h s = s
+small-option es token at concern (value.Rate n) plain fine h s = s
+small-option es token at concern (value.Channels n) plain fine h s = s
+small-option es token at concern (value.Pixels f) plain fine h s = s
+small-option es token at concern (value.FrameRate base) plain fine h s = s
+small-option es token at concern (value.Size z) plain fine h s = s
 small-option es token at concern (value.Hash d) plain fine h s = s
 small-option es token at concern (value.Rf64 mode) plain fine h s = s
 small-option es token at concern (value.Output n x) plain fine h s = absurd cc
@@ -323,6 +352,11 @@ by-value P es token at concern (value.VideoCodec c) before reads fine option ins
 by-value P es token at concern (value.VideoGraph g) before reads fine option ins outs = subst P (sym (reader-snoc es (entry at concern (value.VideoGraph g)) refl)) (option refl (token-rule token (is_dashed token.word) concern (value.VideoGraph g) refl refl reads))
 by-value P es token at concern (value.AudioGraph g) before reads fine option ins outs = subst P (sym (reader-snoc es (entry at concern (value.AudioGraph g)) refl)) (option refl (token-rule token (is_dashed token.word) concern (value.AudioGraph g) refl refl reads))
 by-value P es token at concern (value.Frames n) before reads fine option ins outs = subst P (sym (reader-snoc es (entry at concern (value.Frames n)) refl)) (option refl (token-rule token (is_dashed token.word) concern (value.Frames n) refl refl reads))
+by-value P es token at concern (value.Rate n) before reads fine option ins outs = subst P (sym (reader-snoc es (entry at concern (value.Rate n)) refl)) (option refl (token-rule token (is_dashed token.word) concern (value.Rate n) refl refl reads))
+by-value P es token at concern (value.Channels n) before reads fine option ins outs = subst P (sym (reader-snoc es (entry at concern (value.Channels n)) refl)) (option refl (token-rule token (is_dashed token.word) concern (value.Channels n) refl refl reads))
+by-value P es token at concern (value.Pixels f) before reads fine option ins outs = subst P (sym (reader-snoc es (entry at concern (value.Pixels f)) refl)) (option refl (token-rule token (is_dashed token.word) concern (value.Pixels f) refl refl reads))
+by-value P es token at concern (value.FrameRate base) before reads fine option ins outs = subst P (sym (reader-snoc es (entry at concern (value.FrameRate base)) refl)) (option refl (token-rule token (is_dashed token.word) concern (value.FrameRate base) refl refl reads))
+by-value P es token at concern (value.Size s) before reads fine option ins outs = subst P (sym (reader-snoc es (entry at concern (value.Size s)) refl)) (option refl (token-rule token (is_dashed token.word) concern (value.Size s) refl refl reads))
 by-value P es token at concern (value.Hash h) before reads fine option ins outs = subst P (sym (reader-snoc es (entry at concern (value.Hash h)) refl)) (option refl (token-rule token (is_dashed token.word) concern (value.Hash h) refl refl reads))
 by-value P es token at concern (value.Rf64 mode) before reads fine option ins outs = subst P (sym (reader-snoc es (entry at concern (value.Rf64 mode)) refl)) (option refl (token-rule token (is_dashed token.word) concern (value.Rf64 mode) refl refl reads))
 by-value P es token at concern (value.Output n x) before reads fine option ins outs = subst P (sym (filed-is es (entry at concern (value.Output n x)) refl ∙ output-filed n x es)) (outs n x (unwrap_or (output_format (groups es).behind x) FrameHash) fine)

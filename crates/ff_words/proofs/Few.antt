@@ -10,9 +10,11 @@ use Rattle.ff_format.specs.declared.format.Rf64.TheVariants.{Never}
 use Rattle.ff_words.specs.declared.job.InputJob.{InputJob}
 use Rattle.ff_words.specs.declared.job.OutputJob.{OutputJob}
 use Rattle.ff_words.specs.declared.job.Job.{Job}
+use Rattle.ff_words.specs.declared.job.Asked.{Asked}
+use Rattle.ff_words.specs.Words.{none_asked}
 use Rattle.ff_frame.specs.Codecs.{codec_name}
 use Rattle.ff_format.specs.Formats.{format_name}
-use Rattle.ff_words.specs.Writing.{given, micros_text, where_some, where_true, format_words, start_words, length_words, frames_words, input_words, map_words, audio_words, video_words, vf_words, af_words, hash_words, rf64_words, output_words, graph_words, trace_words, keeps_words, queue_words, job_words, IsFineOutput, IsFineJob, IsPlainOutput}
+use Rattle.ff_words.specs.Writing.{given, micros_text, where_some, where_true, format_words, start_words, length_words, frames_words, asked_words, input_words, map_words, audio_words, video_words, vf_words, af_words, hash_words, rf64_words, output_words, graph_words, trace_words, keeps_words, queue_words, job_words, IsFineOutput, IsFineJob, IsPlainOutput}
 
 abbrev Words : Type 0
 Words = List (List ℕ)
@@ -39,6 +41,9 @@ none-count mode e = subst (λ m. length (rf64_words m) ≤ 0) (sym e) (omega ari
 no-frames-count : (o : Option ℕ) → o ≡ None → length (frames_words o) ≤ 0
 no-frames-count o e = subst (λ m. length (frames_words m) ≤ 0) (sym e) (omega arith)
 
+nothing-count : (a : Asked) → a ≡ none_asked → length (asked_words a) ≤ 0
+nothing-count a e = subst (λ m. length (asked_words m) ≤ 0) (sym e) (omega arith)
+
 joined : (xs ys : Words) (m n : ℕ) → length xs ≤ m → length ys ≤ n → length (xs ++ ys) ≤ m + n
 joined xs ys m n h k = omega (arith, length-append xs ys, h, k)
 
@@ -62,7 +67,8 @@ output-count o few plain =
     let y11 : Words = rf64_words o.rf64 ++ y12 in
     let y10 : Words = hash_words o.hash ++ y11 in
     let y9 : Words = where_true (codes "-shortest") o.shortest ++ y10 in
-    let y9' : Words = frames_words o.frames ++ y9 in
+    let ya : Words = asked_words o.asked ++ y9 in
+    let y9' : Words = frames_words o.frames ++ ya in
     let y8 : Words = length_words o.cut.length ++ y9' in
     let y7 : Words = start_words o.cut.start ++ y8 in
     let y6 : Words = where_true (codes "-vn") o.no_video ++ y7 in
@@ -74,7 +80,8 @@ output-count o few plain =
     let h11 : length y11 ≤ 0 + 3 = joined (rf64_words o.rf64) y12 0 3 (none-count o.rf64 plain.0) (omega arith) in
     let h10 : length y10 ≤ 2 + 3 = joined (hash_words o.hash) y11 2 3 (omega arith) h11 in
     let h9 : length y9 ≤ 1 + 5 = joined (where_true (codes "-shortest") o.shortest) y10 1 5 (true-count (codes "-shortest") o.shortest) h10 in
-    let h9' : length y9' ≤ 0 + 6 = joined (frames_words o.frames) y9 0 6 (no-frames-count o.frames plain.1) h9 in
+    let ha : length ya ≤ 0 + 6 = joined (asked_words o.asked) y9 0 6 (nothing-count o.asked plain.2) h9 in
+    let h9' : length y9' ≤ 0 + 6 = joined (frames_words o.frames) ya 0 6 (no-frames-count o.frames plain.1) ha in
     let h8 : length y8 ≤ 2 + 6 = joined (length_words o.cut.length) y9' 2 6 (some-count (codes "-t") micros_text o.cut.length) h9' in
     let h7 : length y7 ≤ 2 + 8 = joined (start_words o.cut.start) y8 2 8 (omega arith) h8 in
     let h6 : length y6 ≤ 1 + 10 = joined (where_true (codes "-vn") o.no_video) y7 1 10 (true-count (codes "-vn") o.no_video) h7 in

@@ -26,11 +26,16 @@ use Rattle.ff_words.specs.declared.value.Micros.{Micros}
 use Rattle.ff_words.specs.declared.value.Value.TheVariants as value
 use Rattle.ff_format.specs.Formats.{file_formats, format_name, found, is_read, line_named}
 use Rattle.ff_words.specs.Table.{rule_in, option_named, format_in, format_named, named, audio_codec, video_codec}
-use Rattle.ff_words.specs.Values.{Reads, or_bad, format_value, codec_value, hash_value, rf64_value}
+use Rattle.ff_words.specs.Values.{Reads, or_bad, format_value, codec_value, hash_value, rf64_value, pixels_value, size_value}
 use Rattle.ff_words.specs.Words.{is_dashed}
-use Rattle.ff_words.specs.Options.{options, hash_name, rf64_name}
-use Rattle.ff_words.specs.Writing.{micros_text, map_text, IsFineMap, IsFineGraph, IsSoundCodec}
+use Rattle.ff_words.specs.Options.{options, hash_name, rf64_name, pixels_name}
+use Rattle.ff_words.specs.Writing.{micros_text, map_text, rate_text, size_text, IsFineMap, IsFineGraph, IsFineSize, IsSoundCodec}
 use Rattle.ff_words.proofs.Spellings.{is-duration, is-map}
+use Rattle.ff_words.proofs.Rates.{is-rate, is-size}
+use Rattle.ff_words.specs.declared.job.Size.{Size}
+use Rattle.ff_time.specs.Fraction.{Fraction, IsBase}
+use Rattle.ff_frame.specs.declared.video.Format.{Format}
+use Rattle.ff_frame.specs.declared.video.Format.TheVariants.{C420, C422, C444, Mono}
 
 -- ---- options
 
@@ -119,6 +124,26 @@ line-shortest = refl
 pub line-frames : IsLine (codes "-frames:v") Output kind.Frames
 unfolding option_named
 line-frames = refl
+
+pub line-rate : IsLine (codes "-ar") Output kind.Rate
+unfolding option_named
+line-rate = refl
+
+pub line-channels : IsLine (codes "-ac") Output kind.Channels
+unfolding option_named
+line-channels = refl
+
+pub line-pixels : IsLine (codes "-pix_fmt") Output kind.Pixels
+unfolding option_named
+line-pixels = refl
+
+pub line-base : IsLine (codes "-r") Output kind.FrameRate
+unfolding option_named
+line-base = refl
+
+pub line-size : IsLine (codes "-s") Output kind.Size
+unfolding option_named
+line-size = refl
 
 pub line-hash : IsLine (codes "-hash") Output kind.Hash
 unfolding option_named
@@ -214,6 +239,21 @@ rf64-is Always = refl
 
 pub reads-rf64 : (mode : Rf64) → Reads kind.Rf64 (rf64_name mode) (Ok (value.Rf64 mode))
 reads-rf64 mode = sym (ap or_bad (rf64-is mode))
+
+pixels-is : (f : Format) → pixels_value (pixels_name f) ≡ Some (value.Pixels f)
+pixels-is C420 = refl
+pixels-is C422 = refl
+pixels-is C444 = refl
+pixels-is Mono = refl
+
+pub reads-pixels : (f : Format) → Reads kind.Pixels (pixels_name f) (Ok (value.Pixels f))
+reads-pixels f = sym (ap or_bad (pixels-is f))
+
+pub reads-base : (f : Fraction) → IsBase f → Reads kind.FrameRate (rate_text f) (Ok (value.FrameRate f))
+reads-base f h = (Ok f, is-rate f h, refl)
+
+pub reads-size : (s : Size) → IsFineSize s → Reads kind.Size (size_text s) (Ok (value.Size s))
+reads-size s h = sym (ap (λ o. or_bad (size_value o)) (is-size s h))
 
 pub reads-map : (m : MapSpec) → IsFineMap m → Reads kind.Map (map_text m) (Ok (value.Map m))
 reads-map m h = (Ok m, is-map m h, refl)

@@ -2,6 +2,7 @@ pub mod Snoc
 pub mod Steps
 pub mod Tokens
 pub mod Names
+pub mod Rates
 pub mod Unique
 pub mod Spellings
 pub mod Known

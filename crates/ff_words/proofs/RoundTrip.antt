@@ -37,10 +37,17 @@ use Rattle.ff_words.specs.Reading.{pending, reader, place_unless, end_wrong}
 use Rattle.ff_words.specs.declared.error.Fault.{Fault}
 use Rattle.ff_words.specs.Words.{IsAnswer, or_else, cut_of, start_of, length_of, ends_early, fault, bad_at, same_name}
 use Rattle.ff_format.specs.Formats.{format_name, is_read, short_name}
-use Rattle.ff_words.specs.Options.{hash_name, rf64_name}
-use Rattle.ff_words.specs.Writing.{given, micros_text, map_text, format_words, start_words, length_words, frames_words, input_words, map_words, audio_words, video_words, vf_words, af_words, hash_words, rf64_words, where_some, where_true, output_words, graph_words, trace_words, keeps_words, queue_words, job_words, IsFineText, IsFineGraph, IsFineMap, IsReadFormat, IsSoundCodec, WhereSome, IsFineInput, IsFineOutput, IsFineJob, IsFineSolo, IsFineCommand, solo_words, command_words}
+use Rattle.ff_words.specs.Options.{hash_name, rf64_name, pixels_name}
+use Rattle.ff_words.specs.declared.job.Asked.{Asked}
+use Rattle.ff_words.specs.declared.job.Size.{Size}
+use Rattle.ff_words.specs.Words.{none_asked}
+use Rattle.ff_words.proofs.Rates.{rate-short, size-short}
+use Rattle.ff_time.specs.Fraction.{Fraction, IsBase}
+use Rattle.ff_frame.specs.declared.video.Format.{Format}
+use Rattle.ff_frame.specs.declared.video.Format.TheVariants.{C420, C422, C444, Mono}
+use Rattle.ff_words.specs.Writing.{given, micros_text, map_text, format_words, start_words, length_words, frames_words, rate_words, channels_words, pixels_words, base_words, size_words, asked_words, rate_text, size_text, input_words, map_words, audio_words, video_words, vf_words, af_words, hash_words, rf64_words, where_some, where_true, output_words, graph_words, trace_words, keeps_words, queue_words, job_words, IsFineText, IsFineGraph, IsFineMap, IsReadFormat, IsSoundCodec, WhereSome, IsFineSize, IsFineAsked, IsFineInput, IsFineOutput, IsFineJob, IsFineSolo, IsFineCommand, solo_words, command_words}
 use Rattle.ff_words.proofs.Spellings.{is-number, number-short, micros-short, map-short}
-use Rattle.ff_words.proofs.Known.{line-queue, line-keeps, line-help, line-version, line-self_run, line-trace, line-complex, line-format, line-start, line-length, line-input, line-map, line-audio, line-video, line-vf, line-af, line-no_audio, line-no_video, line-shortest, line-frames, line-hash, line-rf64, reads-format, reads-audio, reads-video, reads-hash, reads-rf64, reads-map, reads-complex, reads-vf, reads-af, reads-start, reads-length}
+use Rattle.ff_words.proofs.Known.{line-queue, line-keeps, line-help, line-version, line-self_run, line-trace, line-complex, line-format, line-start, line-length, line-input, line-map, line-audio, line-video, line-vf, line-af, line-no_audio, line-no_video, line-shortest, line-frames, line-rate, line-channels, line-pixels, line-base, line-size, line-hash, line-rf64, reads-format, reads-audio, reads-video, reads-hash, reads-rf64, reads-pixels, reads-base, reads-size, reads-map, reads-complex, reads-vf, reads-af, reads-start, reads-length}
 use Rattle.ff_words.proofs.Goes.{Goes, goes-start, goes-by, goes-option, goes-input, goes-switch, goes-output}
 use Rattle.ff_words.proofs.Tokens.{ended}
 
@@ -60,14 +67,15 @@ pub record Own : Type 0 where
   pub start : Option Micros
   pub length : Option Micros
   pub frames : Option ℕ
+  pub asked : Asked
   pub shortest : Bool
   pub hash : Option HashKind
   pub rf64 : Option Rf64
   pub format : Option FileFormat
 
-abbrev own : List MapSpec → Option Codec → Option Codec → Option Graph → Option Graph → Bool → Bool → Option Micros → Option Micros → Option ℕ → Bool → Option HashKind → Option Rf64 → Option FileFormat → Own
-own ms a v x y na nv s l n sh h m f =
-    record { maps = ms; audio = a; video = v; vf = x; af = y; no_audio = na; no_video = nv; start = s; length = l; frames = n; shortest = sh; hash = h; rf64 = m; format = f }
+abbrev own : List MapSpec → Option Codec → Option Codec → Option Graph → Option Graph → Bool → Bool → Option Micros → Option Micros → Option ℕ → Asked → Bool → Option HashKind → Option Rf64 → Option FileFormat → Own
+own ms a v x y na nv s l n k sh h m f =
+    record { maps = ms; audio = a; video = v; vf = x; af = y; no_audio = na; no_video = nv; start = s; length = l; frames = n; asked = k; shortest = sh; hash = h; rf64 = m; format = f }
 
 abbrev held : Option ℕ → Option ℕ → Option ℕ → Own → Pending
 held b u e w =
@@ -89,6 +97,7 @@ held b u e w =
       no_audio = w.no_audio;
       no_video = w.no_video;
       frames = w.frames;
+      asked = w.asked;
       shortest = w.shortest;
       hash = w.hash;
       rf64 = w.rf64;
@@ -126,6 +135,12 @@ rf64-short : (mode : Rf64) → IsFineText (rf64_name mode)
 rf64-short Never = omega arith
 rf64-short Auto = omega arith
 rf64-short Always = omega arith
+
+pixels-short : (f : Format) → IsFineText (pixels_name f)
+pixels-short C420 = omega arith
+pixels-short C422 = omega arith
+pixels-short C444 = omega arith
+pixels-short Mono = omega arith
 
 -- what is said of the mode
 mode_in : Rf64 → Option Rf64
@@ -302,6 +317,82 @@ frames-read ws few y rest r w (Some n) fine h = (
       (omega (arith, number-short n fine)) refl refl (Ok n, (is-number n fine, omega arith, omega (arith, fine)), refl),
 )
 
+rate-read : (ws : List Text) (few : length ws ≤ 1024) (y rest : List Text) (r : Reader) (w : Own) (a : Asked) (o : Option ℕ) → WhereSome (λ n. (1 ≤ n) × (n < 10 ^ 9)) o
+    → Out ws ((rate_words o ++ y) ++ rest) r (record w { asked = record a { rate = None } }) → Out ws (y ++ rest) r (record w { asked = record a { rate = o } })
+rate-read ws few y rest r w a None fine h = h
+rate-read ws few y rest r w a (Some x) fine h = (
+  or_else h.0 (Some h.3.at),
+  h.1,
+  or_else h.2 (Some h.3.at),
+  goes-option ws few (codes "-ar") (decimal x) (y ++ rest) (in_hand r (held h.0 h.1 h.2 (record w { asked = record a { rate = None } }))) Output kind.Rate (value.Rate x) h.3 refl line-rate refl (omega arith)
+      (omega (arith, number-short x fine.1)) refl refl (Ok x, (is-number x fine.1, fine.0, omega (arith, fine.1)), refl),
+)
+
+channels-read : (ws : List Text) (few : length ws ≤ 1024) (y rest : List Text) (r : Reader) (w : Own) (a : Asked) (o : Option ℕ) → WhereSome (λ n. (1 ≤ n) × (n ≤ 8)) o
+    → Out ws ((channels_words o ++ y) ++ rest) r (record w { asked = record a { channels = None } }) → Out ws (y ++ rest) r (record w { asked = record a { channels = o } })
+channels-read ws few y rest r w a None fine h = h
+channels-read ws few y rest r w a (Some x) fine h = (
+  or_else h.0 (Some h.3.at),
+  h.1,
+  or_else h.2 (Some h.3.at),
+  goes-option ws few (codes "-ac") (decimal x) (y ++ rest) (in_hand r (held h.0 h.1 h.2 (record w { asked = record a { channels = None } }))) Output kind.Channels (value.Channels x) h.3 refl line-channels refl (omega arith)
+      (omega (arith, number-short x (omega (arith, fine.1)))) refl refl (Ok x, (is-number x (omega (arith, fine.1)), fine.0, fine.1), refl),
+)
+
+pixels-read : (ws : List Text) (few : length ws ≤ 1024) (y rest : List Text) (r : Reader) (w : Own) (a : Asked) (o : Option Format)
+    → Out ws ((pixels_words o ++ y) ++ rest) r (record w { asked = record a { pixels = None } }) → Out ws (y ++ rest) r (record w { asked = record a { pixels = o } })
+pixels-read ws few y rest r w a None h = h
+pixels-read ws few y rest r w a (Some x) h = (
+  or_else h.0 (Some h.3.at),
+  h.1,
+  or_else h.2 (Some h.3.at),
+  goes-option ws few (codes "-pix_fmt") (pixels_name x) (y ++ rest) (in_hand r (held h.0 h.1 h.2 (record w { asked = record a { pixels = None } }))) Output kind.Pixels (value.Pixels x) h.3 refl line-pixels refl (omega arith)
+      (pixels-short x) refl refl (reads-pixels x),
+)
+
+base-read : (ws : List Text) (few : length ws ≤ 1024) (y rest : List Text) (r : Reader) (w : Own) (a : Asked) (o : Option Fraction) → WhereSome IsBase o
+    → Out ws ((base_words o ++ y) ++ rest) r (record w { asked = record a { base = None } }) → Out ws (y ++ rest) r (record w { asked = record a { base = o } })
+base-read ws few y rest r w a None fine h = h
+base-read ws few y rest r w a (Some x) fine h = (
+  or_else h.0 (Some h.3.at),
+  h.1,
+  or_else h.2 (Some h.3.at),
+  goes-option ws few (codes "-r") (rate_text x) (y ++ rest) (in_hand r (held h.0 h.1 h.2 (record w { asked = record a { base = None } }))) Output kind.FrameRate (value.FrameRate x) h.3 refl line-base refl (omega arith)
+      (rate-short x fine) refl refl (reads-base x fine),
+)
+
+size-read : (ws : List Text) (few : length ws ≤ 1024) (y rest : List Text) (r : Reader) (w : Own) (a : Asked) (o : Option Size) → WhereSome IsFineSize o
+    → Out ws ((size_words o ++ y) ++ rest) r (record w { asked = record a { size = None } }) → Out ws (y ++ rest) r (record w { asked = record a { size = o } })
+size-read ws few y rest r w a None fine h = h
+size-read ws few y rest r w a (Some x) fine h = (
+  or_else h.0 (Some h.3.at),
+  h.1,
+  or_else h.2 (Some h.3.at),
+  goes-option ws few (codes "-s") (size_text x) (y ++ rest) (in_hand r (held h.0 h.1 h.2 (record w { asked = record a { size = None } }))) Output kind.Size (value.Size x) h.3 refl line-size refl (omega arith)
+      (size-short x fine) refl refl (reads-size x fine),
+)
+
+-- words of which more follow
+out-among : (ws : List Text) (r : Reader) (w : Own) (x z y rest : List Text) → Out ws (((x ++ z) ++ y) ++ rest) r w → Out ws ((x ++ (z ++ y)) ++ rest) r w
+out-among ws r w x z y rest h = (h.0, h.1, h.2, goes-by ws (((x ++ z) ++ y) ++ rest) ((x ++ (z ++ y)) ++ rest) (in_hand r (held h.0 h.1 h.2 w)) (ap (λ t. t ++ rest) (append_assoc x z y)) h.3)
+
+asked-read : (ws : List Text) (few : length ws ≤ 1024) (y rest : List Text) (r : Reader) (w : Own) (a : Asked) → IsFineAsked a
+    → Out ws ((asked_words a ++ y) ++ rest) r (record w { asked = none_asked }) → Out ws (y ++ rest) r (record w { asked = a })
+asked-read ws few y rest r w a fine h =
+    let z4 : List Text = size_words a.size ++ [] in
+    let z3 : List Text = base_words a.base ++ z4 in
+    let z2 : List Text = pixels_words a.pixels ++ z3 in
+    let z1 : List Text = channels_words a.channels ++ z2 in
+    let a1 : Asked = record none_asked { rate = a.rate } in
+    let a2 : Asked = record a1 { channels = a.channels } in
+    let a3 : Asked = record a2 { pixels = a.pixels } in
+    let a4 : Asked = record a3 { base = a.base } in
+    let h1 : Out ws ((z1 ++ y) ++ rest) r (record w { asked = a1 }) = rate-read ws few (z1 ++ y) rest r w none_asked a.rate fine.rate (out-among ws r (record w { asked = none_asked }) (rate_words a.rate) z1 y rest h) in
+    let h2 : Out ws ((z2 ++ y) ++ rest) r (record w { asked = a2 }) = channels-read ws few (z2 ++ y) rest r w a1 a.channels fine.channels (out-among ws r (record w { asked = a1 }) (channels_words a.channels) z2 y rest h1) in
+    let h3 : Out ws ((z3 ++ y) ++ rest) r (record w { asked = a3 }) = pixels-read ws few (z3 ++ y) rest r w a2 a.pixels (out-among ws r (record w { asked = a2 }) (pixels_words a.pixels) z3 y rest h2) in
+    let h4 : Out ws ((z4 ++ y) ++ rest) r (record w { asked = a4 }) = base-read ws few (z4 ++ y) rest r w a3 a.base fine.base (out-among ws r (record w { asked = a3 }) (base_words a.base) z4 y rest h3) in
+    size-read ws few y rest r w a4 a.size fine.size (out-among ws r (record w { asked = a4 }) (size_words a.size) [] y rest h4)
+
 hash-read : (ws : List Text) (few : length ws ≤ 1024) (y rest : List Text) (r : Reader) (w : Own) (o : HashKind)
     → Out ws ((hash_words o ++ y) ++ rest) r w → Out ws (y ++ rest) r (record w { hash = Some o })
 hash-read ws few y rest r w o h = (
@@ -341,7 +432,7 @@ format-read ws few y rest r w o h = (
 
 abbrev made_output : OutputJob → Own
 made_output o =
-    own o.maps o.audio o.video o.vf o.af o.no_audio o.no_video (Some (start_in o.cut)) (micros_in o.cut.length o.cut.length_bound) o.frames o.shortest (Some o.hash) (mode_in o.rf64) (Some o.format)
+    own o.maps o.audio o.video o.vf o.af o.no_audio o.no_video (Some (start_in o.cut)) (micros_in o.cut.length o.cut.length_bound) o.frames o.asked o.shortest (Some o.hash) (mode_in o.rf64) (Some o.format)
 
 output-options : (ws : List Text) (few : length ws ≤ 1024) (rest : List Text) (r : Reader) (o : OutputJob) → IsFineOutput o → Goes ws (output_words o ++ rest) (in_hand r (pending []))
     → Out ws (o.name ∷ rest) r (made_output o)
@@ -351,7 +442,8 @@ output-options ws few rest r o fine g =
     let y12 : List Text = rf64_words o.rf64 ++ y13 in
     let y11 : List Text = hash_words o.hash ++ y12 in
     let y10 : List Text = where_true (codes "-shortest") o.shortest ++ y11 in
-    let y9 : List Text = frames_words o.frames ++ y10 in
+    let ya : List Text = asked_words o.asked ++ y10 in
+    let y9 : List Text = frames_words o.frames ++ ya in
     let y8 : List Text = length_words o.cut.length ++ y9 in
     let y7 : List Text = start_words o.cut.start ++ y8 in
     let y6 : List Text = where_true (codes "-vn") o.no_video ++ y7 in
@@ -362,22 +454,23 @@ output-options ws few rest r o fine g =
     let y1 : List Text = audio_words o.audio ++ y2 in
     let s : Option Micros = Some (start_in o.cut) in
     let l : Option Micros = micros_in o.cut.length o.cut.length_bound in
-    let w0 : Own = own [] None None None None false false None None None false None None None in
+    let w0 : Own = own [] None None None None false false None None None none_asked false None None None in
     let h0 : Out ws (flat_map map_words o.maps ++ (y1 ++ rest)) r w0 = out-split ws r w0 (flat_map map_words o.maps) y1 rest (None, None, None, g) in
-    let h1 : Out ws (y1 ++ rest) r (own o.maps None None None None false false None None None false None None None) = maps-read ws few (y1 ++ rest) r w0 o.maps [] fine.maps (omega (arith, fine.few_maps)) h0 in
-    let h2 : Out ws (y2 ++ rest) r (own o.maps o.audio None None None false false None None None false None None None) = audio-read ws few y2 rest r (own o.maps None None None None false false None None None false None None None) o.audio fine.audio h1 in
-    let h3 : Out ws (y3 ++ rest) r (own o.maps o.audio o.video None None false false None None None false None None None) = video-read ws few y3 rest r (own o.maps o.audio None None None false false None None None false None None None) o.video fine.video h2 in
-    let h4 : Out ws (y4 ++ rest) r (own o.maps o.audio o.video o.vf None false false None None None false None None None) = vf-read ws few y4 rest r (own o.maps o.audio o.video None None false false None None None false None None None) o.vf fine.vf h3 in
-    let h5 : Out ws (y5 ++ rest) r (own o.maps o.audio o.video o.vf o.af false false None None None false None None None) = af-read ws few y5 rest r (own o.maps o.audio o.video o.vf None false false None None None false None None None) o.af fine.af h4 in
-    let h6 : Out ws (y6 ++ rest) r (own o.maps o.audio o.video o.vf o.af o.no_audio false None None None false None None None) = no_audio-read ws few y6 rest r (own o.maps o.audio o.video o.vf o.af false false None None None false None None None) o.no_audio h5 in
-    let h7 : Out ws (y7 ++ rest) r (own o.maps o.audio o.video o.vf o.af o.no_audio o.no_video None None None false None None None) = no_video-read ws few y7 rest r (own o.maps o.audio o.video o.vf o.af o.no_audio false None None None false None None None) o.no_video h6 in
-    let h8 : Out ws (y8 ++ rest) r (own o.maps o.audio o.video o.vf o.af o.no_audio o.no_video s None None false None None None) = start-read ws few y8 rest r (own o.maps o.audio o.video o.vf o.af o.no_audio o.no_video None None None false None None None) (start_in o.cut) h7 in
-    let h9 : Out ws (y9 ++ rest) r (own o.maps o.audio o.video o.vf o.af o.no_audio o.no_video s l None false None None None) = length-read ws few y9 rest r (own o.maps o.audio o.video o.vf o.af o.no_audio o.no_video s None None false None None None) o.cut.length o.cut.length_bound h8 in
-    let h10 : Out ws (y10 ++ rest) r (own o.maps o.audio o.video o.vf o.af o.no_audio o.no_video s l o.frames false None None None) = frames-read ws few y10 rest r (own o.maps o.audio o.video o.vf o.af o.no_audio o.no_video s l None false None None None) o.frames fine.frames h9 in
-    let h11 : Out ws (y11 ++ rest) r (own o.maps o.audio o.video o.vf o.af o.no_audio o.no_video s l o.frames o.shortest None None None) = shortest-read ws few y11 rest r (own o.maps o.audio o.video o.vf o.af o.no_audio o.no_video s l o.frames false None None None) o.shortest h10 in
-    let h12 : Out ws (y12 ++ rest) r (own o.maps o.audio o.video o.vf o.af o.no_audio o.no_video s l o.frames o.shortest (Some o.hash) None None) = hash-read ws few y12 rest r (own o.maps o.audio o.video o.vf o.af o.no_audio o.no_video s l o.frames o.shortest None None None) o.hash h11 in
-    let h13 : Out ws (y13 ++ rest) r (own o.maps o.audio o.video o.vf o.af o.no_audio o.no_video s l o.frames o.shortest (Some o.hash) (mode_in o.rf64) None) = rf64-read ws few y13 rest r (own o.maps o.audio o.video o.vf o.af o.no_audio o.no_video s l o.frames o.shortest (Some o.hash) None None) o.rf64 h12 in
-    format-read ws few y14 rest r (own o.maps o.audio o.video o.vf o.af o.no_audio o.no_video s l o.frames o.shortest (Some o.hash) (mode_in o.rf64) None) o.format h13
+    let h1 : Out ws (y1 ++ rest) r (own o.maps None None None None false false None None None none_asked false None None None) = maps-read ws few (y1 ++ rest) r w0 o.maps [] fine.maps (omega (arith, fine.few_maps)) h0 in
+    let h2 : Out ws (y2 ++ rest) r (own o.maps o.audio None None None false false None None None none_asked false None None None) = audio-read ws few y2 rest r (own o.maps None None None None false false None None None none_asked false None None None) o.audio fine.audio h1 in
+    let h3 : Out ws (y3 ++ rest) r (own o.maps o.audio o.video None None false false None None None none_asked false None None None) = video-read ws few y3 rest r (own o.maps o.audio None None None false false None None None none_asked false None None None) o.video fine.video h2 in
+    let h4 : Out ws (y4 ++ rest) r (own o.maps o.audio o.video o.vf None false false None None None none_asked false None None None) = vf-read ws few y4 rest r (own o.maps o.audio o.video None None false false None None None none_asked false None None None) o.vf fine.vf h3 in
+    let h5 : Out ws (y5 ++ rest) r (own o.maps o.audio o.video o.vf o.af false false None None None none_asked false None None None) = af-read ws few y5 rest r (own o.maps o.audio o.video o.vf None false false None None None none_asked false None None None) o.af fine.af h4 in
+    let h6 : Out ws (y6 ++ rest) r (own o.maps o.audio o.video o.vf o.af o.no_audio false None None None none_asked false None None None) = no_audio-read ws few y6 rest r (own o.maps o.audio o.video o.vf o.af false false None None None none_asked false None None None) o.no_audio h5 in
+    let h7 : Out ws (y7 ++ rest) r (own o.maps o.audio o.video o.vf o.af o.no_audio o.no_video None None None none_asked false None None None) = no_video-read ws few y7 rest r (own o.maps o.audio o.video o.vf o.af o.no_audio false None None None none_asked false None None None) o.no_video h6 in
+    let h8 : Out ws (y8 ++ rest) r (own o.maps o.audio o.video o.vf o.af o.no_audio o.no_video s None None none_asked false None None None) = start-read ws few y8 rest r (own o.maps o.audio o.video o.vf o.af o.no_audio o.no_video None None None none_asked false None None None) (start_in o.cut) h7 in
+    let h9 : Out ws (y9 ++ rest) r (own o.maps o.audio o.video o.vf o.af o.no_audio o.no_video s l None none_asked false None None None) = length-read ws few y9 rest r (own o.maps o.audio o.video o.vf o.af o.no_audio o.no_video s None None none_asked false None None None) o.cut.length o.cut.length_bound h8 in
+    let h10 : Out ws (ya ++ rest) r (own o.maps o.audio o.video o.vf o.af o.no_audio o.no_video s l o.frames none_asked false None None None) = frames-read ws few ya rest r (own o.maps o.audio o.video o.vf o.af o.no_audio o.no_video s l None none_asked false None None None) o.frames fine.frames h9 in
+    let ha : Out ws (y10 ++ rest) r (own o.maps o.audio o.video o.vf o.af o.no_audio o.no_video s l o.frames o.asked false None None None) = asked-read ws few y10 rest r (own o.maps o.audio o.video o.vf o.af o.no_audio o.no_video s l o.frames none_asked false None None None) o.asked fine.asked h10 in
+    let h11 : Out ws (y11 ++ rest) r (own o.maps o.audio o.video o.vf o.af o.no_audio o.no_video s l o.frames o.asked o.shortest None None None) = shortest-read ws few y11 rest r (own o.maps o.audio o.video o.vf o.af o.no_audio o.no_video s l o.frames o.asked false None None None) o.shortest ha in
+    let h12 : Out ws (y12 ++ rest) r (own o.maps o.audio o.video o.vf o.af o.no_audio o.no_video s l o.frames o.asked o.shortest (Some o.hash) None None) = hash-read ws few y12 rest r (own o.maps o.audio o.video o.vf o.af o.no_audio o.no_video s l o.frames o.asked o.shortest None None None) o.hash h11 in
+    let h13 : Out ws (y13 ++ rest) r (own o.maps o.audio o.video o.vf o.af o.no_audio o.no_video s l o.frames o.asked o.shortest (Some o.hash) (mode_in o.rf64) None) = rf64-read ws few y13 rest r (own o.maps o.audio o.video o.vf o.af o.no_audio o.no_video s l o.frames o.asked o.shortest (Some o.hash) None None) o.rf64 h12 in
+    format-read ws few y14 rest r (own o.maps o.audio o.video o.vf o.af o.no_audio o.no_video s l o.frames o.asked o.shortest (Some o.hash) (mode_in o.rf64) None) o.format h13
 
 -- without an end no cut ends early
 never_early : (start : ℕ) (length : Option Micros) → ends_early start length None ≡ None
@@ -464,11 +557,11 @@ input-read ws few rest r i fine room g =
     let y1 : List Text = start_words i.cut.start ++ y2 in
     let s : Option Micros = Some (start_in i.cut) in
     let l : Option Micros = micros_in i.cut.length i.cut.length_bound in
-    let w0 : Own = own [] None None None None false false None None None false None None None in
-    let h1 : In ws (y1 ++ rest) r (own [] None None None None false false None None None false None None i.format) = in-format ws few y1 rest r w0 i.format fine.format (None, g) in
-    let h2 : In ws (y2 ++ rest) r (own [] None None None None false false s None None false None None i.format) = in-start ws few y2 rest r (own [] None None None None false false None None None false None None i.format) (start_in i.cut) h1 in
-    let h3 : In ws (y3 ++ rest) r (own [] None None None None false false s l None false None None i.format) = in-length ws few y3 rest r (own [] None None None None false false s None None false None None i.format) i.cut.length i.cut.length_bound h2 in
-    let old : Reader = in_hand r (held None None h3.0 (own [] None None None None false false s l None false None None i.format)) in
+    let w0 : Own = own [] None None None None false false None None None none_asked false None None None in
+    let h1 : In ws (y1 ++ rest) r (own [] None None None None false false None None None none_asked false None None i.format) = in-format ws few y1 rest r w0 i.format fine.format (None, g) in
+    let h2 : In ws (y2 ++ rest) r (own [] None None None None false false s None None none_asked false None None i.format) = in-start ws few y2 rest r (own [] None None None None false false None None None none_asked false None None i.format) (start_in i.cut) h1 in
+    let h3 : In ws (y3 ++ rest) r (own [] None None None None false false s l None none_asked false None None i.format) = in-length ws few y3 rest r (own [] None None None None false false s None None none_asked false None None i.format) i.cut.length i.cut.length_bound h2 in
+    let old : Reader = in_hand r (held None None h3.0 (own [] None None None None false false s l None none_asked false None None i.format)) in
     let full : nat_le 16 (length r.inputs) ≡ false = lt-leb 16 (length r.inputs) room in
     subst (λ x. Goes ws rest (record r { inputs = r.inputs ++ x ∷ []; pending = pending [] })) (input-same i (cut_of s l None) (cut-same i.cut))
     (goes-input ws few (codes "-i") i.name rest old h3.1 refl line-input (omega arith) fine.name (in_room (nat_le 16 (length r.inputs)) (h3.1.at + 1) (ends_early i.cut.start l None) full (never_early i.cut.start l)))

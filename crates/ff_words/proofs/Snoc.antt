@@ -9,7 +9,7 @@ use Rattle.ff_words.specs.declared.reader.Pending.{Pending}
 use Rattle.ff_words.specs.declared.reader.Reader.{Reader}
 use Rattle.ff_format.specs.declared.format.FileFormat.{FileFormat}
 use Rattle.ff_format.specs.declared.format.FileFormat.TheVariants.{FrameHash}
-use Rattle.ff_words.specs.Words.{not_before_input, not_before_output, not_at_end, as_format, as_start, as_length, as_end, as_map, as_audio, as_video, as_vf, as_af, as_no_audio, as_no_video, as_shortest, as_frames, as_hash, as_rf64, as_queue, as_trace, as_keeps, as_graph, as_solo, Entry, Group, Groups, groups, led, is_file, or_else, last, each, first_place, last_place, unread_place, unwritten_place, inputs, outputs, group_input, group_output}
+use Rattle.ff_words.specs.Words.{not_before_input, not_before_output, not_at_end, as_format, as_start, as_length, as_end, as_map, as_audio, as_video, as_vf, as_af, as_no_audio, as_no_video, as_shortest, as_frames, as_rate, as_channels, as_pixels, as_base, as_size, as_hash, as_rf64, as_queue, as_trace, as_keeps, as_graph, as_solo, Entry, Group, Groups, groups, led, is_file, or_else, last, each, first_place, last_place, unread_place, unwritten_place, inputs, outputs, group_input, group_output}
 use Rattle.std.specs.Prelude.{flat_map}
 use Rattle.ff_words.specs.Words.{output_format, late}
 use Rattle.ff_words.specs.Reading.{with_input, with_output, input_wrong, output_wrong, pending_format, valued, noted, whole, pending, reader, waiting, optioned, kept}
@@ -116,6 +116,13 @@ merged at concern v own =
       no_audio = unwrap_or (or_else (as_no_audio v) (last as_no_audio own)) false;
       no_video = unwrap_or (or_else (as_no_video v) (last as_no_video own)) false;
       frames = or_else (as_frames v) (last as_frames own);
+      asked = record {
+        rate = or_else (as_rate v) (last as_rate own);
+        channels = or_else (as_channels v) (last as_channels own);
+        pixels = or_else (as_pixels v) (last as_pixels own);
+        base = or_else (as_base v) (last as_base own);
+        size = or_else (as_size v) (last as_size own);
+      };
       shortest = unwrap_or (or_else (as_shortest v) (last as_shortest own)) false;
       hash = or_else (as_hash v) (last as_hash own);
       rf64 = or_else (as_rf64 v) (last as_rf64 own);
@@ -141,6 +148,11 @@ merged-is own e =
       last-snoc as_no_audio own e,
       last-snoc as_no_video own e,
       last-snoc as_frames own e,
+      last-snoc as_rate own e,
+      last-snoc as_channels own e,
+      last-snoc as_pixels own e,
+      last-snoc as_base own e,
+      last-snoc as_size own e,
       last-snoc as_shortest own e,
       last-snoc as_hash own e,
       last-snoc as_rf64 own e,
@@ -167,6 +179,11 @@ waits at concern (value.VideoCodec c) own = refl
 waits at concern (value.VideoGraph g) own = refl
 waits at concern (value.AudioGraph g) own = refl
 waits at concern (value.Frames n) own = refl
+waits at concern (value.Rate n) own = refl
+waits at concern (value.Channels n) own = refl
+waits at concern (value.Pixels f) own = refl
+waits at concern (value.FrameRate base) own = refl
+waits at concern (value.Size s) own = refl
 waits at concern (value.Hash h) own = refl
 waits at concern (value.Rf64 mode) own = refl
 waits at concern (value.Output n x) own = refl
@@ -217,6 +234,11 @@ joins e (value.VideoCodec c) es p plain = refl
 joins e (value.VideoGraph g) es p plain = refl
 joins e (value.AudioGraph g) es p plain = refl
 joins e (value.Frames n) es p plain = refl
+joins e (value.Rate n) es p plain = refl
+joins e (value.Channels n) es p plain = refl
+joins e (value.Pixels f) es p plain = refl
+joins e (value.FrameRate base) es p plain = refl
+joins e (value.Size s) es p plain = refl
 joins e (value.Hash h) es p plain = refl
 joins e (value.Rf64 mode) es p plain = refl
 joins e (value.Output n x) es p plain = cc
@@ -310,6 +332,11 @@ plain_late es at (value.VideoCodec c) plain = refl
 plain_late es at (value.VideoGraph g) plain = refl
 plain_late es at (value.AudioGraph g) plain = refl
 plain_late es at (value.Frames n) plain = refl
+plain_late es at (value.Rate n) plain = refl
+plain_late es at (value.Channels n) plain = refl
+plain_late es at (value.Pixels f) plain = refl
+plain_late es at (value.FrameRate base) plain = refl
+plain_late es at (value.Size s) plain = refl
 plain_late es at (value.Hash h) plain = refl
 plain_late es at (value.Rf64 mode) plain = refl
 plain_late es at (value.Output n x) plain = cc
@@ -340,6 +367,11 @@ not_file (value.VideoCodec c) i o = refl
 not_file (value.VideoGraph g) i o = refl
 not_file (value.AudioGraph g) i o = refl
 not_file (value.Frames n) i o = refl
+not_file (value.Rate n) i o = refl
+not_file (value.Channels n) i o = refl
+not_file (value.Pixels f) i o = refl
+not_file (value.FrameRate base) i o = refl
+not_file (value.Size s) i o = refl
 not_file (value.Hash h) i o = refl
 not_file (value.Rf64 mode) i o = refl
 not_file (value.Output n x) i o = absurd (o n x refl)

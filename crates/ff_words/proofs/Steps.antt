@@ -119,6 +119,11 @@ full-is es kind.VideoCodec = refl
 full-is es kind.VideoGraph = refl
 full-is es kind.AudioGraph = refl
 full-is es kind.Frames = refl
+full-is es kind.Rate = refl
+full-is es kind.Channels = refl
+full-is es kind.Pixels = refl
+full-is es kind.FrameRate = refl
+full-is es kind.Size = refl
 full-is es kind.Hash = refl
 full-is es kind.Rf64 = refl
 

@@ -27,7 +27,9 @@ use Rattle.ff_words.specs.declared.value.Micros.{Micros}
 use Rattle.ff_words.specs.declared.value.Value.{Value}
 use Rattle.ff_words.specs.declared.value.Value.TheVariants as value
 use Rattle.ff_words.specs.Table.{option_named, is_level}
-use Rattle.ff_words.specs.Values.{Reads, ReadsWhole, ReadsNumber, ReadsLevel, ReadsTime, ReadsGraph, ReadsMap, Makes, made, switched}
+use Rattle.ff_words.specs.Values.{Reads, ReadsWhole, ReadsNumber, ReadsLevel, ReadsTime, ReadsRate, ReadsGraph, ReadsMap, Makes, made, switched}
+use Rattle.ff_time.specs.Fraction.{Fraction}
+use Rattle.ff_words.proofs.Rates.{IsRate-unique}
 use Rattle.ff_words.specs.Words.{Token, Entry, late, placed, is_dashed, IsOption, IsNamed, IsToken, TokenReads, IsEntry, IsFaultAt, AreRead, Stops, IsAnswer, tokens, command, end_fault, EndsBetween, FaultOfFront}
 use Rattle.ff_words.specs.Reading.{Answers, as_error}
 
@@ -77,6 +79,12 @@ map-one text (Ok g) (Err e) x y = absurd (y.1.no_map g x)
 map-one text (Err e) (Ok g) x y = absurd (x.1.no_map g y)
 map-one text (Err d) (Err e) x y = ap Err (x.2 ∙ (ap BadMap (map_text.IsBadAt-unique text x.0 y.0 x.1 y.1) ∙ sym y.2))
 
+rate-one : (text : List ℕ) (p q : Result Fraction WordKind) → ReadsRate text p → ReadsRate text q → p ≡ q
+rate-one text (Ok t) (Ok u) h k = ap Ok (IsRate-unique text t u h k)
+rate-one text (Ok t) (Err e) h k = absurd (k.1 t h)
+rate-one text (Err e) (Ok u) h k = absurd (h.1 u k)
+rate-one text (Err d) (Err e) h k = ap Err (h.0 ∙ sym k.0)
+
 makes-one : {X : Type 0} (make : X → Value) (Is : Result X WordKind → Type 0) (r s : Result Value WordKind) → ((p q : Result X WordKind) → Is p → Is q → p ≡ q) → Makes make Is r → Makes make Is s → r ≡ s
 makes-one make Is r s one h k = h.2 ∙ (ap (made make) (one h.0 k.0 h.1 k.1) ∙ sym k.2)
 
@@ -117,6 +125,11 @@ reads-one kind.VideoCodec text r s h j = h ∙ sym j
 reads-one kind.VideoGraph text r s h j = makes-one value.VideoGraph (ReadsGraph text) r s (graph-one text) h j
 reads-one kind.AudioGraph text r s h j = makes-one value.AudioGraph (ReadsGraph text) r s (graph-one text) h j
 reads-one kind.Frames text r s h j = makes-one value.Frames (ReadsWhole 0 999999999 text) r s (whole-one 0 999999999 text) h j
+reads-one kind.Rate text r s h j = makes-one value.Rate (ReadsWhole 1 999999999 text) r s (whole-one 1 999999999 text) h j
+reads-one kind.Channels text r s h j = makes-one value.Channels (ReadsWhole 1 8 text) r s (whole-one 1 8 text) h j
+reads-one kind.Pixels text r s h j = h ∙ sym j
+reads-one kind.FrameRate text r s h j = makes-one value.FrameRate (ReadsRate text) r s (rate-one text) h j
+reads-one kind.Size text r s h j = h ∙ sym j
 reads-one kind.Hash text r s h j = h ∙ sym j
 reads-one kind.Rf64 text r s h j = h ∙ sym j
 

@@ -4,6 +4,8 @@ use Rattle.ff_frame.specs.declared.head.Codec.{Codec}
 use Rattle.ff_frame.specs.declared.head.Codec.TheVariants as codec
 use Rattle.ff_frame.specs.declared.hash.HashKind.{HashKind}
 use Rattle.ff_frame.specs.declared.hash.HashKind.TheVariants.{Sha256, Md5}
+use Rattle.ff_frame.specs.declared.video.Format.{Format}
+use Rattle.ff_frame.specs.declared.video.Format.TheVariants.{C420, C422, C444, Mono}
 use Rattle.ff_format.specs.declared.format.Rf64.{Rf64}
 use Rattle.ff_format.specs.declared.format.Rf64.TheVariants.{Never, Auto, Always}
 use Rattle.ff_words.specs.declared.table.Concern.{Concern}
@@ -68,6 +70,11 @@ options =
     (codes "-shortest", Output, kind.Shortest) ∷
     (codes "-frames:v", Output, kind.Frames) ∷
     (codes "-vframes", Output, kind.Frames) ∷
+    (codes "-ar", Output, kind.Rate) ∷
+    (codes "-ac", Output, kind.Channels) ∷
+    (codes "-pix_fmt", Output, kind.Pixels) ∷
+    (codes "-r", Output, kind.FrameRate) ∷
+    (codes "-s", Output, kind.Size) ∷
     (codes "-hash", Output, kind.Hash) ∷
     (codes "-rf64", Output, kind.Rf64) ∷
     []
@@ -88,6 +95,12 @@ abbrev pub rf64_name : Rf64 → List ℕ
 rf64_name Never = codes "never"
 rf64_name Auto = codes "auto"
 rf64_name Always = codes "always"
+
+abbrev pub pixels_name : Format → List ℕ
+pixels_name C420 = codes "yuv420p"
+pixels_name C422 = codes "yuv422p"
+pixels_name C444 = codes "yuv444p"
+pixels_name Mono = codes "gray"
 
 -- how much is logged
 abbrev pub log_levels : List (List ℕ)

@@ -28,7 +28,7 @@ use Rattle.ff_words.specs.Words.{AreRead, is_too_much, is_dashed}
 use Rattle.ff_words.specs.Words.{IsAnswer, end_by, is_output, takes_value, tokens, Token, written, fault, misplaced, bad_at, late, unwritable, cut_of, start_of, ends_early, last_place}
 use Rattle.ff_words.specs.Words.{IsEntry, IsFaultAt, Entry, groups, last, each, first_place, not_before_input, not_before_output, not_at_end, or_else}
 use Rattle.ff_words.specs.Words.{unreadable, as_format, as_start, as_length, as_end, as_map, as_audio, as_video, as_vf, as_af, as_no_audio, as_no_video}
-use Rattle.ff_words.specs.Words.{as_shortest, as_frames, as_hash, as_rf64, as_queue, as_trace, as_keeps, as_graph, as_solo, stands_alone, inputs, outputs}
+use Rattle.ff_words.specs.Words.{own_asked, as_shortest, as_frames, as_hash, as_rf64, as_queue, as_trace, as_keeps, as_graph, as_solo, stands_alone, inputs, outputs}
 
 -- the options that wait for their file
 abbrev pub pending : List Entry → Pending
@@ -51,6 +51,7 @@ pending own =
       no_audio = unwrap_or (last as_no_audio own) false;
       no_video = unwrap_or (last as_no_video own) false;
       frames = last as_frames own;
+      asked = own_asked own;
       shortest = unwrap_or (last as_shortest own) false;
       hash = last as_hash own;
       rf64 = last as_rf64 own;
@@ -101,6 +102,11 @@ valued at value.NoAudio p = record p { no_audio = true }
 valued at value.NoVideo p = record p { no_video = true }
 valued at value.Shortest p = record p { shortest = true }
 valued at (value.Frames n) p = record p { frames = Some n }
+valued at (value.Rate n) p = record p { asked = record p.asked { rate = Some n } }
+valued at (value.Channels n) p = record p { asked = record p.asked { channels = Some n } }
+valued at (value.Pixels f) p = record p { asked = record p.asked { pixels = Some f } }
+valued at (value.FrameRate base) p = record p { asked = record p.asked { base = Some base } }
+valued at (value.Size s) p = record p { asked = record p.asked { size = Some s } }
 valued at (value.Hash h) p = record p { hash = Some h }
 valued at (value.Rf64 mode) p = record p { rf64 = Some mode }
 valued at _ p = p
@@ -157,6 +163,7 @@ with_output name format r =
         no_video = r.pending.no_video;
         cut = cut_in r.pending;
         frames = r.pending.frames;
+        asked = r.pending.asked;
         shortest = r.pending.shortest;
         hash = unwrap_or r.pending.hash (default_hash format);
         rf64 = unwrap_or r.pending.rf64 Never;

@@ -5,6 +5,9 @@ use Rattle.std.specs.Char.{to_ascii_lowercase}
 use Rattle.ff_frame.specs.declared.head.Codec.{Codec}
 use Rattle.ff_frame.specs.declared.hash.HashKind.TheVariants.{Sha256, Md5}
 use Rattle.ff_format.specs.declared.format.Rf64.TheVariants.{Never, Auto, Always}
+use Rattle.ff_frame.specs.declared.video.Format.TheVariants.{C420, C422, C444, Mono}
+use Rattle.ff_time.specs.Fraction.{Fraction}
+use Rattle.ff_words.specs.declared.job.Size.{Size}
 use Rattle.ff_lang.specs.declared.graph.Graph.{Graph}
 use Rattle.ff_lang.specs.Grammar.{IsGraph}
 use Rattle.ff_lang.specs.Grammar as graph
@@ -22,7 +25,8 @@ use Rattle.ff_words.specs.declared.table.Kind.TheVariants as kind
 use Rattle.ff_words.specs.declared.value.Micros.{Micros}
 use Rattle.ff_words.specs.declared.value.Value.{Value}
 use Rattle.ff_words.specs.declared.value.Value.TheVariants as value
-use Rattle.ff_words.specs.Options.{hash_name, rf64_name}
+use Rattle.ff_words.specs.Numbers.{IsRate, size_of}
+use Rattle.ff_words.specs.Options.{hash_name, rf64_name, pixels_name}
 use Rattle.ff_words.specs.Table.{format_named, audio_codec, video_codec, is_level, is_frame_mode, is_sync_mode}
 
 -- a value, or that it is outside its set
@@ -57,6 +61,17 @@ rf64_value text =
     (if bytes_eq text (rf64_name Auto) then Some (value.Rf64 Auto) else
     (if bytes_eq text (rf64_name Always) then Some (value.Rf64 Always) else None))
 
+abbrev pub pixels_value : List ℕ → Option Value
+pixels_value text =
+    if bytes_eq text (pixels_name C420) then Some (value.Pixels C420) else
+    (if bytes_eq text (pixels_name C422) then Some (value.Pixels C422) else
+    (if bytes_eq text (pixels_name C444) then Some (value.Pixels C444) else
+    (if bytes_eq text (pixels_name Mono) then Some (value.Pixels Mono) else None)))
+
+abbrev pub size_value : Option Size → Option Value
+size_value None = None
+size_value (Some s) = Some (value.Size s)
+
 -- a whole number of 1 to 9 digits in its range
 abbrev pub ReadsWhole : ℕ → ℕ → List ℕ → Result ℕ WordKind → Type 0
 ReadsWhole low high text (Ok n) = IsNumber text n × (low ≤ n) × (n ≤ high)
@@ -68,6 +83,11 @@ ReadsTime text (Ok m) = IsDuration text m.us
 ReadsTime text (Err k) =
     ((at : ℕ) × time.IsBadAt text at × (k ≡ BadTime at))
     ⊎ ((us : ℕ) × IsDuration text us × (10 ^ 15 < us) × (k ≡ BadTime (length text)))
+
+-- a rate of frames, by its time base
+abbrev pub ReadsRate : List ℕ → Result Fraction WordKind → Type 0
+ReadsRate text (Ok base) = IsRate text base
+ReadsRate text (Err k) = (k ≡ BadValue) × ((base : Fraction) → IsRate text base → ⊥)
 
 abbrev pub ReadsGraph : List ℕ → Result Graph WordKind → Type 0
 ReadsGraph text (Ok g) = IsGraph text g
@@ -116,6 +136,8 @@ value_named kind.AudioCodec text = codec_value value.AudioCodec (audio_codec tex
 value_named kind.VideoCodec text = codec_value value.VideoCodec (video_codec text)
 value_named kind.Hash text = hash_value text
 value_named kind.Rf64 text = rf64_value text
+value_named kind.Pixels text = pixels_value text
+value_named kind.Size text = size_value (size_of text)
 value_named _ text = None
 
 -- kinds whose values are numbers, times or names of a list
@@ -134,6 +156,11 @@ IsSmall kind.End = Unit {0}
 IsSmall kind.AudioCodec = Unit {0}
 IsSmall kind.VideoCodec = Unit {0}
 IsSmall kind.Frames = Unit {0}
+IsSmall kind.Rate = Unit {0}
+IsSmall kind.Channels = Unit {0}
+IsSmall kind.Pixels = Unit {0}
+IsSmall kind.FrameRate = Unit {0}
+IsSmall kind.Size = Unit {0}
 IsSmall kind.Hash = Unit {0}
 IsSmall kind.Rf64 = Unit {0}
 IsSmall _ = ⊥
@@ -169,5 +196,10 @@ Reads kind.VideoCodec text r = r ≡ or_bad (value_named kind.VideoCodec text)
 Reads kind.VideoGraph text r = Makes value.VideoGraph (ReadsGraph text) r
 Reads kind.AudioGraph text r = Makes value.AudioGraph (ReadsGraph text) r
 Reads kind.Frames text r = Makes value.Frames (ReadsWhole 0 999999999 text) r
+Reads kind.Rate text r = Makes value.Rate (ReadsWhole 1 999999999 text) r
+Reads kind.Channels text r = Makes value.Channels (ReadsWhole 1 8 text) r
+Reads kind.Pixels text r = r ≡ or_bad (value_named kind.Pixels text)
+Reads kind.FrameRate text r = Makes value.FrameRate (ReadsRate text) r
+Reads kind.Size text r = r ≡ or_bad (value_named kind.Size text)
 Reads kind.Hash text r = r ≡ or_bad (value_named kind.Hash text)
 Reads kind.Rf64 text r = r ≡ or_bad (value_named kind.Rf64 text)

@@ -21,6 +21,10 @@ use Rattle.ff_format.specs.declared.format.Rf64.TheVariants.{Never}
 use Rattle.ff_format.specs.Formats.{default_hash}
 use Rattle.ff_words.specs.declared.job.InputJob.{InputJob}
 use Rattle.ff_words.specs.declared.job.OutputJob.{OutputJob}
+use Rattle.ff_words.specs.declared.job.Asked.{Asked}
+use Rattle.ff_words.specs.declared.job.Size.{Size}
+use Rattle.ff_frame.specs.declared.video.Format.{Format}
+use Rattle.ff_time.specs.Fraction.{Fraction}
 use Rattle.ff_words.specs.declared.job.Job.{Job}
 use Rattle.ff_words.specs.declared.job.Command.{Command}
 use Rattle.ff_words.specs.declared.job.Command.TheVariants as asked
@@ -183,6 +187,26 @@ abbrev pub as_frames : Value → Option ℕ
 as_frames (value.Frames n) = Some n
 as_frames _ = None
 
+abbrev pub as_rate : Value → Option ℕ
+as_rate (value.Rate n) = Some n
+as_rate _ = None
+
+abbrev pub as_channels : Value → Option ℕ
+as_channels (value.Channels n) = Some n
+as_channels _ = None
+
+abbrev pub as_pixels : Value → Option Format
+as_pixels (value.Pixels f) = Some f
+as_pixels _ = None
+
+abbrev pub as_base : Value → Option Fraction
+as_base (value.FrameRate base) = Some base
+as_base _ = None
+
+abbrev pub as_size : Value → Option Size
+as_size (value.Size s) = Some s
+as_size _ = None
+
 abbrev pub as_hash : Value → Option HashKind
 as_hash (value.Hash h) = Some h
 as_hash _ = None
@@ -254,6 +278,21 @@ cut_of start length end =
 abbrev pub own_cut : List Entry → TimeCut
 own_cut own = cut_of (last as_start own) (last as_length own) (last_place as_end own)
 
+-- what these options ask the streams of an output to be
+abbrev pub own_asked : List Entry → Asked
+own_asked own =
+    record {
+      rate = last as_rate own;
+      channels = last as_channels own;
+      pixels = last as_pixels own;
+      base = last as_base own;
+      size = last as_size own;
+    }
+
+-- without an option they may be anything
+abbrev pub none_asked : Asked
+none_asked = record { rate = None; channels = None; pixels = None; base = None; size = None }
+
 abbrev pub input_job : List Entry → List ℕ → InputJob
 input_job own name = record { name = name; format = last as_format own; cut = own_cut own }
 
@@ -275,6 +314,7 @@ output_job own name ending =
       no_video = unwrap_or (last as_no_video own) false;
       cut = own_cut own;
       frames = last as_frames own;
+      asked = own_asked own;
       shortest = unwrap_or (last as_shortest own) false;
       hash = unwrap_or (last as_hash own) (default_hash (unwrap_or (output_format own ending) FrameHash));
       rf64 = unwrap_or (last as_rf64 own) Never;

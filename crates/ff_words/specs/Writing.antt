@@ -28,8 +28,12 @@ use Rattle.ff_words.specs.declared.job.Command.TheVariants as asked
 use Rattle.ff_words.specs.declared.job.Solo.{Solo}
 use Rattle.ff_words.specs.declared.job.Solo.TheVariants.{Help, Version, SelfRun}
 use Rattle.ff_format.specs.Formats.{format_name, is_read}
-use Rattle.ff_words.specs.Options.{hash_name, rf64_name}
-use Rattle.ff_words.specs.Words.{is_dashed, same_name}
+use Rattle.ff_words.specs.Options.{hash_name, rf64_name, pixels_name}
+use Rattle.ff_words.specs.Words.{is_dashed, same_name, none_asked}
+use Rattle.ff_words.specs.declared.job.Asked.{Asked}
+use Rattle.ff_words.specs.declared.job.Size.{Size}
+use Rattle.ff_time.specs.Fraction.{Fraction, IsBase}
+use Rattle.ff_frame.specs.declared.video.Format.{Format}
 
 -- ---- values
 
@@ -48,6 +52,13 @@ from_text (Label label) optional = codes "[" ++ label ++ codes "]"
 
 abbrev pub map_text : MapSpec → List ℕ
 map_text map = from_text map.from map.optional
+
+-- frames a second, by their time base
+abbrev pub rate_text : Fraction → List ℕ
+rate_text base = decimal base.den ++ 47 ∷ decimal base.num
+
+abbrev pub size_text : Size → List ℕ
+size_text s = decimal s.width ++ 120 ∷ decimal s.height
 
 -- ---- words
 
@@ -108,6 +119,24 @@ rf64_words Never = []
 rf64_words Auto = given (codes "-rf64") (rf64_name Auto)
 rf64_words Always = given (codes "-rf64") (rf64_name Always)
 
+abbrev pub rate_words : Option ℕ → List (List ℕ)
+rate_words o = where_some (λ n. given (codes "-ar") (decimal n)) o
+
+abbrev pub channels_words : Option ℕ → List (List ℕ)
+channels_words o = where_some (λ n. given (codes "-ac") (decimal n)) o
+
+abbrev pub pixels_words : Option Format → List (List ℕ)
+pixels_words o = where_some (λ f. given (codes "-pix_fmt") (pixels_name f)) o
+
+abbrev pub base_words : Option Fraction → List (List ℕ)
+base_words o = where_some (λ base. given (codes "-r") (rate_text base)) o
+
+abbrev pub size_words : Option Size → List (List ℕ)
+size_words o = where_some (λ s. given (codes "-s") (size_text s)) o
+
+abbrev pub asked_words : Asked → List (List ℕ)
+asked_words a = all_of (rate_words a.rate ∷ channels_words a.channels ∷ pixels_words a.pixels ∷ base_words a.base ∷ size_words a.size ∷ [])
+
 abbrev pub output_words : OutputJob → List (List ℕ)
 output_words o =
     all_of (
@@ -121,6 +150,7 @@ output_words o =
     start_words o.cut.start ∷
     length_words o.cut.length ∷
     frames_words o.frames ∷
+    asked_words o.asked ∷
     where_true (codes "-shortest") o.shortest ∷
     hash_words o.hash ∷
     rf64_words o.rf64 ∷
@@ -204,6 +234,15 @@ pub record IsFineInput (i : InputJob) : Type 0 where
   pub name : IsFineText i.name
   pub format : WhereSome IsReadFormat i.format
 
+abbrev pub IsFineSize : Size → Type 0
+IsFineSize s = (1 ≤ s.width) × (s.width ≤ 16384) × (1 ≤ s.height) × (s.height ≤ 16384)
+
+pub record IsFineAsked (a : Asked) : Type 0 where
+  pub rate : WhereSome (λ n. (1 ≤ n) × (n < 10 ^ 9)) a.rate
+  pub channels : WhereSome (λ n. (1 ≤ n) × (n ≤ 8)) a.channels
+  pub base : WhereSome IsBase a.base
+  pub size : WhereSome IsFineSize a.size
+
 pub record IsFineOutput (o : OutputJob) : Type 0 where
   pub name : IsFineText o.name
   pub some_name : 0 < length o.name
@@ -215,10 +254,11 @@ pub record IsFineOutput (o : OutputJob) : Type 0 where
   pub vf : WhereSome IsFineGraph o.vf
   pub af : WhereSome IsFineGraph o.af
   pub frames : WhereSome (λ n. n < 10 ^ 9) o.frames
+  pub asked : IsFineAsked o.asked
 
--- an output that is no RF64, and whose frames aren't counted
+-- an output that is no RF64, whose frames aren't counted, and whose streams may be anything
 abbrev pub IsPlainOutput : OutputJob → Type 0
-IsPlainOutput o = (o.rf64 ≡ Never) × (o.frames ≡ None)
+IsPlainOutput o = (o.rf64 ≡ Never) × (o.frames ≡ None) × (o.asked ≡ none_asked)
 
 -- Each number is in its range, each name and text is short enough, the names of outputs are names of outputs, there are one to
 -- sixteen of what there may be sixteen of, and no written name stands twice.

@@ -1,9 +1,9 @@
 //! The command that a command line asks for.
 use ff_format::{FileFormat, Rf64};
-use ff_frame::{Codec, HashKind};
+use ff_frame::{Codec, Format, HashKind};
 use ff_lang::{Graph, Sequence, Text};
 use ff_map::MapSpec;
-use ff_time::TimeCut;
+use ff_time::{Rational, TimeCut};
 
 /// An input with its options.
 #[derive(Debug, Drop)]
@@ -14,6 +14,30 @@ pub struct InputJob {
     pub format: Option<FileFormat>,
     /// The cut by `-ss` and `-t`.
     pub cut: TimeCut,
+}
+
+/// Columns and rows, each 1 to 16,384.
+#[derive(Clone, Copy, Debug, PartialEq, Eq)]
+pub struct Size {
+    /// The columns.
+    pub width: u32,
+    /// The rows.
+    pub height: u32,
+}
+
+/// What the streams of an output are asked to be already. Nothing is made so: a stream that is otherwise is refused.
+#[derive(Clone, Copy, Debug)]
+pub struct Asked {
+    /// The sample frames a second of its audio, by `-ar`.
+    pub rate: Option<u32>,
+    /// The channels of its audio, by `-ac`.
+    pub channels: Option<u32>,
+    /// The format of its video, by `-pix_fmt`.
+    pub pixels: Option<Format>,
+    /// The time base of its video, which is one over the frames a second, by `-r`.
+    pub base: Option<Rational>,
+    /// The columns and rows of its video, by `-s`.
+    pub size: Option<Size>,
 }
 
 /// An output with its options.
@@ -41,6 +65,8 @@ pub struct OutputJob {
     pub cut: TimeCut,
     /// How many frames each of its video streams has at most, by `-frames:v`.
     pub frames: Option<u32>,
+    /// What its streams are asked to be already, by `-ar`, `-ac`, `-pix_fmt`, `-r` and `-s`.
+    pub asked: Asked,
     /// Whether `-shortest` ends all of its streams with the shortest.
     pub shortest: bool,
     /// The digest by `-hash`; without it that of the format.

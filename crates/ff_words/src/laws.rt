@@ -29,7 +29,7 @@ pub fn written_commands_are_read()
         → IsAnswer (command_words command) (Ok command) }
 {}
 
-/// They are as few for every job in which no output is RF64 or has `-frames:v`.
+/// They are as few for every job in which no output is RF64, has `-frames:v` or asks what its streams are.
 pub fn written_jobs_are_short()
     ensures { (job : Job) → IsFineJob job → AllByRecursion IsPlainOutput job.outputs → length (job_words job) ≤ 1024 }
 {}

@@ -18,6 +18,7 @@ mod cuts;
 mod error;
 mod job;
 mod laws;
+mod numbers;
 mod read;
 mod read_value;
 mod reader;
@@ -25,7 +26,7 @@ mod table;
 mod value;
 
 pub use error::{WordError, WordKind};
-pub use job::{Command, InputJob, Job, OutputJob, Solo};
+pub use job::{Asked, Command, InputJob, Job, OutputJob, Size, Solo};
 pub use laws::{
     a_fault_stays, the_lists_are_as_defined, words_have_one_answer, written_commands_are_read,
     written_jobs_are_short,

@@ -2,17 +2,18 @@
 ghost use Rattle.std.specs.Prelude.{◌≡◌, ◌-◌, ◌^◌, ◌<◌, ◌≤◌, ℕ, length, IfOk, MatchOption, None};
 ghost use Rattle.ff_time.specs.Duration.{IsDigit};
 ghost use Rattle.ff_map.specs.Grammar.{IsNumber};
-ghost use Rattle.ff_words.specs.Values.{Reads, ReadsGraph, ReadsTime, ReadsMap, ReadsWhole, hash_value, rf64_value, is_spelled, switched, value_named, IsSmall, ReadsNumber, ReadsLevel, mode_value};
+ghost use Rattle.ff_words.specs.Values.{Reads, ReadsGraph, ReadsTime, ReadsMap, ReadsWhole, hash_value, rf64_value, pixels_value, is_spelled, switched, value_named, IsSmall, ReadsNumber, ReadsLevel, mode_value};
 ghost use Rattle.ff_words.specs.Table.{is_level as level_named};
 
 use crate::error::WordKind;
 use crate::job::Solo;
+use crate::numbers::{rate_of, size_of};
 use crate::table::{
     Kind, audio_codec, format_of, is_frame_mode, is_level, is_sync_mode, video_codec,
 };
 use crate::value::{Micros, Value};
 use ff_format::Rf64;
-use ff_frame::HashKind;
+use ff_frame::{Format, HashKind};
 use ff_lang::{Graph, LangError, Text, read_graph};
 use ff_map::{MapError, MapSpec, read_map};
 use ff_time::{TimeError, read_duration};
@@ -173,6 +174,22 @@ fn rf64_of(text: &str) -> Option<Value>
     }
 }
 
+fn pixels_of(text: &str) -> Option<Value>
+    ensures { result ≡ pixels_value text.now }
+{
+    if text == "yuv420p" {
+        Some(Value::Pixels(Format::C420))
+    } else if text == "yuv422p" {
+        Some(Value::Pixels(Format::C422))
+    } else if text == "yuv444p" {
+        Some(Value::Pixels(Format::C444))
+    } else if text == "gray" {
+        Some(Value::Pixels(Format::Mono))
+    } else {
+        None
+    }
+}
+
 /// A copy of a string.
 pub fn text_of(alloc: Global, text: &str) -> Result<Text, AllocError>
     ensures { IfOk result (λ copy. copy ≡ text.now) }
@@ -244,6 +261,18 @@ fn read_small(kind: Kind, text: &str) -> Result<Value, WordKind>
             Ok(frames) => Ok(Value::Frames(frames)),
             Err(kind) => Err(kind),
         },
+        Kind::Rate => match whole_of(text, 1, 999999999) {
+            Ok(rate) => Ok(Value::Rate(rate)),
+            Err(kind) => Err(kind),
+        },
+        Kind::Channels => match whole_of(text, 1, 8) {
+            Ok(channels) => Ok(Value::Channels(channels)),
+            Err(kind) => Err(kind),
+        },
+        Kind::FrameRate => match rate_of(text) {
+            Ok(base) => Ok(Value::FrameRate(base)),
+            Err(kind) => Err(kind),
+        },
         Kind::SelfRun => match whole_of(text, 0, 3600) {
             Ok(seconds) => Ok(Value::Solo(Solo::SelfRun(seconds))),
             Err(kind) => Err(kind),
@@ -277,6 +306,11 @@ fn named_value(kind: Kind, text: &str) -> Option<Value>
         Kind::SyncMode => mode(is_sync_mode(text)),
         Kind::Hash => hash_of(text),
         Kind::Rf64 => rf64_of(text),
+        Kind::Pixels => pixels_of(text),
+        Kind::Size => match size_of(text) {
+            Some(size) => Some(Value::Size(size)),
+            None => None,
+        },
         _ => None,
     }
 }

@@ -3,7 +3,7 @@ ghost use Rattle.std.specs.Prelude.{◌≡◌, ◌<◌, ◌≤◌, ◌+◌, OnOk
 ghost use Rattle.ff_words.specs.Reading.{Ended, written_names, word_at, Steps, token_at, width, full, Given, pending_format, with_output};
 ghost use Rattle.ff_words.specs.Reading.{output_wrong as wrong_output, input_wrong as wrong_input, with_input, Taken, pending, reader, noted, valued};
 ghost use Rattle.ff_words.specs.Reading.{optioned, place_unless, early_in};
-ghost use Rattle.ff_words.specs.Words.{repeats, texts, is_too_much as never_too_much, is_dashed as dashed, Entry};
+ghost use Rattle.ff_words.specs.Words.{none_asked, repeats, texts, is_too_much as never_too_much, is_dashed as dashed, Entry};
 ghost use Rattle.ff_words.specs.Words.{not_before_input as never_before_input, not_before_output as never_before_output, not_at_end as never_at_end, word_count};
 ghost use Rattle.ff_words.specs.Values.{switched};
 ghost use Rattle.std.specs.Prelude.{map, drop, option_to_list, ◌||◌};
@@ -14,7 +14,7 @@ ghost use Rattle.ff_words.specs.declared.job.OutputJob.{OutputJob};
 
 use crate::cuts::{CutEnd, cut, early_end};
 use crate::error::{Fault, WordError, WordKind};
-use crate::job::{Command, InputJob, Job, OutputJob, Solo};
+use crate::job::{Asked, Command, InputJob, Job, OutputJob, Solo};
 use crate::read_value::{read_value, text_of};
 use crate::table::{Concern, Kind, Rule, find_option, format_ending};
 use crate::value::{Micros, Value};
@@ -50,6 +50,7 @@ pub(crate) struct Pending {
     no_audio: bool,
     no_video: bool,
     frames: Option<u32>,
+    asked: Asked,
     shortest: bool,
     hash: Option<HashKind>,
     rf64: Option<Rf64>,
@@ -103,6 +104,19 @@ fn unless(done: bool, at: u32) -> Option<u32>
     if done { None } else { Some(at + 1) }
 }
 
+// What the streams of an output are asked to be without an option for it.
+fn nothing_asked() -> Asked
+    ensures { result ≡ none_asked }
+{
+    Asked {
+        rate: None,
+        channels: None,
+        pixels: None,
+        base: None,
+        size: None,
+    }
+}
+
 impl Pending {
     fn new(alloc: Global) -> Pending
         ensures { result ≡ pending [] }
@@ -125,6 +139,7 @@ impl Pending {
             no_audio: false,
             no_video: false,
             frames: None,
+            asked: nothing_asked(),
             shortest: false,
             hash: None,
             rf64: None,
@@ -183,6 +198,11 @@ impl Pending {
             Value::NoVideo => self.no_video = true,
             Value::Shortest => self.shortest = true,
             Value::Frames(frames) => self.frames = Some(frames),
+            Value::Rate(rate) => self.asked.rate = Some(rate),
+            Value::Channels(channels) => self.asked.channels = Some(channels),
+            Value::Pixels(pixels) => self.asked.pixels = Some(pixels),
+            Value::FrameRate(base) => self.asked.base = Some(base),
+            Value::Size(size) => self.asked.size = Some(size),
             Value::Hash(hash) => self.hash = Some(hash),
             Value::Rf64(rf64) => self.rf64 = Some(rf64),
             _value => {}
@@ -333,6 +353,7 @@ impl Reader {
             no_video: own.no_video,
             cut: cut(own.start, own.length, own.end),
             frames: own.frames,
+            asked: own.asked,
             shortest: own.shortest,
             hash: own.hash.unwrap_or(format.default_hash()),
             rf64: own.rf64.unwrap_or(Rf64::Never),

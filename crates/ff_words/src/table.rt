@@ -85,6 +85,16 @@ pub enum Kind {
     AudioGraph,
     /// How many frames each video stream of an output has at most.
     Frames,
+    /// The sample frames a second that the audio of an output is asked to have.
+    Rate,
+    /// The channels that it is asked to have.
+    Channels,
+    /// The format that the video of an output is asked to have.
+    Pixels,
+    /// The frames a second that it is asked to have.
+    FrameRate,
+    /// The columns and rows that it is asked to have.
+    Size,
     /// The digest of an output.
     Hash,
     /// When an output is RF64.
@@ -112,7 +122,7 @@ pub struct Named {
 }
 
 /// Each option, whom it concerns, and its kind of value.
-pub static OPTIONS: [(&'static str, Concern, Kind); 56] = [
+pub static OPTIONS: [(&'static str, Concern, Kind); 61] = [
     ("-n", Concern::All, Kind::Keeps),
     ("-y", Concern::All, Kind::Replaces),
     ("-hide_banner", Concern::All, Kind::Nothing),
@@ -167,6 +177,11 @@ pub static OPTIONS: [(&'static str, Concern, Kind); 56] = [
     ("-shortest", Concern::Output, Kind::Shortest),
     ("-frames:v", Concern::Output, Kind::Frames),
     ("-vframes", Concern::Output, Kind::Frames),
+    ("-ar", Concern::Output, Kind::Rate),
+    ("-ac", Concern::Output, Kind::Channels),
+    ("-pix_fmt", Concern::Output, Kind::Pixels),
+    ("-r", Concern::Output, Kind::FrameRate),
+    ("-s", Concern::Output, Kind::Size),
     ("-hash", Concern::Output, Kind::Hash),
     ("-rf64", Concern::Output, Kind::Rf64),
 ];

@@ -1,11 +1,12 @@
 //! The values of options and file names.
 ghost use Rattle.std.specs.Prelude.{◌≤◌, ◌^◌};
 
-use crate::job::Solo;
+use crate::job::{Size, Solo};
 use ff_format::{FileFormat, Rf64};
-use ff_frame::{Codec, HashKind};
+use ff_frame::{Codec, Format, HashKind};
 use ff_lang::{Graph, Text};
 use ff_map::MapSpec;
+use ff_time::Rational;
 
 /// Microseconds of a cut.
 #[derive(Clone, Copy, Debug)]
@@ -65,6 +66,16 @@ pub enum Value {
     AudioGraph(Graph),
     /// How many frames a video stream has at most.
     Frames(u32),
+    /// The sample frames a second that audio is asked to have.
+    Rate(u32),
+    /// The channels that audio is asked to have.
+    Channels(u32),
+    /// The format that video is asked to have.
+    Pixels(Format),
+    /// The time base that video is asked to have.
+    FrameRate(Rational),
+    /// The columns and rows that video is asked to have.
+    Size(Size),
     /// A digest.
     Hash(HashKind),
     /// When an output is RF64.
