@@ -32,7 +32,8 @@ use Rattle.ff_plan_layout.specs.Pads.{all_wants, pad_in, head_in, made_of, confi
 use Rattle.ff_plan_layout.specs.LaidOut.{outputs_from, labels_of, graphs_of, unused_of, unused_label, simple_graphs, layout_of, limited, laid_out}
 use Rattle.ff_plan.specs.Planned.{planned}
 use Rattle.ff_plan_layout.specs.Rules.{Rules, Planned, behind, unless, where_so}
-use Rattle.ff_plan_layout.specs.Streams.{Inside, is_empty, label_pad, mapped, all_mapped, asked, chosen, some_or, front_with, label_in, takes, through, configured_simple, simply, null_graph, simple_of, passed_by, passed_from, passed, all_passed, graph_of}
+use Rattle.ff_plan_layout.specs.Streams.{Inside, is_empty, label_pad, mapped, all_mapped, asked, chosen, some_or, front_with, label_in, takes, through, configured_simple, simply, null_graph, simple_of, passed_by, passed_from, as_asked, passed, all_passed, graph_of}
+use Rattle.ff_plan_layout.specs.Asking.{is_as_asked}
 use Rattle.ff_plan_layout.proofs.Among.{never}
 use Rattle.ff_plan_layout.proofs.Graphed.{inside_of, unlabelled_come}
 use Rattle.ff_plan_layout.proofs.Makings.{Comes}
@@ -228,7 +229,9 @@ module _ (rules : Rules) (such : PlanError → Bool) (none : AreNone rules such)
 
     passed_free : (out : OutputJob) (o g n : ℕ) (i : InPad) → Comes inside.heads inside.made i → IsFree (passed rules out o g n i)
     passed_free out o g n i c =
-        unless_free (where_so (not (takes out n i)) (fault.Takes o n)) (passed_from rules out g i i.source) (where_free (not (takes out n i)) (fault.Takes o n) (none.taken o n)) (from_free out g i c)
+        unless_free (where_so (not (takes out n i)) (fault.Takes o n)) (behind (passed_from rules out g i i.source) (as_asked out o n)) (where_free (not (takes out n i)) (fault.Takes o n) (none.taken o n))
+        (behind_free (passed_from rules out g i i.source) (as_asked out o n) (from_free out g i c)
+        (λ p e. unless_free (where_so (not (is_as_asked out.asked p.what.head)) (fault.Takes o n)) (Ok p) (where_free (not (is_as_asked out.asked p.what.head)) (fault.Takes o n) (none.taken o n)) tt))
 
     all_passed_free : (out : OutputJob) (o g n : ℕ) (is : List InPad) → AllByRecursion (Comes inside.heads inside.made) is → IsFree (all_passed rules out o g n is)
     all_passed_free out o g n [] all = tt

@@ -17,7 +17,7 @@ use Rattle.ff_plan_layout.specs.Pads.{unlabelled}
 use Rattle.ff_plan_layout.specs.LaidOut.{labels_of, graphs_of, layout_of, laid_out, outputs_from}
 use Rattle.ff_plan.specs.Planned.{planned}
 use Rattle.ff_plan_layout.specs.Rules.{Rules, Planned, behind}
-use Rattle.ff_plan_layout.specs.Streams.{Inside, graph_of, some_or, asked, chosen, is_pad, is_graph, simple_of, takes, takes_head, most_streams, passed, passed_from, all_passed, front_with}
+use Rattle.ff_plan_layout.specs.Streams.{Inside, graph_of, some_or, asked, chosen, is_pad, is_graph, simple_of, takes, takes_head, most_streams, passed, passed_from, as_asked, all_passed, front_with}
 use Rattle.ff_plan_layout.specs.Choice.{kind_of}
 use Rattle.ff_plan.specs.Taken.{AreTaken, OutputsFit}
 use Rattle.ff_plan.proofs.EndFits.{at_fit, is_at, rows_count, stream_coded}
@@ -60,7 +60,7 @@ module _ (rules : Rules) (keeps : KeepsTaken rules) where
         (q.0, less_true n most q.1)
 
     was_taken : (g n : ℕ) (i : InPad) (p : Passed) → passed rules out o g n i ≡ Ok p → takes out n i ≡ true
-    was_taken g n i p h = not_false (takes out n i) (was_false (not (takes out n i)) (fault.Takes o n) (passed_from rules out g i i.source) p h)
+    was_taken g n i p h = not_false (takes out n i) (was_false (not (takes out n i)) (fault.Takes o n) (behind (passed_from rules out g i i.source) (as_asked out o n)) p h)
 
     one_passed : (g n : ℕ) (i : InPad) (p : Passed) → passed rules out o g n i ≡ Ok p → IsPassed rules out g i p
     one_passed g n i p h = (all_passed_is rules out o g n (i ∷ []) (p ∷ [])

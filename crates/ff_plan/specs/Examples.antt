@@ -18,6 +18,7 @@ use Rattle.ff_map.specs.declared.map.Kind.TheVariants as kind
 use Rattle.ff_map.specs.declared.map.MapFrom.TheVariants as from
 use Rattle.ff_map.specs.declared.map.MapSpec.{MapSpec}
 use Rattle.ff_words.specs.declared.job.OutputJob.{OutputJob}
+use Rattle.ff_words.specs.Words.{none_asked}
 use Rattle.ff_map.specs.declared.map.Pick.TheVariants as pick
 use Rattle.ff_stream.specs.declared.edges.edge.Edge.{Edge}
 use Rattle.ff_plan.specs.declared.planned.Plan.{Plan}
@@ -60,6 +61,7 @@ example_output cut f maps = record {
   no_video = false;
   cut = cut;
   frames = None;
+  asked = none_asked;
   shortest = false;
   hash = hash.Sha256;
   rf64 = rf64.Never;

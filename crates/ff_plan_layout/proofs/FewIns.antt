@@ -16,8 +16,9 @@ use Rattle.ff_plan_layout.specs.Labels.{refused}
 use Rattle.ff_plan_layout.specs.Limits.{HasFewIns}
 use Rattle.ff_plan_layout.specs.LaidOut.{outputs_from, labels_of, graphs_of}
 use Rattle.ff_plan_layout.specs.Rules.{Rules, OpenOut, behind, where_so}
-use Rattle.ff_plan_layout.specs.Streams.{Inside, Passed, through, configured_simple, simply, as_it_is, passed_by, passed_from, passed, all_passed, graph_of, null_graph, simple_of, chosen, takes, front_with}
+use Rattle.ff_plan_layout.specs.Streams.{Inside, Passed, through, configured_simple, simply, as_it_is, passed_by, passed_from, as_asked, passed, all_passed, graph_of, null_graph, simple_of, chosen, takes, front_with}
 use Rattle.ff_plan_layout.proofs.Among.{all_joined}
+use Rattle.ff_plan_layout.proofs.AsAsked.{asked_ok}
 use Rattle.ff_plan_layout.proofs.Results.{not_ok, same_ok, behind_ok, unless_ok}
 
 abbrev Few : Passed → Type 0
@@ -56,7 +57,7 @@ module _ (rules : Rules) where
       let rest = behind_ok (all_passed rules out o (g + length (graph_of first.0)) (n + 1) is) (λ ys. Ok (first.0 ∷ [] ++ ys)) ps first.2 in
       subst (λ (qs : List Passed). AllByRecursion HasFewIns (flat_map graph_of qs)) (same_ok (first.0 ∷ rest.0) ps rest.2)
       (all_joined HasFewIns (graph_of first.0) (flat_map graph_of rest.0)
-      (from_few out g i i.source first.0 (unless_ok (where_so (not (takes out n i)) (fault.Takes o n)) (passed_from rules out g i i.source) first.0 first.1))
+      (from_few out g i i.source first.0 (asked_ok out o n (passed_from rules out g i i.source) first.0 (unless_ok (where_so (not (takes out n i)) (fault.Takes o n)) (behind (passed_from rules out g i i.source) (as_asked out o n)) first.0 first.1)))
       (row_few out o (g + length (graph_of first.0)) (n + 1) is rest.0 rest.1))
 
   -- all of the outputs

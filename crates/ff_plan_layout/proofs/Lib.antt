@@ -1,4 +1,5 @@
 pub mod Among
+pub mod AsAsked
 pub mod Best
 pub mod Bounds
 pub mod Counts

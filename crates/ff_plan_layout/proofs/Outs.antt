@@ -28,11 +28,12 @@ use Rattle.ff_plan_layout.specs.Layout.{IsAmong}
 use Rattle.ff_plan_layout.specs.Pads.{made_at, labelled_out}
 use Rattle.ff_plan_layout.specs.LaidOut.{labels_of, graphs_of, outputs_from}
 use Rattle.ff_plan_layout.specs.Rules.{Rules, OpenOut, Refused, Planned, behind, unless, where_so}
-use Rattle.ff_plan_layout.specs.Streams.{Inside, Passed, as_pad, is_kept, is_wanted, label_pad, mapped, all_mapped, label_in, front_with, automatic, asked, some_or, chosen, takes, through, configured_simple, simply, null_graph, passed_by, passed_from, passed, graph_of, all_passed, simple_of, packed_as}
+use Rattle.ff_plan_layout.specs.Streams.{Inside, Passed, as_pad, is_kept, is_wanted, label_pad, mapped, all_mapped, label_in, front_with, automatic, asked, some_or, chosen, takes, through, configured_simple, simply, null_graph, passed_by, passed_from, as_asked, passed, graph_of, all_passed, simple_of, packed_as}
 use Rattle.ff_plan_layout.proofs.Among.{all_joined, all_map, was_among}
 use Rattle.ff_plan_layout.proofs.Known.{known_among}
 use Rattle.ff_plan_layout.proofs.Makings.{Comes, labelled_open, shown_among}
 use Rattle.ff_plan_layout.proofs.Given.{no_refusal, own_clear}
+use Rattle.ff_plan_layout.proofs.AsAsked.{asked_ok}
 use Rattle.ff_plan_layout.proofs.Results.{not_ok, not_so, same_ok, behind_ok, unless_none, unless_ok}
 
 -- ---- a test that was passed
@@ -235,7 +236,7 @@ module _ (rules : Rules) where
       let first = behind_ok (passed rules out o g n i) (λ p. front_with (p ∷ []) (all_passed rules out o (g + length (graph_of p)) (n + 1) is)) ps h in
       let rest = behind_ok (all_passed rules out o (g + length (graph_of first.0)) (n + 1) is) (λ ys. Ok (first.0 ∷ [] ++ ys)) ps first.2 in
       subst (λ (qs : List Passed). AllPassed out g (i ∷ is) qs) (same_ok (first.0 ∷ rest.0) ps rest.2)
-      (from_is out g i i.source first.0 refl (unless_ok (where_so (not (takes out n i)) (fault.Takes o n)) (passed_from rules out g i i.source) first.0 first.1), all_passed_is out o (g + length (graph_of first.0)) (n + 1) is rest.0 rest.1)
+      (from_is out g i i.source first.0 refl (asked_ok out o n (passed_from rules out g i i.source) first.0 (unless_ok (where_so (not (takes out n i)) (fault.Takes o n)) (behind (passed_from rules out g i i.source) (as_asked out o n)) first.0 first.1)), all_passed_is out o (g + length (graph_of first.0)) (n + 1) is rest.0 rest.1)
 
   module _ (inside : Inside) where
     -- the streams of outputs, in turn

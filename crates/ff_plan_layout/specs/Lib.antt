@@ -1,3 +1,4 @@
+pub mod Asking
 pub mod Choice
 pub mod Graphs
 pub mod Labels

@@ -34,6 +34,7 @@ use Rattle.ff_plan_layout.specs.declared.layout.Origin.{Origin}
 use Rattle.ff_plan_layout.specs.declared.layout.Origin.TheVariants as origin
 use Rattle.ff_plan_layout.specs.declared.layout.InPad.{InPad}
 pub use Rattle.ff_plan_layout.specs.declared.layout.Passed.{Passed}
+use Rattle.ff_plan_layout.specs.Asking.{is_as_asked}
 use Rattle.ff_plan_layout.specs.Layout.{Laid}
 use Rattle.ff_plan_layout.specs.Pads.{Made, made_at, labelled_out}
 use Rattle.ff_plan_layout.specs.Rules.{Rules, OpenOut, Refused, Planned, behind, unless, where_so}
@@ -203,8 +204,12 @@ abbrev pub passed_from : Rules → OutputJob → ℕ → InPad → Origin → Pl
 passed_from rules out g i (origin.Pad h p) = as_it_is out i
 passed_from rules out g i (origin.Stream s) = passed_by rules out g i (simple_of out (kind_of i.head))
 
+-- a stream as it leaves its graph, unless it is other than it is asked to be
+abbrev pub as_asked : OutputJob → ℕ → ℕ → Passed → Planned Passed
+as_asked out o n p = unless (where_so (not (is_as_asked out.asked p.what.head)) (fault.Takes o n)) (Ok p)
+
 abbrev pub passed : Rules → OutputJob → ℕ → ℕ → ℕ → InPad → Planned Passed
-passed rules out o g n i = unless (where_so (not (takes out n i)) (fault.Takes o n)) (passed_from rules out g i i.source)
+passed rules out o g n i = unless (where_so (not (takes out n i)) (fault.Takes o n)) (behind (passed_from rules out g i i.source) (as_asked out o n))
 
 abbrev pub graph_of : Passed → List Laid
 graph_of p = cons_option p.graph []

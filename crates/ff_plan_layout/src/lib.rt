@@ -11,6 +11,7 @@
 //! laws of plans need of such rules.
 #![tactic(auto)]
 
+mod asking;
 mod choosing;
 mod error;
 mod filtering;

@@ -10,8 +10,10 @@ ghost use Rattle.ff_plan_layout.specs.LaidOut.{graphs_of};
 ghost use Rattle.ff_plan_layout.specs.Rules.{where_so};
 ghost use Rattle.ff_plan_layout.specs.Streams.{simply as simply_passed, through as through_graph, as_it_is as unchanged, null_graph as graph_of_nothing, simple_of};
 ghost use Rattle.ff_plan_layout.specs.Streams.{null_name as name_of_null, packed_as as packed_by, passed as stream_passed};
+ghost use Rattle.ff_plan_layout.specs.Asking.{is_as_asked as is_so_asked};
 ghost use Rattle.ff_plan_layout.specs.Streams.{passed_by as passed_with, passed_from as passed_by_origin, all_passed as streams_passed, graph_of};
 
+use crate::asking::is_as_asked;
 use crate::error::PlanError;
 use crate::filtering::Filtering;
 use crate::layout::{InPad, Laid, Origin, OutStream, Passed};
@@ -278,6 +280,22 @@ fn passed_from<F: Filtering>(
     }
 }
 
+// Looks at the n-th stream of an output as it leaves its graph: whether it is what it is asked to be.
+fn check_asked(out: &OutputJob, output: u32, n: usize, passed: &Passed) -> Result<(), PlanError>
+    requires { n ≤ 16 }
+    ensures fine { IfOk result (λ _. where_so (not (is_so_asked out.now.asked passed.now.what.head)) (PlanError.Takes output n) ≡ None) }
+    ensures fault { IfErr result (IsFault (where_so (not (is_so_asked out.now.asked passed.now.what.head)) (PlanError.Takes output n))) }
+{
+    if is_as_asked(out.asked, passed.what.head) {
+        Ok(())
+    } else {
+        Err(PlanError::Takes {
+            output,
+            stream: n as u32,
+        })
+    }
+}
+
 // The n-th stream of an output.
 fn passed<F: Filtering>(
     alloc: Global,
@@ -300,7 +318,9 @@ fn passed<F: Filtering>(
             stream: n as u32,
         });
     }
-    passed_from(alloc, filtering, out, number, pad)
+    let made = passed_from(alloc, filtering, out, number, pad)?;
+    check_asked(out, output, n, &made)?;
+    Ok(made)
 }
 
 // How many graphs a stream passes through.
