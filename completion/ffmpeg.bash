@@ -18,6 +18,7 @@ _ffmpeg_words() {
       [[ $word != [A-Z]* ]] || offered='SHA256 MD5'
       ;;
     -rf64) offered='never auto always' ;;
+    -pix_fmt) offered='yuv420p yuv422p yuv444p gray' ;;
     -loglevel | -v) offered='quiet panic fatal error warning info verbose debug trace' ;;
     -fps_mode) offered='passthrough' ;;
     -vsync) offered='passthrough 0' ;;
@@ -26,14 +27,14 @@ _ffmpeg_words() {
     -lavfi | -filter_complex) offered="$video ${audio/concat /}" ;;
     -i | -sched_trace | -map | -ss | -t | -to | -thread_queue_size | -selfrun) ;;
     -fflags | -flags | -flags:[av] | -map_metadata | -map_chapters | -metadata | -strict) ;;
-    -threads | -filter_threads | -filter_complex_threads | -max_muxing_queue_size | -frames:v | -vframes) ;;
+    -threads | -filter_threads | -filter_complex_threads | -max_muxing_queue_size | -frames:v | -vframes | -ar | -ac | -r | -s) ;;
     *)
       if [[ $word == -* ]]; then
         offered='-n -y -hide_banner -nostdin -bitexact -stats -sn -dn -xerror -nostats -loglevel -v'
         offered+=' -fflags -flags -flags:a -flags:v -map_metadata -map_chapters -metadata -strict'
         offered+=' -threads -filter_threads -filter_complex_threads -max_muxing_queue_size -fps_mode -vsync'
         offered+=' -filter_complex -lavfi -thread_queue_size -sched_trace -h -version -selfrun'
-        offered+=' -f -ss -t -to -i -map -c:a -codec:a -acodec -c:v -codec:v -vcodec -vf -filter:v -af -filter:a -vn -an -shortest -frames:v -vframes -hash -rf64'
+        offered+=' -f -ss -t -to -i -map -c:a -codec:a -acodec -c:v -codec:v -vcodec -vf -filter:v -af -filter:a -vn -an -shortest -frames:v -vframes -ar -ac -pix_fmt -r -s -hash -rf64'
       fi
       ;;
   esac

@@ -68,6 +68,24 @@ fn tell_not_so(told: &mut Told, line: &CommandLine, output: u32, what: &str) {
     }
 }
 
+// What an output asks of its streams, by the last option of each kind.
+fn tell_asked(told: &mut Told, line: &CommandLine, file: FilePlace) {
+    let asking = [
+        ("-ar", Kind::Rate),
+        ("-ac", Kind::Channels),
+        ("-pix_fmt", Kind::Pixels),
+        ("-r", Kind::FrameRate),
+        ("-s", Kind::Size),
+    ];
+    for (name, kind) in asking.iter() {
+        if let Some(value) = line.last_value(file, *kind) {
+            told.texts(&["; ", name, " asks that it has "]);
+            tell_quoted(told, value);
+            told.text(" already");
+        }
+    }
+}
+
 // An output that can't have a stream.
 fn tell_not_taken(told: &mut Told, line: &CommandLine, output: u32, stream: u32) {
     let mut what = Told::new(told.alloc);
@@ -75,7 +93,10 @@ fn tell_not_taken(told: &mut Told, line: &CommandLine, output: u32, stream: u32)
     what.number(u64::from(stream));
     match what.finish() {
         Ok(what) => tell_not_so(told, line, output, what.as_str()),
-        Err(_) => told.fail(),
+        Err(_) => return told.fail(),
+    }
+    if let Some(file) = line.output(output) {
+        tell_asked(told, line, file);
     }
 }
 

@@ -73,6 +73,7 @@ pub(crate) fn named_values(told: &mut Told, kind: Kind) -> Vec<&'static str> {
         Kind::SyncMode => names(told, &SYNC_MODES),
         Kind::Hash => names(told, &["SHA256", "MD5"]),
         Kind::Rf64 => names(told, &["never", "auto", "always"]),
+        Kind::Pixels => names(told, &["yuv420p", "yuv422p", "yuv444p", "gray"]),
         _ => names(told, &[]),
     }
 }
@@ -84,6 +85,10 @@ fn described(kind: Kind) -> &'static str {
             "quiet, panic, fatal, error, warning, info, verbose, debug, trace or a number",
         Kind::Word => "any word",
         Kind::Number | Kind::Frames => "a whole number of 1 to 9 digits",
+        Kind::Rate => "a whole number from 1 to 999999999",
+        Kind::Channels => "a whole number from 1 to 8",
+        Kind::FrameRate => "frames a second, as 25 or 30000/1001",
+        Kind::Size => "columns and rows from 1 to 16384, as 320x240",
         Kind::Queue => "a whole number from 1 to 1024",
         Kind::SelfRun => "a whole number of seconds from 0 to 3600",
         Kind::Start | Kind::Length | Kind::End => "a time, as 90, 1:30, 2.5 or 500ms",

@@ -5,10 +5,10 @@ use crate::table::Stop;
 use crate::told::Told;
 use crate::words::Call;
 use ff_format::{FORMATS, FileFormat, Rf64};
-use ff_frame::{Codec, HashKind};
+use ff_frame::{Codec, Format, HashKind};
 use ff_lang::Graph;
 use ff_time::TimeCut;
-use ff_words::{Command, InputJob, Job, OutputJob, Solo, WordError, WordKind, read_words};
+use ff_words::{Asked, Command, InputJob, Job, OutputJob, Solo, WordError, WordKind, read_words};
 
 fn name_of_format(format: FileFormat) -> &'static str {
     for (name, _ending, listed, _read, _written) in FORMATS.iter() {
@@ -71,6 +71,43 @@ fn tell_maps(told: &mut Told, output: &OutputJob) {
     }
 }
 
+fn tell_number(told: &mut Told, what: &str, number: Option<u32>) {
+    if let Some(number) = number {
+        told.text(what);
+        told.count(u64::from(number));
+    }
+}
+
+fn pixels_name(pixels: Format) -> &'static str {
+    match pixels {
+        Format::C420 => " yuv420p",
+        Format::C422 => " yuv422p",
+        Format::C444 => " yuv444p",
+        Format::Mono => " gray",
+    }
+}
+
+// What the streams of an output are asked to be; frames a second are told by their time base.
+fn tell_asked(told: &mut Told, asked: Asked) {
+    tell_number(told, " rate ", asked.rate);
+    tell_number(told, " channels ", asked.channels);
+    if let Some(pixels) = asked.pixels {
+        told.text(pixels_name(pixels));
+    }
+    if let Some(base) = asked.base {
+        told.text(" base ");
+        told.number(base.num());
+        told.text("/");
+        told.number(base.den());
+    }
+    if let Some(size) = asked.size {
+        told.text(" size ");
+        told.count(u64::from(size.width));
+        told.text("x");
+        told.count(u64::from(size.height));
+    }
+}
+
 fn tell_output(told: &mut Told, output: &OutputJob) {
     told.texts(&["; out <", output.name.as_str(), "> "]);
     told.text(name_of_format(output.format));
@@ -86,6 +123,7 @@ fn tell_output(told: &mut Told, output: &OutputJob) {
         told.text(" frames ");
         told.count(u64::from(frames));
     }
+    tell_asked(told, output.asked);
     tell_if(told, output.shortest, "shortest");
     tell_if(told, output.hash == HashKind::Md5, "md5");
     tell_if(told, output.rf64 == Rf64::Auto, "rf64-auto");

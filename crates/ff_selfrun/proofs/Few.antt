@@ -17,7 +17,10 @@ use Rattle.ff_words.specs.declared.table.Rule.{Rule}
 use Rattle.ff_words.specs.declared.value.Value.{Value}
 use Rattle.ff_words.specs.declared.value.Value.TheVariants as value
 use Rattle.ff_words.specs.Table.{option_named, format_named, format_ending, audio_codec, video_codec, is_level, is_frame_mode, is_sync_mode}
-use Rattle.ff_words.specs.Values.{Reads, ReadsWhole, ReadsTime, ReadsGraph, ReadsMap, Makes, made, switched, or_bad, format_value, codec_value, mode_value, ReadsLevel, hash_value, rf64_value, is_spelled}
+use Rattle.ff_words.specs.Values.{Reads, ReadsWhole, ReadsTime, ReadsGraph, ReadsMap, Makes, made, switched, or_bad, format_value, codec_value, mode_value, ReadsLevel, ReadsRate, hash_value, rf64_value, pixels_value, size_value, is_spelled}
+use Rattle.ff_words.specs.Numbers.{size_of}
+use Rattle.ff_words.specs.declared.job.Size.{Size}
+use Rattle.ff_frame.specs.declared.video.Format.TheVariants.{C420, C422, C444, Mono}
 use Rattle.ff_words.specs.Words.{Token, Entry, is_dashed, placed, IsOption, IsNamed, IsToken, AreRead, tokens, command_by, last, as_solo, or_else}
 use Rattle.ff_selfrun.specs.SelfRun.{SecondsAreFew}
 
@@ -56,6 +59,10 @@ codec-few : (make : Codec → Value) → ((c : Codec) → Few (make c)) → (o :
 codec-few make each (Some c) w e = (let same : make c ≡ w = cc in subst Few same (each c))
 codec-few make each None w e = absurd cc
 
+size-few : (o : Option Size) (w : Value) → size_value o ≡ Some w → Few w
+size-few (Some n) w e = (let same : value.Size n ≡ w = cc in subst Few same tt)
+size-few None w e = absurd cc
+
 mode-few : (v : Value) (b : Bool) → Ok v ≡ or_bad (mode_value b) → Few v
 mode-few v b h = named-few v (mode_value b) (test-few value.Nothing tt b None none-few) h
 
@@ -93,6 +100,18 @@ reads-few kind.VideoCodec text v h = named-few v (codec_value value.VideoCodec (
 reads-few kind.VideoGraph text v h = makes-few value.VideoGraph (ReadsGraph text) v (λ x is. tt) h
 reads-few kind.AudioGraph text v h = makes-few value.AudioGraph (ReadsGraph text) v (λ x is. tt) h
 reads-few kind.Frames text v h = makes-few value.Frames (ReadsWhole 0 999999999 text) v (λ x is. tt) h
+reads-few kind.Rate text v h = makes-few value.Rate (ReadsWhole 1 999999999 text) v (λ x is. tt) h
+reads-few kind.Channels text v h = makes-few value.Channels (ReadsWhole 1 8 text) v (λ x is. tt) h
+reads-few kind.Pixels text v h =
+    named-few v (pixels_value text)
+    (test-few (value.Pixels C420) tt (bytes_eq text (codes "yuv420p")) (if bytes_eq text (codes "yuv422p") then Some (value.Pixels C422) else (if bytes_eq text (codes "yuv444p") then Some (value.Pixels C444) else (if bytes_eq text (codes "gray") then Some (value.Pixels Mono) else None)))
+    (test-few (value.Pixels C422) tt (bytes_eq text (codes "yuv422p")) (if bytes_eq text (codes "yuv444p") then Some (value.Pixels C444) else (if bytes_eq text (codes "gray") then Some (value.Pixels Mono) else None))
+    (test-few (value.Pixels C444) tt (bytes_eq text (codes "yuv444p")) (if bytes_eq text (codes "gray") then Some (value.Pixels Mono) else None)
+    (test-few (value.Pixels Mono) tt (bytes_eq text (codes "gray")) None
+    none-few))))
+    h
+reads-few kind.FrameRate text v h = makes-few value.FrameRate (ReadsRate text) v (λ x is. tt) h
+reads-few kind.Size text v h = named-few v (size_value (size_of text)) (size-few (size_of text)) h
 reads-few kind.Hash text v h =
     named-few v (hash_value text)
     (test-few (value.Hash Sha256) tt (is_spelled text (codes "SHA256")) (if is_spelled text (codes "MD5") then Some (value.Hash Md5) else None)
@@ -135,6 +154,11 @@ switched-few kind.VideoCodec w e = absurd cc
 switched-few kind.VideoGraph w e = absurd cc
 switched-few kind.AudioGraph w e = absurd cc
 switched-few kind.Frames w e = absurd cc
+switched-few kind.Rate w e = absurd cc
+switched-few kind.Channels w e = absurd cc
+switched-few kind.Pixels w e = absurd cc
+switched-few kind.FrameRate w e = absurd cc
+switched-few kind.Size w e = absurd cc
 switched-few kind.Hash w e = absurd cc
 switched-few kind.Rf64 w e = absurd cc
 
@@ -195,6 +219,11 @@ asked-few (value.VideoCodec c) h = tt
 asked-few (value.VideoGraph g) h = tt
 asked-few (value.AudioGraph g) h = tt
 asked-few (value.Frames n) h = tt
+asked-few (value.Rate n) h = tt
+asked-few (value.Channels n) h = tt
+asked-few (value.Pixels f) h = tt
+asked-few (value.FrameRate base) h = tt
+asked-few (value.Size s) h = tt
 asked-few (value.Hash d) h = tt
 asked-few (value.Rf64 mode) h = tt
 asked-few (value.Output n x) h = tt
