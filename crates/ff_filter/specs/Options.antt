@@ -1,6 +1,8 @@
 -- How the arguments of a filter set its options.
-use Rattle.std.specs.Prelude.{◌≡◌, ◌⊎◌, ℕ, ◌+◌, ◌-◌, ◌*◌, ◌≤◌, ◌^◌, nat_le, nat_lt, ◌&&◌, Bool, true, false, ◌||◌, not, cond, if◌then◌else◌, is_some, Option, Some, None, List, [], ◌∷◌, length, Result, Ok, Err}
+use Rattle.std.specs.Prelude.{◌≡◌, ◌⊎◌, ℕ, ◌+◌, ◌≤◌, ◌^◌, nat_le, nat_lt, ◌&&◌, Bool, true, false, ◌||◌, not, cond, if◌then◌else◌}
+use Rattle.std.specs.Prelude.{is_some, Option, Some, None, List, [], ◌∷◌, length, Result, Ok, Err}
 use Rattle.std.specs.Str.{bytes_eq}
+use Rattle.ff_digits.specs.Digits.{digits_from}
 use Rattle.ff_time.specs.Duration.{IsDuration}
 use Rattle.ff_frame.specs.declared.config.ConfigError.{ConfigError}
 use Rattle.ff_frame.specs.declared.config.ConfigError.TheVariants.{UnknownOption, BadOption, Pads, Kind, NoMemory}
@@ -31,25 +33,19 @@ option_of manual keyed place None = if nat_lt place manual.places && not keyed t
 -- one argument: no such option, or a value that it doesn't take, or settings from which the others go on
 abbrev pub IsReadBy : {S : Type 0} → Manual S → S → List ℕ → (S → Result S ConfigError → Type 0) → Option ℕ → Result S ConfigError → Type 0
 IsReadBy manual s value others None r = r ≡ Err UnknownOption
-IsReadBy {S} manual s value others (Some option) r = ((t : S) × manual.Sets s option value t × others t r) ⊎ (((t : S) → manual.Sets s option value t → ⊥) × (r ≡ Err BadOption))
+IsReadBy {S} manual s value others (Some option) r =
+    ((t : S) × manual.Sets s option value t × others t r) ⊎ (((t : S) → manual.Sets s option value t → ⊥) × (r ≡ Err BadOption))
 
 -- The arguments from the one at a place on, in their order: the first that is at fault decides, and of an option that is
 -- given more than once the last value counts. `keyed` says that one before them had a key.
 abbrev pub AreRead : {S : Type 0} → Manual S → Bool → ℕ → S → List Arg → Result S ConfigError → Type 0
 AreRead manual keyed place s [] r = r ≡ Ok s
-AreRead manual keyed place s (a ∷ others) r = IsReadBy manual s a.value (λ t. AreRead manual (keyed || is_some a.key) (place + 1) t others) (option_of manual keyed place a.key) r
+AreRead manual keyed place s (a ∷ others) r =
+    IsReadBy manual s a.value (λ t. AreRead manual (keyed || is_some a.key) (place + 1) t others) (option_of manual keyed place a.key) r
 
 -- a time of at most 10^15 microseconds
 abbrev pub IsTime : List ℕ → ℕ → Type 0
 IsTime text us = IsDuration text us × (us ≤ 10 ^ 15)
-
-abbrev pub is_digit : ℕ → Bool
-is_digit b = nat_le 48 b && nat_le b 57
-
--- the number that digits write behind those of n
-abbrev pub digits_from : ℕ → List ℕ → Option ℕ
-digits_from n [] = Some n
-digits_from n (b ∷ bs) = if is_digit b then digits_from (10 * n + (b - 48)) bs else None
 
 -- a whole number of 1 to so many digits
 abbrev pub number_of : ℕ → List ℕ → Option ℕ
@@ -88,7 +84,8 @@ AfterSet makes (Ok p) r = makes p.0 p.1 r
 AfterSet makes (Err e) r = r ≡ Err e
 
 -- a filter of one input by its arguments
-abbrev pub IsConfigured : {S X : Type 0} → (StreamHead → Bool) → Manual S → S → (StreamHead → S → Result X ConfigError → Type 0) → List Arg → List StreamHead → Result X ConfigError → Type 0
+abbrev pub IsConfigured : {S X : Type 0} → (StreamHead → Bool) → Manual S → S → (StreamHead → S → Result X ConfigError → Type 0) → List Arg → List StreamHead
+    → Result X ConfigError → Type 0
 IsConfigured {S} wanted manual s makes args heads r = (q : Result (StreamHead × S) ConfigError) × AreSet wanted manual s args heads q × AfterSet makes q r
 
 -- A machine that is configured so and shown as its function before anything was fed, and the head of its output

@@ -1,7 +1,8 @@
 //! The reading of a filter's arguments, and the checks of its input's head.
 ghost use Rattle.std.specs.Prelude.{◌≡◌, ◌↔◌, ◌<◌, ◌≤◌, ◌^◌, ℕ, length, IfSome, IsNone, Some, false};
-ghost use Rattle.ff_filter.specs.Options.{Manual, named, option_of as option_at, AreRead, IsTime, digits_from, number_of, only_head, is_sound, is_video, AreSet};
+ghost use Rattle.ff_filter.specs.Options.{Manual, named, option_of as option_at, AreRead, IsTime, number_of, only_head, is_sound, is_video, AreSet};
 
+use ff_digits::digits;
 use ff_frame::{ConfigError, StreamHead};
 use ff_lang::Arg;
 use ff_time::read_duration;
@@ -72,22 +73,6 @@ pub fn read_time(text: &str) -> Option<u64>
         Ok(us) => Some(us),
         Err(_) => None,
     }
-}
-
-// The number that at most ten digits write.
-fn digits(bytes: &[u8]) -> Option<u64>
-    requires { length bytes.now ≤ 10 }
-    ensures value { result ≡ digits_from 0 bytes.now }
-    ensures few { IfSome result (λ n. n < 10 ^ 10) }
-{
-    let mut value: u64 = 0;
-    'digits: for i in 0..bytes.len() {
-        if bytes[i] < b'0' || bytes[i] > b'9' {
-            return None;
-        }
-        value = 10 * value + (bytes[i] - b'0') as u64;
-    }
-    Some(value)
 }
 
 /// A whole number of 1 to `most` digits.

@@ -1,5 +1,5 @@
 -- Numbers in parameters.
-use Rattle.std.proofs.Common.{ℤ, pos, negsuc, w64, to_z, of_z, to_z-of_z, ◌≡◌, ◌≢◌, ℕ, zero, suc, ◌+◌, ◌-◌, ◌*◌, ◌%◌, ◌^◌, ◌<◌, ◌≤◌, ◌⊎◌, inl, inr, Bool, true, false, cond, List, [], ◌∷◌, drop, length, Option, Some, None, refl, sym, ap, ◌∙◌, subst, arith, get_or}
+use Rattle.std.proofs.Common.{ℤ, pos, negsuc, w64, to_z, of_z, to_z-of_z, ◌≡◌, ◌≢◌, ℕ, zero, suc, ◌+◌, ◌%◌, ◌^◌, ◌<◌, ◌≤◌, ◌⊎◌, inl, inr, Bool, true, false, cond, List, [], ◌∷◌, drop, length, Option, Some, None, refl, sym, ap, ◌∙◌, subst, arith, get_or}
 use Rattle.std.specs.Prelude.{nat_lt, ◌==◌, ◌&&◌, ◌||◌, ◌↔◌, Result, Ok, Err, IsErrOf, IfErr}
 use Rattle.std.specs.Option.{option_map}
 use Rattle.std.specs.Int.{IsGcd}
@@ -14,37 +14,14 @@ use Rattle.ff_time.specs.Fraction.{Fraction, IsBase, IsReduced, IsLowestOf, IsBe
 use Rattle.ff_time.specs.declared.error.TimeError.{TimeError}
 use Rattle.ff_time.specs.declared.error.TimeError.TheVariants.{NotPositive, TooBig}
 use Rattle.ff_time.proofs.Lowest.{reduced_lem, IsReduced-num, IsReduced-den, IsReduced-base}
-use Rattle.ff_y4m.specs.Numbers.{is_digit, digits_from, first_place, euclid, lowest, base_of, IsBaseOf}
+use Rattle.ff_digits.specs.Digits.{is_digit}
+use Rattle.ff_y4m.specs.Numbers.{first_place, euclid, lowest, base_of, IsBaseOf}
 use Rattle.ff_y4m.proofs.LineLaws.{moved}
 
 -- ---- digits
 
-digit_step : (n i : ℕ) (bs : List ℕ) → i < length bs → digits_from n (drop i bs) ≡ cond (is_digit (get_or bs i 0)) (digits_from (10 * n + (get_or bs i 0 - 48)) (drop (suc i) bs)) None
-digit_step n i [] lt = absurd (omega arith)
-digit_step n zero (b ∷ bs) lt = refl
-digit_step n (suc i) (b ∷ bs) lt = digit_step n i bs (omega arith)
-
 pub digit_yes : (b : ℕ) → 48 ≤ b → b ≤ 57 → is_digit b ≡ true
 digit_yes b p q = grind (arith, nat_tests)
-
-digit_no : (b : ℕ) → (b < 48) ⊎ (57 < b) → is_digit b ≡ false
-digit_no b (inl p) = grind (arith, nat_tests)
-digit_no b (inr p) = grind (arith, nat_tests)
-
--- one digit more
-pub more_digits : (n i : ℕ) (bs : List ℕ) → i < length bs → 48 ≤ get_or bs i 0 → get_or bs i 0 ≤ 57 → digits_from n (drop i bs) ≡ digits_from 0 bs
-    → digits_from (10 * n + (get_or bs i 0 - 48)) (drop (i + 1) bs) ≡ digits_from 0 bs
-more_digits n i bs lt p q h =
-    let k : i + 1 ≡ suc i = omega arith in
-    rw k (sym (digit_step n i bs lt ∙ ap (λ t. cond t (digits_from (10 * n + (get_or bs i 0 - 48)) (drop (suc i) bs)) None) (digit_yes (get_or bs i 0) p q)) ∙ h)
-
--- another byte
-pub no_digit : (n i : ℕ) (bs : List ℕ) → i < length bs → (get_or bs i 0 < 48) ⊎ (57 < get_or bs i 0) → digits_from n (drop i bs) ≡ digits_from 0 bs → None ≡ digits_from 0 bs
-no_digit n i bs lt p h = sym (digit_step n i bs lt ∙ ap (λ t. cond t (digits_from (10 * n + (get_or bs i 0 - 48)) (drop (suc i) bs)) None) (digit_no (get_or bs i 0) p)) ∙ h
-
--- all were read
-pub all_digits : (n i : ℕ) (bs : List ℕ) → length bs ≤ i → digits_from n (drop i bs) ≡ digits_from 0 bs → Some n ≡ digits_from 0 bs
-all_digits n i bs le h = sym (ap (digits_from n) (drop_all i bs le)) ∙ h
 
 -- ---- places
 

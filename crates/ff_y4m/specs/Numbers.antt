@@ -1,15 +1,9 @@
 -- Numbers in parameters.
-use Rattle.std.specs.Prelude.{◌≡◌, ◌↔◌, ℕ, zero, suc, ◌+◌, ◌-◌, ◌*◌, ◌%◌, ◌/◌, ◌^◌, ◌==◌, ◌&&◌, ◌||◌, nat_le, nat_lt, Bool, if◌then◌else◌, List, [], ◌∷◌, take, drop, length, Option, Some, None, pos}
+use Rattle.std.specs.Prelude.{◌≡◌, ◌↔◌, ℕ, zero, suc, ◌+◌, ◌%◌, ◌/◌, ◌^◌, ◌==◌, ◌&&◌, ◌||◌, nat_le, nat_lt}
+use Rattle.std.specs.Prelude.{if◌then◌else◌, List, [], ◌∷◌, take, drop, length, Option, Some, None, pos}
 use Rattle.std.specs.Option.{option_map}
+use Rattle.ff_digits.specs.Digits.{digits_from}
 use Rattle.ff_time.specs.Fraction.{Fraction, IsBase, IsLowestOf}
-
-abbrev pub is_digit : ℕ → Bool
-is_digit b = nat_le 48 b && nat_le b 57
-
--- the number that digits write behind those of n
-abbrev pub digits_from : ℕ → List ℕ → Option ℕ
-digits_from n [] = Some n
-digits_from n (b ∷ bs) = if is_digit b then digits_from (10 * n + (b - 48)) bs else None
 
 -- a whole number has 1 to 10 digits
 unfoldable pub whole : List ℕ → Option ℕ

@@ -1,24 +1,9 @@
 //! The numbers in parameters.
 ghost use Rattle.std.specs.Prelude.{◌≡◌, ◌≤◌, ◌<◌, ◌^◌, length, take, drop, IfSome, pos, ℕ};
-ghost use Rattle.ff_y4m.specs.Numbers.{digits_from, whole as whole_number, first_place, pair as pair_of, base_of};
+ghost use Rattle.ff_y4m.specs.Numbers.{whole as whole_number, first_place, pair as pair_of, base_of};
 
+use ff_digits::digits;
 use ff_time::Rational;
-
-// The number that at most ten digits write.
-fn digits(bytes: &[u8]) -> Option<u64>
-    requires { length bytes.now ≤ 10 }
-    ensures value { result ≡ digits_from 0 bytes.now }
-    ensures few { IfSome result (λ n. n < 10 ^ 10) }
-{
-    let mut value: u64 = 0;
-    'digits: for i in 0..bytes.len() {
-        if bytes[i] < b'0' || bytes[i] > b'9' {
-            return None;
-        }
-        value = 10 * value + (bytes[i] - b'0') as u64;
-    }
-    Some(value)
-}
 
 /// A whole number of 1 to 10 digits.
 #[tactic(auto, unfolding(crate::specs::Numbers::whole))]
