@@ -13,8 +13,10 @@ mod parameter;
 mod quotients;
 mod span;
 mod write;
+mod zigzag;
 
 pub use coding::{Found, best_coding, coding_below};
 pub use floor::least_bits;
 pub use laws::{codings_are_read_back, least_is_the_first_of_the_lowest};
 pub use write::write_residual;
+pub(crate) use zigzag::zigzag_of;

@@ -9,6 +9,7 @@ ghost use Rattle.ff_bits.specs.Integers.{unsigned};
 ghost use Rattle.ff_frame.specs.Audio.{FitsBits};
 ghost use Rattle.ff_flac_subframe.specs.Subframe.{steps, rest_of, magnitude, sample_bits, all_are, first_or_zero};
 
+use crate::rice::zigzag_of;
 use ff_bits::BitWriter;
 use std::alloc::{AllocError, Global};
 
@@ -39,14 +40,6 @@ pub fn take_steps(xs: &mut Vec<i32>)
     let count = xs.len();
     step_each(xs);
     xs.truncate(count.saturating_sub(1));
-}
-
-fn zigzag_of(x: i32) -> u32
-    requires { magnitude x < 2 ^ 30 }
-    ensures { result ≡ zigzagged x }
-{
-    let twice = 2 * x;
-    twice.max(-1 - twice) as u32
 }
 
 /// The greatest of the numbers that stand for samples.

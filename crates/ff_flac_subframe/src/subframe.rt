@@ -391,7 +391,8 @@ pub fn write_subframe(
     requires depth { 0 < depth }
     requires within { depth ≤ 25 }
     requires fits { All (FitsBits depth) samples.now }
-    ensures { OnOk result ((s : Spelling) × (least (size depth samples.now) (candidates samples.now) ≡ Some s) × (out.new ≡ out.old ++ subframe_bits depth samples.now s)) }
+    ensures { OnOk result ((s : Spelling) × (least (size depth samples.now) (candidates samples.now) ≡ Some s)
+        × (out.new ≡ out.old ++ subframe_bits depth samples.now s)) }
 {
     let best = plan_of(alloc, samples, depth)?;
     write_plan(alloc, out, samples, depth, best.plan)?;

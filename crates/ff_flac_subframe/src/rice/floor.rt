@@ -5,15 +5,7 @@ ghost use Rattle.std.specs.List.{AllByRecursion, sum_by};
 ghost use Rattle.ff_flac_subframe.specs.rice.Rice.{zigzagged, part_cost, residual_bits, codings};
 
 use crate::rice::coding::finest_order;
-
-/// The number from 0 on that stands for a value.
-fn zigzag_of(x: i32) -> u32
-    requires { zigzagged x < 2 ^ 27 }
-    ensures { result ≡ zigzagged x }
-{
-    let twice = 2 * x;
-    twice.max(-1 - twice) as u32
-}
+use crate::rice::zigzag::zigzag_of;
 
 /// The sum of the zigzag numbers of 16 values.
 // Inlined, the loop over the partitions becomes one over lanes that are gathered one by one.

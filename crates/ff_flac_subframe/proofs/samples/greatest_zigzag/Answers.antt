@@ -1,4 +1,4 @@
-use Rattle.std.proofs.Common.{◌≡◌, ℕ, ◌<◌, ◌≤◌, ◌^◌, ℤ, pos, get_or, take, sym, ap, ◌∙◌, arith, rules, w32}
+use Rattle.std.proofs.Common.{◌≡◌, ℕ, ◌<◌, ◌≤◌, ◌^◌, ℤ, pos, get_or, take, sym, ap, subst, ◌∙◌, arith, rules, w32}
 use Rattle.std.specs.Prelude.{FitsSigned}
 use Rattle.std.proofs.lemmas.Int.{to_z-of_z}
 use Rattle.std.proofs.lemmas.List.{take_all}
@@ -7,6 +7,14 @@ use Rattle.ff_flac_subframe.specs.rice.Rice.{zigzagged}
 use Rattle.ff_flac_subframe.specs.Subframe.{magnitude}
 use Rattle.ff_flac_subframe.proofs.Predict.{zigzag_small}
 use Rattle.ff_flac_subframe.proofs.samples.greatest_zigzag.Goals as goal
+
+pub zigzag_of-requires : goal.zigzag_of-requires
+zigzag_of-requires c =
+    let x : ℤ = get_or c.args.xs.now c.loop-x.x-index (pos 0) in
+    let fits : FitsSigned w32 x = search rules in
+    let small : magnitude x < 2 ^ 24 = c.requires c.loop-x.x-index (pos 0) (omega arith) in
+    let below : zigzagged x < 2 ^ 31 = omega (arith, zigzag_small (2 ^ 24) x small) in
+    subst (λ z. zigzagged z < 2 ^ 31) (sym (to_z-of_z w32 x fits)) below
 
 pub loop-x-preserved : goal.loop-x-preserved
 loop-x-preserved c =

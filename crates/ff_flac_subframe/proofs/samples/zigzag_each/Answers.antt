@@ -1,14 +1,15 @@
-use Rattle.std.proofs.Common.{◌<◌, ◌^◌, ℤ, ap, sym, ◌∙◌, subst, arith, map}
+use Rattle.std.proofs.Common.{◌<◌, ◌*◌, ◌^◌, ℤ, ap, sym, ◌∙◌, subst, arith, map}
 use Rattle.std.proofs.lemmas.List.{length-set, take_all}
 use Rattle.ff_flac_subframe.specs.rice.Rice.{zigzagged}
-use Rattle.ff_flac_subframe.specs.Subframe.{rest_of, magnitude}
-use Rattle.ff_flac_subframe.proofs.Predict.{magnitude_wide, wide_same, length-rest_of, zigzags_more}
+use Rattle.ff_flac_subframe.specs.Subframe.{rest_of}
+use Rattle.ff_flac_subframe.proofs.Predict.{magnitude_wide, wide_same, length-rest_of, zigzag_small, zigzags_more}
 use Rattle.ff_flac_subframe.proofs.samples.zigzag_each.Goals as goal
 
 pub zigzag_of-requires : goal.zigzag_of-requires
 zigzag_of-requires c =
     let r : ℤ = c.residual_of.result in
-    subst (λ z. magnitude z < 2 ^ 30) (sym (wide_same r c.residual_of.ensures.wide)) (magnitude_wide r c.residual_of.ensures.wide)
+    let small : zigzagged r < 2 * 2 ^ 30 = zigzag_small (2 ^ 30) r (magnitude_wide r c.residual_of.ensures.wide) in
+    subst (λ z. zigzagged z < 2 ^ 31) (sym (wide_same r c.residual_of.ensures.wide)) (omega (arith, small))
 
 pub loop-i-preserved : goal.loop-i-preserved
 loop-i-preserved c =
