@@ -79,8 +79,8 @@ impl Range {
     ghost use Rattle.ff_frame.specs.Heads.{base_of_head};
     ghost use Rattle.ff_filter.specs.Ranges.{IsRange, IsStop, IsCeiling, is_past as past};
 
-    // The least number of ticks that is at least so many microseconds.
-    fn ceiling(us: u64, tb: Rational) -> u64
+    /// The least number of ticks that is at least so many microseconds.
+    pub fn ceiling(us: u64, tb: Rational) -> u64
         requires near { us ≤ 10 ^ 15 }
         ensures is { IsCeiling us tb result }
         ensures near { result < 2 ^ 63 }

@@ -1,6 +1,5 @@
 //! The arguments of `color`.
 ghost use Rattle.std.specs.Prelude.{◌≡◌, ◌<◌, ◌^◌, IfSome, IsNone};
-ghost use Rattle.ff_vfilter.specs.Sizes.{is_side as is_a_side};
 ghost use Rattle.ff_source.specs.ColorOptions.{size_of, made_color, MakesColor};
 
 use crate::base::one_over;
@@ -10,7 +9,7 @@ use crate::made::Made;
 use ff_filter::{Settings, read_number};
 use ff_frame::ConfigError;
 use ff_time::Rational;
-use ff_vfilter::FpsSettings;
+use ff_vfilter::{FpsSettings, is_side};
 
 /// The settings of `color`.
 #[derive(Clone, Copy, Debug)]
@@ -165,13 +164,6 @@ impl Settings for ColorSettings {
         }
         self.with_duration(value)
     }
-}
-
-// 1 to 16,384 columns or rows.
-fn is_side(number: u64) -> bool
-    ensures { result ≡ is_a_side number }
-{
-    number >= 1 && number <= 16384
 }
 
 // So many pictures. `BadSize` where a size is 0 or above 16,384.

@@ -3,8 +3,8 @@ ghost use Rattle.std.specs.Prelude.{◌<◌, ◌≤◌, ◌^◌, ℕ, IfSome, Is
 ghost use Rattle.ff_filter.specs.Options.{IsTime};
 ghost use Rattle.ff_filter.specs.Ranges.{IsCeiling};
 
-use ff_filter::read_time;
-use ff_time::{Rational, ceil_units};
+use ff_filter::{Range, read_time};
+use ff_time::Rational;
 
 /// A duration as an argument says it.
 #[derive(Clone, Copy, Debug)]
@@ -31,7 +31,6 @@ impl Length {
         ensures is { IsCeiling self.us base result }
         ensures near { result < 2 ^ 63 }
     {
-        let ticks = ceil_units(self.us, base);
-        if ticks < 0 { 0 } else { ticks as u64 }
+        Range::ceiling(self.us, base)
     }
 }

@@ -108,7 +108,7 @@ pub(crate) fn y_of(format: Format, given: Option<u64>, place: u64) -> u64
 }
 
 /// 1 to 16,384 columns or rows.
-pub(crate) fn is_side(number: u64) -> bool
+pub fn is_side(number: u64) -> bool
     ensures { result ≡ is_a_side number }
 {
     number >= 1 && number <= 16384
