@@ -69,7 +69,8 @@ Grows f = (rs ss : Ports) → EachBelow rs ss → EachBelow (f rs) (f ss)
 abbrev pub HidesBreaks : (Ports → Ports) → Type 0
 HidesBreaks f = (rs : Ports) → EachBelow (all_opened (f rs)) (f (all_opened rs))
 
-joined_at-assoc : (xs : List Item) (m : Mark) (ys : List Item) (n : Mark) (t : Flow) → joined (joined_at xs m (record { items = ys; mark = n })) t ≡ joined_at xs m (joined_at ys n t)
+joined_at-assoc : (xs : List Item) (m : Mark) (ys : List Item) (n : Mark) (t : Flow)
+    → joined (joined_at xs m (record { items = ys; mark = n })) t ≡ joined_at xs m (joined_at ys n t)
 joined_at-assoc xs still_open ys still_open t = ap (λ (zs : List Item). let r : Flow = record { items = zs; mark = t.mark } in r) (append_assoc xs ys t.items)
 joined_at-assoc xs still_open ys whole t = refl
 joined_at-assoc xs still_open ys broken t = refl
@@ -126,7 +127,8 @@ pub grows_after : (f g : Ports → Ports) → Grows f → Grows g → Grows (λ 
 grows_after f g mf mg rs ss h = mg (f rs) (f ss) (mf rs ss h)
 
 pub hides_after : (f g : Ports → Ports) → HidesBreaks f → HidesBreaks g → Grows g → HidesBreaks (λ ss. g (f ss))
-hides_after f g cf cg mg rs p = below_trans (opened (g (f rs) p)) (g (all_opened (f rs)) p) (g (f (all_opened rs)) p) (cg (f rs) p) (mg (all_opened (f rs)) (f (all_opened rs)) (cf rs) p)
+hides_after f g cf cg mg rs p = below_trans (opened (g (f rs) p)) (g (all_opened (f rs)) p) (g (f (all_opened rs)) p) (cg (f rs) p)
+    (mg (all_opened (f rs)) (f (all_opened rs)) (cf rs) p)
 
 opened_joined_at : (xs : List Item) (m : Mark) (s t : Flow) → LiesBelow (opened s) t → LiesBelow (opened (joined_at xs m s)) (joined_at xs m t)
 opened_joined_at xs still_open s t h = joined_at-keeps xs still_open (opened s) t h

@@ -20,10 +20,12 @@ module _ (passes : ℕ → Item → Bool) (n : ℕ) (runs : Flow → Flow) where
   pub limited-breaks : runs (one Broken) ≡ one Broken → limited passes n (runs (one Broken)) ≡ one Broken
   limited-breaks e = ap (λ (s : Flow). limited passes n s) e
 
-  pub limited-below : ((r s : Flow) → LiesBelow r s → LiesBelow (runs r) (runs s)) → (r s : Flow) → LiesBelow r s → LiesBelow (limited passes n (runs r)) (limited passes n (runs s))
+  pub limited-below : ((r s : Flow) → LiesBelow r s → LiesBelow (runs r) (runs s)) → (r s : Flow) → LiesBelow r s
+      → LiesBelow (limited passes n (runs r)) (limited passes n (runs s))
   limited-below below r s h = run_below (limit_step passes) no_more n (runs r) (runs s) (below r s h)
 
-  pub limited-calm : ((r : Flow) → LiesBelow (opened (runs r)) (runs (opened r))) → (r : Flow) → LiesBelow (opened (limited passes n (runs r))) (limited passes n (runs (opened r)))
+  pub limited-calm : ((r : Flow) → LiesBelow (opened (runs r)) (runs (opened r))) → (r : Flow)
+      → LiesBelow (opened (limited passes n (runs r))) (limited passes n (runs (opened r)))
   limited-calm calm r = below_trans (opened (limited passes n (runs r))) (limited passes n (opened (runs r))) (limited passes n (runs (opened r)))
       (run_calm (limit_step passes) no_more n (runs r)) (run_below (limit_step passes) no_more n (opened (runs r)) (runs (opened r)) (calm r))
 

@@ -38,9 +38,15 @@ pub run_on : {S : Type 0} (step : S → Item → Stepped S) (finish : S → List
 run_on step finish s [] still_open t = refl
 run_on step finish s [] whole t = refl
 run_on step finish s [] broken t = refl
-run_on step finish s (x ∷ xs) still_open t = ap (λ (r : Flow). joined (step s x).made r) (run_on step finish (step s x).next xs still_open t) ∙ sym (joined_assoc (step s x).made (run_at step finish (step s x).next xs still_open) (rest_of step finish (step s x).next xs still_open t))
-run_on step finish s (x ∷ xs) whole t = ap (λ (r : Flow). joined (step s x).made r) (run_on step finish (step s x).next xs whole t) ∙ sym (joined_assoc (step s x).made (run_at step finish (step s x).next xs whole) (rest_of step finish (step s x).next xs whole t))
-run_on step finish s (x ∷ xs) broken t = ap (λ (r : Flow). joined (step s x).made r) (run_on step finish (step s x).next xs broken t) ∙ sym (joined_assoc (step s x).made (run_at step finish (step s x).next xs broken) (rest_of step finish (step s x).next xs broken t))
+run_on step finish s (x ∷ xs) still_open t =
+    ap (λ (r : Flow). joined (step s x).made r) (run_on step finish (step s x).next xs still_open t)
+    ∙ sym (joined_assoc (step s x).made (run_at step finish (step s x).next xs still_open) (rest_of step finish (step s x).next xs still_open t))
+run_on step finish s (x ∷ xs) whole t =
+    ap (λ (r : Flow). joined (step s x).made r) (run_on step finish (step s x).next xs whole t)
+    ∙ sym (joined_assoc (step s x).made (run_at step finish (step s x).next xs whole) (rest_of step finish (step s x).next xs whole t))
+run_on step finish s (x ∷ xs) broken t =
+    ap (λ (r : Flow). joined (step s x).made r) (run_on step finish (step s x).next xs broken t)
+    ∙ sym (joined_assoc (step s x).made (run_at step finish (step s x).next xs broken) (rest_of step finish (step s x).next xs broken t))
 
 -- the same as a function of ports, with one input and one output
 abbrev pub run_ports : {S : Type 0} → (S → Item → Stepped S) → (S → List Item) → S → Ports → Ports
@@ -50,7 +56,8 @@ pub run-grows : {S : Type 0} (step : S → Item → Stepped S) (finish : S → L
 run-grows step finish s = grows_by_rest (run_ports step finish s)
     (λ rs ts q. (rest_of step finish s (rs 0).items (rs 0).mark (ts 0), run_on step finish s (rs 0).items (rs 0).mark (ts 0)))
 
-pub run_below : {S : Type 0} (step : S → Item → Stepped S) (finish : S → List Item) (s : S) (q r : Flow) → LiesBelow q r → LiesBelow (run step finish s q) (run step finish s r)
+pub run_below : {S : Type 0} (step : S → Item → Stepped S) (finish : S → List Item) (s : S) (q r : Flow) → LiesBelow q r
+    → LiesBelow (run step finish s q) (run step finish s r)
 run_below step finish s q r h = run-grows step finish s (λ p. q) (λ p. r) (λ p. h) 0
 
 calm_at : {S : Type 0} (step : S → Item → Stepped S) (finish : S → List Item) (s : S) (xs : List Item) (m : Mark)
@@ -58,12 +65,16 @@ calm_at : {S : Type 0} (step : S → Item → Stepped S) (finish : S → List It
 calm_at step finish s [] still_open = below_self nothing
 calm_at step finish s [] whole = inl refl
 calm_at step finish s [] broken = below_self nothing
-calm_at step finish s (x ∷ xs) m = opened_joined (step s x).made (run_at step finish (step s x).next xs m) (run_at step finish (step s x).next xs (opened_mark m)) (calm_at step finish (step s x).next xs m)
+calm_at step finish s (x ∷ xs) m =
+    opened_joined (step s x).made (run_at step finish (step s x).next xs m) (run_at step finish (step s x).next xs (opened_mark m))
+    (calm_at step finish (step s x).next xs m)
 
-pub run_calm : {S : Type 0} (step : S → Item → Stepped S) (finish : S → List Item) (s : S) (r : Flow) → LiesBelow (opened (run step finish s r)) (run step finish s (opened r))
+pub run_calm : {S : Type 0} (step : S → Item → Stepped S) (finish : S → List Item) (s : S) (r : Flow)
+    → LiesBelow (opened (run step finish s r)) (run step finish s (opened r))
 run_calm step finish s r = calm_at step finish s r.items r.mark
 
-closed_at : {S : Type 0} (step : S → Item → Stepped S) (finish : S → List Item) (s : S) (xs : List Item) (m : Mark) → m ≢ still_open → IsClosed (run_at step finish s xs m)
+closed_at : {S : Type 0} (step : S → Item → Stepped S) (finish : S → List Item) (s : S) (xs : List Item) (m : Mark) → m ≢ still_open
+    → IsClosed (run_at step finish s xs m)
 closed_at step finish s [] still_open c = absurd (c refl)
 closed_at step finish s [] whole c = c
 closed_at step finish s [] broken c = c

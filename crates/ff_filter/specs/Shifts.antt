@@ -41,8 +41,11 @@ first_prefix None [] ys p = (from_first None ys, refl)
 first_prefix None (x ∷ xs) [] p = let clash : (x ∷ xs) ++ p.0 ≡ [] = p.1 in cc
 first_prefix None (x ∷ xs) (y ∷ ys) p =
     let same : (x ∷ xs) ++ p.0 ≡ y ∷ ys = p.1 in
-    let first : x ≡ y = cc in
-    (map (earlier (start_ticks x)) p.0, sym (map-append (earlier (start_ticks x)) (x ∷ xs) p.0) ∙ (ap (λ (zs : List Item). map (earlier (start_ticks x)) zs) same ∙ ap (λ (z : Item). map (earlier (start_ticks z)) (y ∷ ys)) first))
+    let first : x ≡ y = cc in (
+      map (earlier (start_ticks x)) p.0,
+      sym (map-append (earlier (start_ticks x)) (x ∷ xs) p.0)
+          ∙ (ap (λ (zs : List Item). map (earlier (start_ticks x)) zs) same ∙ ap (λ (z : Item). map (earlier (start_ticks z)) (y ∷ ys)) first),
+    )
 
 pub shifted-below : (first : Option ℕ) (r s : Flow) → LiesBelow r s → LiesBelow (shifted first r) (shifted first s)
 shifted-below first r s (inl e) = inl (ap (λ (x : Flow). shifted first x) e)
@@ -61,7 +64,8 @@ known_first (Some t) x = t
 known_first None x = start_ticks x
 
 -- the next item, and then the others
-pub shifted-next : (first : Option ℕ) (x : Item) (t : Flow) → closes x ≡ false → shifted first (before x t) ≡ joined (made_of (Some (earlier (known_first first x) x)) More) (shifted (Some (known_first first x)) t)
+pub shifted-next : (first : Option ℕ) (x : Item) (t : Flow) → closes x ≡ false
+    → shifted first (before x t) ≡ joined (made_of (Some (earlier (known_first first x) x)) More) (shifted (Some (known_first first x)) t)
 shifted-next None (Audio f) t c = refl
 shifted-next None (Video f) t c = refl
 shifted-next None (Packet f) t c = refl

@@ -18,4 +18,5 @@ single_view lane head f after = stepper_view lane (Frames head) (λ s. within (p
 
 pub single_is : (lane : Lane) (head : StreamHead) (f : Flow → Flow) (after : After)
     → stepper_view lane (Frames head) (λ s. limited (passes_limits (Frames head)) 0 (f s)) [] false false after false ≡ single_view lane head f after
-single_is lane head f after = ap (λ (g : Flow → Flow). stepper_view lane (Frames head) g [] false false after false) (λ i s. limited_is (passes_limits (Frames head)) (f s) i)
+single_is lane head f after = ap (λ (g : Flow → Flow). stepper_view lane (Frames head) g [] false false after false)
+    (λ i s. limited_is (passes_limits (Frames head)) (f s) i)

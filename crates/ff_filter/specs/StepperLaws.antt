@@ -27,7 +27,8 @@ behind_calm More r s h = h
 behind_calm Whole r s h = below_self (one End)
 behind_calm Broke r s h = nothing_below (one Broken)
 
-pub left_calm : (queue : List Item) (ended : Bool) (after : After) (r s : Flow) → LiesBelow (opened r) s → LiesBelow (opened (left queue ended after r)) (left queue ended after s)
+pub left_calm : (queue : List Item) (ended : Bool) (after : After) (r s : Flow) → LiesBelow (opened r) s
+    → LiesBelow (opened (left queue ended after r)) (left queue ended after s)
 left_calm queue true after r s h = below_self nothing
 left_calm queue false after r s h = before_all-opened queue (behind after r) (behind after s) (behind_calm after r s h)
 
@@ -38,7 +39,8 @@ behind_closed Whole t h = λ e. cc
 behind_closed Broke t h = λ e. cc
 
 -- an output closes where the stream behind it does
-pub left_closed : (queue : List Item) (ended : Bool) (after : After) (t : Flow) → (is_over after ≡ true) ⊎ IsClosed t → (ended ≡ true) ⊎ IsClosed (left queue ended after t)
+pub left_closed : (queue : List Item) (ended : Bool) (after : After) (t : Flow) → (is_over after ≡ true) ⊎ IsClosed t
+    → (ended ≡ true) ⊎ IsClosed (left queue ended after t)
 left_closed queue true after t h = inl refl
 left_closed queue false after t h = inr (before_all-closed queue (behind after t) (behind_closed after t h))
 
@@ -96,7 +98,8 @@ module _ (lane_in lane_out : Lane) (runs : Flow → Flow) (queue : List Item) (e
   pub stepper-hides : ((r : Flow) → LiesBelow (opened (runs r)) (runs (opened r))) → HidesBreaks (stepper_view lane_in lane_out runs queue ended stopped after shut).rest
   stepper-hides calm rs q = left_calm queue ended after (runs (rs 0)) (runs (opened (rs 0))) (calm (rs 0))
 
-  pub stepper-settles : (not shut || is_over after) ≡ true → ((r : Flow) → IsClosed r → IsClosed (runs r)) → Settles (stepper_view lane_in lane_out runs queue ended stopped after shut)
+  pub stepper-settles : (not shut || is_over after) ≡ true → ((r : Flow) → IsClosed r → IsClosed (runs r))
+      → Settles (stepper_view lane_in lane_out runs queue ended stopped after shut)
   stepper-settles tied settles ext h q lt on = left_closed queue ended after (runs (ext 0))
       (elim (h 0 (omega arith)) as (λ _. (is_over after ≡ true) ⊎ IsClosed (runs (ext 0))) [ inl e ↦ inl (over_by shut after tied e) | inr c ↦ inr (settles (ext 0) c) ])
 
@@ -105,16 +108,23 @@ module _ (lane_in lane_out : Lane) (runs : Flow → Flow) (queue : List Item) (e
     omega arith,
     λ q lt on. elim (or_one stopped (ended || is_over after) e) as (λ _. IsOver (stepper_view lane_in lane_out runs queue ended stopped after shut) q) [
       | inl s ↦ (let clash : true ≡ false = sym s ∙ on in cc)
-      | inr m ↦ elim (or_one ended (is_over after) m) as (λ _. IsOver (stepper_view lane_in lane_out runs queue ended stopped after shut) q) [ inl d ↦ inl d | inr o ↦ left_closed queue ended after (runs nothing) (inl o) ]
+      | inr m ↦ elim (or_one ended (is_over after) m) as (λ _. IsOver (stepper_view lane_in lane_out runs queue ended stopped after shut) q) [
+        | inl d ↦ inl d
+        | inr o ↦ left_closed queue ended after (runs nothing) (inl o)
+      ]
     ],
   )
 
   pub stepper-done : AllDone (stepper_view lane_in lane_out runs queue ended stopped after shut) → steps_spent after ended stopped ≡ true
-  stepper-done d = elim (d 0 (omega arith)) [ inl e ↦ or_right stopped (ended || is_over after) (or_left ended (is_over after) e) | inr e ↦ or_left stopped (ended || is_over after) e ]
+  stepper-done d = elim (d 0 (omega arith)) [
+    | inl e ↦ or_right stopped (ended || is_over after) (or_left ended (is_over after) e)
+    | inr e ↦ or_left stopped (ended || is_over after) e
+  ]
 
 pub stepper-shut : (after : After) (ended stopped shut : Bool) → (not shut || is_over after) ≡ true → shut ≡ true → steps_spent after ended stopped ≡ true
 stepper-shut after ended stopped shut tied e = or_right stopped (ended || is_over after) (or_right ended (is_over after) (over_by shut after tied e))
 
-pub stepper-quiet : (runs : Flow → Flow) (queue : List Item) (ended : Bool) (after : After) → ended ≡ true → (ext : Ports) → left queue ended after (runs (ext 0)) ≡ nothing
+pub stepper-quiet : (runs : Flow → Flow) (queue : List Item) (ended : Bool) (after : After) → ended ≡ true → (ext : Ports)
+    → left queue ended after (runs (ext 0)) ≡ nothing
 stepper-quiet runs queue true after e ext = refl
 stepper-quiet runs queue false after e ext = cc

@@ -95,7 +95,8 @@ IsSpent v p = (v.shut p ≡ true) ⊎ ((0 < length v.outs) × ((q : ℕ) → q <
 
 -- where no more comes on any input, each output closes
 abbrev pub Settles : View → Type 0
-Settles v = (ext : Ports) → ((p : ℕ) → p < length v.ins → (v.shut p ≡ true) ⊎ IsClosed (ext p)) → (q : ℕ) → q < length v.outs → v.stopped q ≡ false → (v.ended q ≡ true) ⊎ IsClosed (v.rest ext q)
+Settles v = (ext : Ports) → ((p : ℕ) → p < length v.ins → (v.shut p ≡ true) ⊎ IsClosed (ext p)) → (q : ℕ) → q < length v.outs → v.stopped q ≡ false
+    → (v.ended q ≡ true) ⊎ IsClosed (v.rest ext q)
 
 -- each output was closed, or isn't wanted
 abbrev pub AllDone : View → Type 0

@@ -79,8 +79,11 @@ impl Outlet {
 
     /// The next item, or the closing one where nothing waits and the stream stands so.
     pub fn take(&mut self, after: After) -> Option<Item>
-        ensures gives { (x : Item) → result ≡ Some x → (self.old.ended ≡ false) × ((t : Flow) → left self.old.queue.items self.old.ended after t ≡ before x (left self.new.queue.items self.new.ended after t)) × (self.new.ended ≡ closes x) }
-        ensures waits { result ≡ None → ((t : Flow) → left self.new.queue.items self.new.ended after t ≡ left self.old.queue.items self.old.ended after t) × (left self.old.queue.items self.old.ended after nothing ≡ nothing) × (self.new.ended ≡ self.old.ended) }
+        ensures gives { (x : Item) → result ≡ Some x
+            → (self.old.ended ≡ false) × ((t : Flow) → left self.old.queue.items self.old.ended after t ≡ before x (left self.new.queue.items self.new.ended after t))
+            × (self.new.ended ≡ closes x) }
+        ensures waits { result ≡ None → ((t : Flow) → left self.new.queue.items self.new.ended after t ≡ left self.old.queue.items self.old.ended after t)
+            × (left self.old.queue.items self.old.ended after nothing ≡ nothing) × (self.new.ended ≡ self.old.ended) }
         ensures stopped { self.new.stopped ≡ self.old.stopped }
     {
         if self.ended {

@@ -28,7 +28,8 @@ pub struct Stepper<T> {
 impl<T: Step> Stepper<T> {
     /// Nothing was fed yet; the output stands so from the start.
     pub fn new(alloc: Global, step: T, after: After) -> Stepper<T>
-        ensures view { stepper_view (T.lane_in result.step) (T.lane_out result.step) (T.runs result.step) result.outlet.queue.items result.outlet.ended result.outlet.stopped result.after result.shut
+        ensures view { stepper_view (T.lane_in result.step) (T.lane_out result.step) (T.runs result.step)
+            result.outlet.queue.items result.outlet.ended result.outlet.stopped result.after result.shut
             ≡ stepper_view (T.lane_in step) (T.lane_out step) (T.runs step) [] false false after false }
         ensures step { result.step ≡ step }
     {
@@ -44,7 +45,11 @@ impl<T: Step> Stepper<T> {
     fn close(&mut self, item: Item, after: After)
         requires says { closing item ≡ Some after }
         requires unshut { self.old.shut ≡ false }
-        ensures fed { Fed (stepper_view (T.lane_in self.old.step) (T.lane_out self.old.step) (T.runs self.old.step) self.old.outlet.queue.items self.old.outlet.ended self.old.outlet.stopped self.old.after self.old.shut) (stepper_view (T.lane_in self.new.step) (T.lane_out self.new.step) (T.runs self.new.step) self.new.outlet.queue.items self.new.outlet.ended self.new.outlet.stopped self.new.after self.new.shut) 0 item }
+        ensures fed { Fed
+            (stepper_view (T.lane_in self.old.step) (T.lane_out self.old.step) (T.runs self.old.step)
+            self.old.outlet.queue.items self.old.outlet.ended self.old.outlet.stopped self.old.after self.old.shut)
+            (stepper_view (T.lane_in self.new.step) (T.lane_out self.new.step) (T.runs self.new.step)
+            self.new.outlet.queue.items self.new.outlet.ended self.new.outlet.stopped self.new.after self.new.shut) 0 item }
     {
         discard(item);
         if self.after == After::More {
@@ -58,9 +63,17 @@ impl<T: Step> Stepper<T> {
         requires goes_on { closes item ≡ false }
         requires unshut { self.old.shut ≡ false }
         ensures idle { self.old.outlet.stopped ≡ true → self.new.step ≡ self.old.step }
-        ensures fed { OnOk result (Fed (stepper_view (T.lane_in self.old.step) (T.lane_out self.old.step) (T.runs self.old.step) self.old.outlet.queue.items self.old.outlet.ended self.old.outlet.stopped self.old.after self.old.shut) (stepper_view (T.lane_in self.new.step) (T.lane_out self.new.step) (T.runs self.new.step) self.new.outlet.queue.items self.new.outlet.ended self.new.outlet.stopped self.new.after self.new.shut) 0 item) }
+        ensures fed { OnOk result (Fed
+            (stepper_view (T.lane_in self.old.step) (T.lane_out self.old.step) (T.runs self.old.step)
+            self.old.outlet.queue.items self.old.outlet.ended self.old.outlet.stopped self.old.after self.old.shut)
+            (stepper_view (T.lane_in self.new.step) (T.lane_out self.new.step) (T.runs self.new.step)
+            self.new.outlet.queue.items self.new.outlet.ended self.new.outlet.stopped self.new.after self.new.shut) 0 item) }
         ensures refused { IfErr result (λ r. r.item ≡ item) }
-        ensures unchanged { OnErr result (Same (stepper_view (T.lane_in self.old.step) (T.lane_out self.old.step) (T.runs self.old.step) self.old.outlet.queue.items self.old.outlet.ended self.old.outlet.stopped self.old.after self.old.shut) (stepper_view (T.lane_in self.new.step) (T.lane_out self.new.step) (T.runs self.new.step) self.new.outlet.queue.items self.new.outlet.ended self.new.outlet.stopped self.new.after self.new.shut)) }
+        ensures unchanged { OnErr result (Same
+            (stepper_view (T.lane_in self.old.step) (T.lane_out self.old.step) (T.runs self.old.step)
+            self.old.outlet.queue.items self.old.outlet.ended self.old.outlet.stopped self.old.after self.old.shut)
+            (stepper_view (T.lane_in self.new.step) (T.lane_out self.new.step) (T.runs self.new.step)
+            self.new.outlet.queue.items self.new.outlet.ended self.new.outlet.stopped self.new.after self.new.shut)) }
     {
         if self.outlet.stopped | (self.after != After::More) {
             discard(item);
@@ -82,7 +95,9 @@ impl<T: Step> Stepper<T> {
     /// Whether nothing more of the input can matter. That is exactly where it has closed, or where the output isn't
     /// wanted or is closed by what was fed.
     pub fn is_spent(&self) -> bool
-        ensures exact { IsTrue result ↔ IsSpent (stepper_view (T.lane_in self.now.step) (T.lane_out self.now.step) (T.runs self.now.step) self.now.outlet.queue.items self.now.outlet.ended self.now.outlet.stopped self.now.after self.now.shut) 0 }
+        ensures exact { IsTrue result ↔ IsSpent
+            (stepper_view (T.lane_in self.now.step) (T.lane_out self.now.step) (T.runs self.now.step)
+            self.now.outlet.queue.items self.now.outlet.ended self.now.outlet.stopped self.now.after self.now.shut) 0 }
         ensures is { result ≡ steps_spent self.now.after self.now.outlet.ended self.now.outlet.stopped }
     {
         self.outlet.is_done() | (self.after != After::More)
@@ -132,17 +147,22 @@ impl<T: Step> Filter for Stepper<T> {
         self.is_spent()
     }
 
-    ghost grows = { λ m. stepper-grows (T.lane_in m.step) (T.lane_out m.step) (T.runs m.step) m.outlet.queue.items m.outlet.ended m.outlet.stopped m.after m.shut (T.below m.step) };
+    ghost grows = { λ m. stepper-grows (T.lane_in m.step) (T.lane_out m.step) (T.runs m.step) m.outlet.queue.items m.outlet.ended m.outlet.stopped m.after m.shut
+        (T.below m.step) };
 
-    ghost hides = { λ m. stepper-hides (T.lane_in m.step) (T.lane_out m.step) (T.runs m.step) m.outlet.queue.items m.outlet.ended m.outlet.stopped m.after m.shut (T.calm m.step) };
+    ghost hides = { λ m. stepper-hides (T.lane_in m.step) (T.lane_out m.step) (T.runs m.step) m.outlet.queue.items m.outlet.ended m.outlet.stopped m.after m.shut
+        (T.calm m.step) };
 
-    ghost settles = { λ m. stepper-settles (T.lane_in m.step) (T.lane_out m.step) (T.runs m.step) m.outlet.queue.items m.outlet.ended m.outlet.stopped m.after m.shut m.closed (T.settles m.step) };
+    ghost settles = { λ m. stepper-settles (T.lane_in m.step) (T.lane_out m.step) (T.runs m.step)
+        m.outlet.queue.items m.outlet.ended m.outlet.stopped m.after m.shut m.closed (T.settles m.step) };
 
     ghost quiet = { λ m q. stepper-quiet (T.runs m.step) m.outlet.queue.items m.outlet.ended m.after };
 
-    ghost spent_only = { λ m p lt e. stepper-spent (T.lane_in m.step) (T.lane_out m.step) (T.runs m.step) m.outlet.queue.items m.outlet.ended m.outlet.stopped m.after m.shut p e };
+    ghost spent_only = { λ m p lt e. stepper-spent (T.lane_in m.step) (T.lane_out m.step) (T.runs m.step)
+        m.outlet.queue.items m.outlet.ended m.outlet.stopped m.after m.shut p e };
 
     ghost shut_spent = { λ m p lt e. stepper-shut m.after m.outlet.ended m.outlet.stopped m.shut m.closed e };
 
-    ghost done_spent = { λ m p lt z d. stepper-done (T.lane_in m.step) (T.lane_out m.step) (T.runs m.step) m.outlet.queue.items m.outlet.ended m.outlet.stopped m.after m.shut d };
+    ghost done_spent = { λ m p lt z d. stepper-done (T.lane_in m.step) (T.lane_out m.step) (T.runs m.step)
+        m.outlet.queue.items m.outlet.ended m.outlet.stopped m.after m.shut d };
 }

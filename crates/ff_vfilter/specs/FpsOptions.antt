@@ -29,7 +29,9 @@ both (Some n) (Some d) = Some (n, d)
 
 -- N, or N/D: whole numbers of 1 to 10 digits
 abbrev pub ratio_of : List ℕ → Option (ℕ × ℕ)
-ratio_of text = if nat_lt (position_or_len is_slash text) (length text) then both (number_of 10 (before_first is_slash text)) (number_of 10 (after_first is_slash text)) else over_one (number_of 10 text)
+ratio_of text =
+    if nat_lt (position_or_len is_slash text) (length text) then both (number_of 10 (before_first is_slash text)) (number_of 10 (after_first is_slash text))
+    else over_one (number_of 10 text)
 
 -- `fps` is N or N/D pictures a second; the time base is 1/fps in lowest terms, of two positive numbers of at most 2^31 - 1
 pub record SetsFps (value : List ℕ) (t : FpsSettings) : Type 0 where

@@ -74,7 +74,8 @@ steps_is (suc k) range [] whole = refl
 steps_is (suc k) range [] broken = refl
 steps_is (suc k) range (x ∷ xs) m = at (nat_le range.start (start_ticks x)) refl (steps_is (suc k) range xs m)
   where
-    at : (b : Bool) → nat_le range.start (start_ticks x) ≡ b → run_at lasting_step no_more (range, suc k) xs m ≡ lasting_trimmed range (suc k) (record { items = xs; mark = m })
+    at : (b : Bool) → nat_le range.start (start_ticks x) ≡ b
+        → run_at lasting_step no_more (range, suc k) xs m ≡ lasting_trimmed range (suc k) (record { items = xs; mark = m })
         → joined (first_step b range k x).made (run_at lasting_step no_more (first_step b range k x).next xs m)
         ≡ trimmed (lasting range (suc k) (cond b (Some (start_ticks x)) (first_kept range.start xs))) (record { items = x ∷ xs; mark = m })
     at true e others =
@@ -97,7 +98,8 @@ lasting-settles range k r c = subst (λ (f : Flow → Flow). IsClosed (f r)) (la
 pub lasting-bare : (range : Range) (k : ℕ) (m : Mark) → lasting_trimmed range k (record { items = []; mark = m }) ≡ record { items = []; mark = m }
 lasting-bare range k m = refl
 
-next_is : (range : Range) (k : ℕ) (x : Item) (t : Flow) → closes x ≡ false → lasting_trimmed range k (before x t) ≡ joined (step_at range k x).made (lasting_trimmed (step_at range k x).next.0 (step_at range k x).next.1 t)
+next_is : (range : Range) (k : ℕ) (x : Item) (t : Flow) → closes x ≡ false
+    → lasting_trimmed range k (before x t) ≡ joined (step_at range k x).made (lasting_trimmed (step_at range k x).next.0 (step_at range k x).next.1 t)
 next_is range k x t c =
     subst (λ (f : Flow → Flow). f (before x t) ≡ joined (step_at range k x).made (run lasting_step no_more (step_at range k x).next t)) (lasting-is range k)
     (run_next lasting_step no_more (range, k) x t c)
@@ -105,12 +107,14 @@ next_is range k x t c =
 
 -- with no duration, or once its end is known, it goes on as a trim
 pub lasting_over : (range : Range) (k : ℕ) (x : Item) (item : Option Item) (after : After) → k ≡ 0
-    → ((t : Flow) → trimmed range (before x t) ≡ joined (made_of item after) (trimmed range t)) → (t : Flow) → lasting_trimmed range k (before x t) ≡ joined (made_of item after) (lasting_trimmed range k t)
+    → ((t : Flow) → trimmed range (before x t) ≡ joined (made_of item after) (trimmed range t)) → (t : Flow)
+    → lasting_trimmed range k (before x t) ≡ joined (made_of item after) (lasting_trimmed range k t)
 lasting_over range zero x item after e h t = h t
 lasting_over range (suc k) x item after e h t = cc
 
 -- while none was kept, those before the start aren't given
-pub lasting_skips : (range : Range) (k : ℕ) (x : Item) → closes x ≡ false → k ≢ 0 → nat_le range.start (start_ticks x) ≡ false → (t : Flow) → lasting_trimmed range k (before x t) ≡ joined (made_of None More) (lasting_trimmed range k t)
+pub lasting_skips : (range : Range) (k : ℕ) (x : Item) → closes x ≡ false → k ≢ 0 → nat_le range.start (start_ticks x) ≡ false → (t : Flow)
+    → lasting_trimmed range k (before x t) ≡ joined (made_of None More) (lasting_trimmed range k t)
 lasting_skips range zero x c n late t = absurd (n refl)
 lasting_skips range (suc k) x c n late t = next_is range (suc k) x t c ∙ rw late refl
 
@@ -121,7 +125,8 @@ trimmed_by range new stop e f t = ap (λ (n : ℕ). at n stop) (sym e) ∙ ap (�
     at n o = record { items = from_start n (before_stop o t.items); mark = cond (reaches o t.items) whole t.mark }
 
 -- the first one that starts in time is given, and says where the range stops
-pub lasting_starts : (range new : Range) (k : ℕ) (x : Item) → closes x ≡ false → k ≢ 0 → nat_le range.start (start_ticks x) ≡ true → new.start ≡ range.start → new.stop ≡ Some (later_of range.stop (start_ticks x + k))
+pub lasting_starts : (range new : Range) (k : ℕ) (x : Item) → closes x ≡ false → k ≢ 0 → nat_le range.start (start_ticks x) ≡ true → new.start ≡ range.start
+    → new.stop ≡ Some (later_of range.stop (start_ticks x + k))
     → (t : Flow) → lasting_trimmed range k (before x t) ≡ joined (made_of (Some x) More) (lasting_trimmed new 0 t)
 lasting_starts range new zero x c n late e f t = absurd (n refl)
 lasting_starts range new (suc k) x c n late e f t =

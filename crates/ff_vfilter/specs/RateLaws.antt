@@ -63,31 +63,40 @@ finish s g = shows_to_end s g.picture g.number
 held : Showing → Held
 held m = record { picture = m.picture; number = m.number }
 
-shown_below : (given : StreamHead) (m : Showing) (r s : Flow) → LiesBelow r s → LiesBelow (limited (passes_limits (Frames given)) m.before (still_shown m r)) (limited (passes_limits (Frames given)) m.before (still_shown m s))
+shown_below : (given : StreamHead) (m : Showing) (r s : Flow) → LiesBelow r s
+    → LiesBelow (limited (passes_limits (Frames given)) m.before (still_shown m r)) (limited (passes_limits (Frames given)) m.before (still_shown m s))
 shown_below given m r s h = run_below (limit_step (passes_limits (Frames given))) no_more m.before (still_shown m r) (still_shown m s)
-    (run_below (rate_step m.scale) (λ (g : Held). shows_to_end m.scale g.picture g.number) (record { picture = m.picture; number = m.number }) (ahead_then m.ahead r) (ahead_then m.ahead s) (ahead_below m.ahead r s h))
+    (run_below (rate_step m.scale) (λ (g : Held). shows_to_end m.scale g.picture g.number) (record { picture = m.picture; number = m.number }) (ahead_then m.ahead r)
+    (ahead_then m.ahead s) (ahead_below m.ahead r s h))
 
-shown_calm : (given : StreamHead) (m : Showing) (r s : Flow) → LiesBelow (opened r) s → LiesBelow (opened (limited (passes_limits (Frames given)) m.before (still_shown m r))) (limited (passes_limits (Frames given)) m.before (still_shown m s))
+shown_calm : (given : StreamHead) (m : Showing) (r s : Flow) → LiesBelow (opened r) s
+    → LiesBelow (opened (limited (passes_limits (Frames given)) m.before (still_shown m r))) (limited (passes_limits (Frames given)) m.before (still_shown m s))
 shown_calm given m r s h =
-    below_trans (opened (limited (passes_limits (Frames given)) m.before (still_shown m r))) (limited (passes_limits (Frames given)) m.before (opened (still_shown m r))) (limited (passes_limits (Frames given)) m.before (still_shown m s))
+    below_trans (opened (limited (passes_limits (Frames given)) m.before (still_shown m r))) (limited (passes_limits (Frames given)) m.before (opened (still_shown m r)))
+    (limited (passes_limits (Frames given)) m.before (still_shown m s))
     (run_calm (limit_step (passes_limits (Frames given))) no_more m.before (still_shown m r))
     (run_below (limit_step (passes_limits (Frames given))) no_more m.before (opened (still_shown m r)) (still_shown m s)
     (below_trans (opened (still_shown m r)) (rated m.scale (record { picture = m.picture; number = m.number }) (opened (ahead_then m.ahead r))) (still_shown m s)
     (run_calm (rate_step m.scale) (λ (g : Held). shows_to_end m.scale g.picture g.number) (record { picture = m.picture; number = m.number }) (ahead_then m.ahead r))
-    (run_below (rate_step m.scale) (λ (g : Held). shows_to_end m.scale g.picture g.number) (record { picture = m.picture; number = m.number }) (opened (ahead_then m.ahead r)) (ahead_then m.ahead s) (ahead_calm m.ahead r s h))))
+    (run_below (rate_step m.scale) (λ (g : Held). shows_to_end m.scale g.picture g.number) (record { picture = m.picture; number = m.number })
+    (opened (ahead_then m.ahead r)) (ahead_then m.ahead s) (ahead_calm m.ahead r s h))))
 
 shown_closed : (given : StreamHead) (m : Showing) (t : Flow) → IsClosed t → IsClosed (limited (passes_limits (Frames given)) m.before (still_shown m t))
 shown_closed given m t c = run_settles (limit_step (passes_limits (Frames given))) no_more m.before (still_shown m t)
-    (run_settles (rate_step m.scale) (λ (g : Held). shows_to_end m.scale g.picture g.number) (record { picture = m.picture; number = m.number }) (ahead_then m.ahead t) (ahead_closed m.ahead t c))
+    (run_settles (rate_step m.scale) (λ (g : Held). shows_to_end m.scale g.picture g.number) (record { picture = m.picture; number = m.number }) (ahead_then m.ahead t)
+    (ahead_closed m.ahead t c))
 
 module _ (head given : StreamHead) (m : Showing) (queue : List Item) (after : After) (ended stopped : Bool) where
   pub rate-grows : Grows (rate_view head given m queue after ended stopped).rest
-  rate-grows rs ss h q = cond_below ended (limited (passes_limits (Frames given)) m.before (still_shown m (waiting queue after (rs 0)))) (limited (passes_limits (Frames given)) m.before (still_shown m (waiting queue after (ss 0))))
+  rate-grows rs ss h q = cond_below ended (limited (passes_limits (Frames given)) m.before (still_shown m (waiting queue after (rs 0))))
+      (limited (passes_limits (Frames given)) m.before (still_shown m (waiting queue after (ss 0))))
       (shown_below given m (waiting queue after (rs 0)) (waiting queue after (ss 0)) (left_keeps queue false after (rs 0) (ss 0) (h 0)))
 
   pub rate-hides : HidesBreaks (rate_view head given m queue after ended stopped).rest
-  rate-hides rs q = cond_calm ended (limited (passes_limits (Frames given)) m.before (still_shown m (waiting queue after (rs 0)))) (limited (passes_limits (Frames given)) m.before (still_shown m (waiting queue after (opened (rs 0)))))
-      (shown_calm given m (waiting queue after (rs 0)) (waiting queue after (opened (rs 0))) (left_calm queue false after (rs 0) (opened (rs 0)) (below_self (opened (rs 0)))))
+  rate-hides rs q = cond_calm ended (limited (passes_limits (Frames given)) m.before (still_shown m (waiting queue after (rs 0))))
+      (limited (passes_limits (Frames given)) m.before (still_shown m (waiting queue after (opened (rs 0)))))
+      (shown_calm given m (waiting queue after (rs 0)) (waiting queue after (opened (rs 0)))
+      (left_calm queue false after (rs 0) (opened (rs 0)) (below_self (opened (rs 0)))))
 
   pub rate-settles : Settles (rate_view head given m queue after ended stopped)
   rate-settles ext h q lt on = cond_closed ended (limited (passes_limits (Frames given)) m.before (still_shown m (waiting queue after (ext 0))))

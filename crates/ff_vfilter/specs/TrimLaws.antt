@@ -23,14 +23,18 @@ trim_step range x = record {
   next = range;
 }
 
-step_at : (a b : Bool) (x : Item) (xs : List Item) (m : Mark) → joined (cond a (record { items = []; mark = whole }) (cond b (record { items = x ∷ []; mark = still_open }) nothing)) (record { items = xs; mark = m })
+step_at : (a b : Bool) (x : Item) (xs : List Item) (m : Mark)
+    → joined (cond a (record { items = []; mark = whole }) (cond b (record { items = x ∷ []; mark = still_open }) nothing)) (record { items = xs; mark = m })
     ≡ record { items = cond a [] (cond b (x ∷ xs) xs); mark = cond a whole m }
 step_at true b x xs m = refl
 step_at false true x xs m = refl
 step_at false false x xs m = refl
 
 kept_at : (a : Bool) (range : Range) (x : Item) (xs : List Item) (r : Bool) (m : Mark)
-    → ◌≡◌ {A = Flow} (record { items = cond a [] (cond (nat_le range.start (start_ticks x)) (x ∷ from_start range.start xs) (from_start range.start xs)); mark = cond a whole (cond r whole m) })
+    → ◌≡◌ {A = Flow} (record {
+      items = cond a [] (cond (nat_le range.start (start_ticks x)) (x ∷ from_start range.start xs) (from_start range.start xs));
+      mark = cond a whole (cond r whole m);
+    })
     (record { items = from_start range.start (cond a [] (x ∷ xs)); mark = cond (cond a true r) whole m })
 kept_at true range x xs r m = refl
 kept_at false range x xs r m = refl
@@ -41,7 +45,8 @@ run_is range [] whole = refl
 run_is range [] broken = refl
 run_is range (x ∷ xs) m =
     ap (λ (s : Flow). joined (trim_step range x).made s) (run_is range xs m)
-    ∙ (step_at (is_past range.stop (start_ticks x)) (nat_le range.start (start_ticks x)) x (from_start range.start (before_stop range.stop xs)) (cond (reaches range.stop xs) whole m)
+    ∙ (step_at (is_past range.stop (start_ticks x)) (nat_le range.start (start_ticks x)) x (from_start range.start (before_stop range.stop xs))
+    (cond (reaches range.stop xs) whole m)
     ∙ kept_at (is_past range.stop (start_ticks x)) range x (before_stop range.stop xs) (reaches range.stop xs) m)
 
 trimmed-is : (range : Range) → ◌≡◌ {A = Flow → Flow} (λ s. run trim_step no_more range s) (λ s. trimmed range s)
@@ -63,13 +68,16 @@ next_is : (range : Range) (x : Item) (t : Flow) → closes x ≡ false → trimm
 next_is range x t c = subst (λ (f : Flow → Flow). f (before x t) ≡ joined (trim_step range x).made (f t)) (trimmed-is range) (run_next trim_step no_more range x t c)
 
 -- a picture at or past the stop ends it
-pub trim_stops : (range : Range) (x : Item) → closes x ≡ false → is_past range.stop (start_ticks x) ≡ true → (t : Flow) → trimmed range (before x t) ≡ joined (made_of None Whole) (trimmed range t)
+pub trim_stops : (range : Range) (x : Item) → closes x ≡ false → is_past range.stop (start_ticks x) ≡ true → (t : Flow)
+    → trimmed range (before x t) ≡ joined (made_of None Whole) (trimmed range t)
 trim_stops range x c past t = next_is range x t c ∙ rw past refl
 
 -- one before it that starts in time is given
-pub trim_keeps : (range : Range) (x : Item) → closes x ≡ false → is_past range.stop (start_ticks x) ≡ false → nat_le range.start (start_ticks x) ≡ true → (t : Flow) → trimmed range (before x t) ≡ joined (made_of (Some x) More) (trimmed range t)
+pub trim_keeps : (range : Range) (x : Item) → closes x ≡ false → is_past range.stop (start_ticks x) ≡ false → nat_le range.start (start_ticks x) ≡ true → (t : Flow)
+    → trimmed range (before x t) ≡ joined (made_of (Some x) More) (trimmed range t)
 trim_keeps range x c past late t = next_is range x t c ∙ (rw (past, late) refl ∙ ap (λ (s : Flow). joined s (trimmed range t)) (sym (single x c)))
 
 -- all others aren't
-pub trim_skips : (range : Range) (x : Item) → closes x ≡ false → is_past range.stop (start_ticks x) ≡ false → nat_le range.start (start_ticks x) ≡ false → (t : Flow) → trimmed range (before x t) ≡ joined (made_of None More) (trimmed range t)
+pub trim_skips : (range : Range) (x : Item) → closes x ≡ false → is_past range.stop (start_ticks x) ≡ false → nat_le range.start (start_ticks x) ≡ false → (t : Flow)
+    → trimmed range (before x t) ≡ joined (made_of None More) (trimmed range t)
 trim_skips range x c past late t = next_is range x t c ∙ rw (past, late) refl

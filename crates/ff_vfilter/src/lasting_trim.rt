@@ -107,7 +107,8 @@ impl LastingTrim {
         args: &[Arg],
         heads: &[StreamHead],
     ) -> Result<(Stepper<Limited<LastingTrim>>, Vec<StreamHead>), ConfigError>
-        ensures made { IfOk result (λ r. IsMade (IsTrim args.now heads.now) trim_view (λ m. m.trim.head) (⟦<Stepper<Limited<LastingTrim>> as Filter>⟧.view r.0) r.1.items) }
+        ensures made { IfOk result (λ r. IsMade (IsTrim args.now heads.now) trim_view (λ m. m.trim.head)
+            (⟦<Stepper<Limited<LastingTrim>> as Filter>⟧.view r.0) r.1.items) }
         ensures refused { IfErr result (IsRefused (IsTrim args.now heads.now)) }
     {
         match video_settings(TrimSettings::ALL, args, heads) {

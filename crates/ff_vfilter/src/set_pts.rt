@@ -22,7 +22,8 @@ impl SetPts {
         args: &[Arg],
         heads: &[StreamHead],
     ) -> Result<(Stepper<Limited<Rebase>>, Vec<StreamHead>), ConfigError>
-        ensures made { IfOk result (λ r. IsMade (IsRebase is_video args.now heads.now) rebase_view (λ m. m.head) (⟦<Stepper<Limited<Rebase>> as Filter>⟧.view r.0) r.1.items) }
+        ensures made { IfOk result (λ r. IsMade (IsRebase is_video args.now heads.now) rebase_view (λ m. m.head)
+            (⟦<Stepper<Limited<Rebase>> as Filter>⟧.view r.0) r.1.items) }
         ensures refused { IfErr result (IsRefused (IsRebase is_video args.now heads.now)) }
     {
         match video_settings(ExprSettings { given: false }, args, heads) {

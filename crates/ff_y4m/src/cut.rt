@@ -1,5 +1,6 @@
 //! The packets of a YUV4MPEG2 input, one frame each.
-ghost use Rattle.std.specs.Prelude.{◌≡◌, ◌≢◌, ◌+◌, ◌-◌, ◌^◌, ◌≤◌, ◌<◌, ◌⊎◌, ◌↔◌, ℕ, List, [], ◌++◌, Some, None, true, false, length, take, drop, IfOk, OnOk, OnErr, IsOk, slice_get, pos};
+ghost use Rattle.std.specs.Prelude.{◌≡◌, ◌≢◌, ◌+◌, ◌-◌, ◌^◌, ◌≤◌, ◌<◌, ◌⊎◌, ◌↔◌, ℕ};
+ghost use Rattle.std.specs.Prelude.{List, [], ◌++◌, Some, None, true, false, length, take, drop, IfOk, OnOk, OnErr, IsOk, slice_get, pos};
 ghost use Rattle.ff_frame.specs.Packet.{packet_at};
 ghost use Rattle.ff_frame.specs.declared.packet.Pkt.{Pkt};
 ghost use Rattle.ff_reader.specs.Cutters.{GaveAll};

@@ -1,7 +1,8 @@
 //! The parameters of the first line (yuv4mpeg(5), "Stream Header").
 ghost use Rattle.std.specs.Prelude.{◌≡◌, ◌<◌, ◌^◌, IfOk};
 ghost use Rattle.ff_frame.specs.Video.{IsSide};
-ghost use Rattle.ff_y4m.specs.Parameters.{AreSane, side_in, base_or, base_in, aspect_in, is_progressive, format_of, with_width, with_height, with_base, with_aspect, with_format, lettered};
+ghost use Rattle.ff_y4m.specs.Parameters.{AreSane, side_in, base_or, base_in, aspect_in, is_progressive, format_of};
+ghost use Rattle.ff_y4m.specs.Parameters.{with_width, with_height, with_base, with_aspect, with_format, lettered};
 ghost use Rattle.ff_y4m.specs.Numbers.{whole as whole_number, pair as pair_of, base_of};
 
 use crate::number::{pair, time_base, whole};

@@ -56,15 +56,19 @@ true_or_false true = inl refl
 true_or_false false = inr refl
 
 pub none_of : (os : List Outlet) (q : ℕ) → q < length os → is_done (lines os q) ≡ false → all_done os ≡ false
-none_of os q lt e = elim (true_or_false (all_done os)) as (λ _. all_done os ≡ false) [ inl t ↦ (let d = done_at os q lt t in let clash : true ≡ false = sym d ∙ e in cc) | inr f ↦ f ]
+none_of os q lt e = elim (true_or_false (all_done os)) as (λ _. all_done os ≡ false) [
+  | inl t ↦ (let d = done_at os q lt t in let clash : true ≡ false = sym d ∙ e in cc)
+  | inr f ↦ f
+]
 
 -- nothing more is to be put on any, or some output goes on
 pub all_or_one : (os : List Outlet) → (all_done os ≡ true) ⊎ ((q : ℕ) × (q < length os) × (is_done (lines os q) ≡ false))
 all_or_one [] = inl refl
-all_or_one (o ∷ os) = elim (true_or_false (is_done (line_of o))) as (λ _. (all_done (o ∷ os) ≡ true) ⊎ ((q : ℕ) × (q < length (o ∷ os)) × (is_done (lines (o ∷ os) q) ≡ false))) [
-  | inr f ↦ inr (zero, omega arith, f)
-  | inl t ↦ elim (all_or_one os) as (λ _. (all_done (o ∷ os) ≡ true) ⊎ ((q : ℕ) × (q < length (o ∷ os)) × (is_done (lines (o ∷ os) q) ≡ false))) [
-    | inl a ↦ inl (and_both (is_done (line_of o)) (all_done os) t a)
-    | inr s ↦ (let lt : s.0 < length os = s.1 in inr (suc s.0, omega (arith, lt), s.2))
-  ]
-]
+all_or_one (o ∷ os) = elim (true_or_false (is_done (line_of o)))
+    as (λ _. (all_done (o ∷ os) ≡ true) ⊎ ((q : ℕ) × (q < length (o ∷ os)) × (is_done (lines (o ∷ os) q) ≡ false))) [
+      | inr f ↦ inr (zero, omega arith, f)
+      | inl t ↦ elim (all_or_one os) as (λ _. (all_done (o ∷ os) ≡ true) ⊎ ((q : ℕ) × (q < length (o ∷ os)) × (is_done (lines (o ∷ os) q) ≡ false))) [
+        | inl a ↦ inl (and_both (is_done (line_of o)) (all_done os) t a)
+        | inr s ↦ (let lt : s.0 < length os = s.1 in inr (suc s.0, omega (arith, lt), s.2))
+      ]
+    ]

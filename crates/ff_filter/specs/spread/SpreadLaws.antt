@@ -58,19 +58,24 @@ none_holds false b e = (refl, e)
 
 module _ (lane_in : Lane) (lanes_out : List Lane) (shared : ℕ → Item → Item) (ls : ℕ → Line) (after : After) where
   pub spread-grows : Grows (spread_view lane_in lanes_out shared ls after).rest
-  spread-grows rs ss h q = keeps_if (nat_lt q (length lanes_out)) (left (ls q).queue (ls q).ended after (map_stream (shared q) (rs 0))) (left (ls q).queue (ls q).ended after (map_stream (shared q) (ss 0)))
+  spread-grows rs ss h q = keeps_if (nat_lt q (length lanes_out)) (left (ls q).queue (ls q).ended after (map_stream (shared q) (rs 0)))
+      (left (ls q).queue (ls q).ended after (map_stream (shared q) (ss 0)))
       (left_keeps (ls q).queue (ls q).ended after (map_stream (shared q) (rs 0)) (map_stream (shared q) (ss 0)) (map_stream_monotone (shared q) (rs 0) (ss 0) (h 0)))
 
   pub spread-hides : HidesBreaks (spread_view lane_in lanes_out shared ls after).rest
-  spread-hides rs q = calm_if (nat_lt q (length lanes_out)) (left (ls q).queue (ls q).ended after (map_stream (shared q) (rs 0))) (left (ls q).queue (ls q).ended after (map_stream (shared q) (opened (rs 0))))
-      (left_calm (ls q).queue (ls q).ended after (map_stream (shared q) (rs 0)) (map_stream (shared q) (opened (rs 0))) (below_self (map_stream (shared q) (opened (rs 0)))))
+  spread-hides rs q = calm_if (nat_lt q (length lanes_out)) (left (ls q).queue (ls q).ended after (map_stream (shared q) (rs 0)))
+      (left (ls q).queue (ls q).ended after (map_stream (shared q) (opened (rs 0))))
+      (left_calm (ls q).queue (ls q).ended after (map_stream (shared q) (rs 0)) (map_stream (shared q) (opened (rs 0)))
+      (below_self (map_stream (shared q) (opened (rs 0)))))
 
   pub spread-settles : Settles (spread_view lane_in lanes_out shared ls after)
-  spread-settles ext h q lt on = subst (λ (t : Flow). ((ls q).ended ≡ true) ⊎ IsClosed t) (sym (on_there (length lanes_out) q (left (ls q).queue (ls q).ended after (map_stream (shared q) (ext 0))) lt))
+  spread-settles ext h q lt on = subst (λ (t : Flow). ((ls q).ended ≡ true) ⊎ IsClosed t)
+      (sym (on_there (length lanes_out) q (left (ls q).queue (ls q).ended after (map_stream (shared q) (ext 0))) lt))
       (left_closed (ls q).queue (ls q).ended after (map_stream (shared q) (ext 0)) (h 0 (omega arith)))
 
   pub spread-quiet : (q : ℕ) → (ls q).ended ≡ true → (ext : Ports) → (spread_view lane_in lanes_out shared ls after).rest ext q ≡ nothing
-  spread-quiet q e ext = nothing_if (nat_lt q (length lanes_out)) (left (ls q).queue (ls q).ended after (map_stream (shared q) (ext 0))) (ended_quiet (ls q).queue (ls q).ended after (map_stream (shared q) (ext 0)) e)
+  spread-quiet q e ext = nothing_if (nat_lt q (length lanes_out)) (left (ls q).queue (ls q).ended after (map_stream (shared q) (ext 0)))
+      (ended_quiet (ls q).queue (ls q).ended after (map_stream (shared q) (ext 0)) e)
 
 module _ (lane_in : Lane) (lanes_out : List Lane) (shared : ℕ → Item → Item) (os : List Outlet) (after : After) (count : length lanes_out ≡ length os) where
   some_there : (nat_lt 0 (length os)) ≡ true → 0 < length lanes_out
@@ -86,16 +91,19 @@ module _ (lane_in : Lane) (lanes_out : List Lane) (shared : ℕ → Item → Ite
   ]
 
   pub spread-spent_only : (p : ℕ) → spread_spent after os ≡ true → IsSpent (spread_view lane_in lanes_out shared (lines os) after) p
-  spread-spent_only p e = elim (or_one (is_over after) (nat_lt 0 (length os) && all_done os) e) as (λ _. IsSpent (spread_view lane_in lanes_out shared (lines os) after) p) [
-    | inl s ↦ inl s
-    | inr d ↦ (let k = both (nat_lt 0 (length os)) (all_done os) d in inr (some_there k.0, λ q lt on. over_at q (done_at os q (there_too q lt) k.1) on))
-  ]
+  spread-spent_only p e = elim (or_one (is_over after) (nat_lt 0 (length os) && all_done os) e)
+      as (λ _. IsSpent (spread_view lane_in lanes_out shared (lines os) after) p) [
+        | inl s ↦ inl s
+        | inr d ↦ (let k = both (nat_lt 0 (length os)) (all_done os) d in inr (some_there k.0, λ q lt on. over_at q (done_at os q (there_too q lt) k.1) on))
+      ]
 
   pub spread-shut_spent : is_over after ≡ true → spread_spent after os ≡ true
   spread-shut_spent e = or_left (is_over after) (nat_lt 0 (length os) && all_done os) e
 
   spent_by : 0 < length lanes_out → all_done os ≡ true → spread_spent after os ≡ true
-  spent_by z d = let lt : 0 < length os = omega (arith, z, count) in or_right (is_over after) (nat_lt 0 (length os) && all_done os) (and_both (nat_lt 0 (length os)) (all_done os) (there 0 (length os) lt) d)
+  spent_by z d =
+      let lt : 0 < length os = omega (arith, z, count) in
+      or_right (is_over after) (nat_lt 0 (length os) && all_done os) (and_both (nat_lt 0 (length os)) (all_done os) (there 0 (length os) lt) d)
 
   pub spread-done_spent : 0 < length lanes_out → AllDone (spread_view lane_in lanes_out shared (lines os) after) → spread_spent after os ≡ true
   spread-done_spent z d = spent_by z (all_of os (λ q lt. elim (d q (omega (arith, lt, count))) as (λ _. is_done (lines os q) ≡ true) [
@@ -107,7 +115,8 @@ module _ (lane_in : Lane) (lanes_out : List Lane) (shared : ℕ → Item → Ite
   pub spread-exact : (p : ℕ) → (spread_spent after os ≡ true) ↔ IsSpent (spread_view lane_in lanes_out shared (lines os) after) p
   spread-exact p = (spread-spent_only p, back)
     where
-      one_open : (q : ℕ) → q < length os → (lines os q).stopped ≡ false → (lines os q).ended ≡ false → IsOver (spread_view lane_in lanes_out shared (lines os) after) q → is_over after ≡ true
+      one_open : (q : ℕ) → q < length os → (lines os q).stopped ≡ false → (lines os q).ended ≡ false → IsOver (spread_view lane_in lanes_out shared (lines os) after) q
+          → is_over after ≡ true
       one_open q lt s e (inl d) = let clash : true ≡ false = sym d ∙ e in cc
       one_open q lt s e (inr c) = over_left (lines os q).queue (lines os q).ended after (lines_open os q)
           (subst (λ (t : Flow). IsClosed t) (on_there (length lanes_out) q (left (lines os q).queue (lines os q).ended after nothing) (omega (arith, lt, count))) c)
