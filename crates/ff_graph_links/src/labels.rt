@@ -16,7 +16,7 @@ mod order;
 pub use alone::{check_names, check_own_labels};
 pub use fault::LabelFault;
 pub use known::Known;
-pub use labels::{are_short, gives, takes};
+pub use labels::{are_short, gives, is_short, takes};
 pub use laws::{orders_are_whole, orders_go_upward};
 pub use names::{check_labels, labels_given};
 pub use order::{graph_on_loop, graphs_in_order};

@@ -3,17 +3,13 @@ use Rattle.std.specs.Prelude.{◌^◌, ◌<◌, ◌≤◌, List, length, Option,
 use Rattle.std.specs.List.{AllByRecursion}
 use Rattle.ff_frame.specs.declared.head.StreamHead.{StreamHead}
 use Rattle.ff_lang.specs.declared.graph.Graph.{Graph}
-use Rattle.ff_graph_links.specs.labels.Labels.{filters_of}
+pub use Rattle.ff_graph_links.specs.labels.Labels.{IsShort}
 use Rattle.ff_words.specs.declared.job.Job.{Job}
 use Rattle.ff_words.specs.declared.job.OutputJob.{OutputJob}
 use Rattle.ff_plan_layout.specs.declared.layout.Laid.{Laid}
 use Rattle.ff_plan_layout.specs.declared.layout.Made.{Made}
 use Rattle.ff_plan_layout.specs.declared.layout.Placed.{Placed}
 use Rattle.ff_plan_layout.specs.declared.layout.Want.{Want}
-
--- a graph of at most 65,536 filters
-abbrev pub IsShort : Graph → Type 0
-IsShort g = length (filters_of g) ≤ 65536
 
 abbrev pub IsShortIfSome : Option Graph → Type 0
 IsShortIfSome None = Unit {0}

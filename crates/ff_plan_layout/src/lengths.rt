@@ -1,28 +1,11 @@
 //! The check whether graphs are short.
 ghost use Rattle.std.specs.Prelude.{◌≡◌, true, false, List};
 ghost use Rattle.std.specs.List.{AllByRecursion};
-ghost use Rattle.ff_plan_layout.specs.Limits.{IsShort, IsShortIfSome, HasShortGraphs};
+ghost use Rattle.ff_plan_layout.specs.Limits.{IsShortIfSome, HasShortGraphs};
 
+use ff_graph_links::is_short;
 use ff_lang::Graph;
 use ff_words::OutputJob;
-
-// How many filters a graph may have: its string has no more bytes.
-const MOST: usize = 65_536;
-
-fn is_short(graph: &Graph) -> bool
-    ensures yes { result ≡ true → IsShort graph.now }
-    ensures no { result ≡ false → IsShort graph.now → ⊥ }
-{
-    let mut left = MOST;
-    for chain in graph.chains.as_slice() {
-        let count = chain.filters.as_slice().len();
-        if count > left {
-            return false;
-        }
-        left -= count;
-    }
-    true
-}
 
 fn is_short_if_some(graph: &Option<Graph>) -> bool
     ensures yes { result ≡ true → IsShortIfSome graph.now }

@@ -1,5 +1,5 @@
 -- Labels of filtergraphs: which a graph takes and which it gives.
-use Rattle.std.specs.Prelude.{ℕ, Bool, List}
+use Rattle.std.specs.Prelude.{ℕ, ◌≤◌, Bool, List, length}
 use Rattle.std.specs.List.{flat_map, list_any}
 use Rattle.std.specs.Str.{bytes_eq}
 use Rattle.ff_lang.specs.declared.graph.Filter.{Filter}
@@ -11,6 +11,10 @@ is_one_of text texts = list_any (bytes_eq text) texts
 -- filters in the order of writing, and their labels
 abbrev pub filters_of : Graph → List Filter
 filters_of g = flat_map (λ c. c.filters) g.chains
+
+-- a graph of at most 65,536 filters
+abbrev pub IsShort : Graph → Type 0
+IsShort g = length (filters_of g) ≤ 65536
 
 abbrev pub ins_of : List Filter → List (List ℕ)
 ins_of fs = flat_map (λ f. f.ins) fs

@@ -1,6 +1,6 @@
 //! The labels and filter names of a simple graph by itself.
-ghost use Rattle.std.specs.Prelude.{◌≡◌, ◌+◌, ◌^◌, ◌<◌, ◌≤◌, ◌++◌, [], None, IfOk, IfErr, OnOk, length};
-ghost use Rattle.ff_graph_links.specs.labels.Labels.{filters_of, ins_of, outs_of};
+ghost use Rattle.std.specs.Prelude.{◌≡◌, ◌+◌, ◌^◌, ◌<◌, ◌++◌, [], None, IfOk, IfErr, OnOk, length};
+ghost use Rattle.ff_graph_links.specs.labels.Labels.{filters_of, IsShort, ins_of, outs_of};
 ghost use Rattle.ff_graph_links.specs.labels.Names.{own_fault, twice_in, unknown_filter, IsFaultOf};
 
 use crate::labels::fault::LabelFault;
@@ -94,7 +94,7 @@ fn check_names_from<K: Known>(
 
 /// Looks at the names of the filters of a simple graph, which has this number.
 pub fn check_names<K: Known>(known: &K, number: u32, graph: &Graph) -> Result<(), LabelFault>
-    requires { length (filters_of graph.now) ≤ 65536 }
+    requires { IsShort graph.now }
     ensures fine { IfOk result (λ _. unknown_filter (K.filter known.now) number 0 (filters_of graph.now) ≡ None) }
     ensures fault { IfErr result (IsFaultOf (unknown_filter (K.filter known.now) number 0 (filters_of graph.now))) }
 {

@@ -1,8 +1,7 @@
 //! The labels that a graph takes and gives.
-ghost use Rattle.std.specs.Prelude.{◌≡◌, ◌<◌, ◌≤◌, true, false, length};
+ghost use Rattle.std.specs.Prelude.{◌≡◌, true, false};
 ghost use Rattle.std.specs.List.{AllByRecursion};
-ghost use Rattle.ff_lang.specs.declared.graph.Graph.{Graph};
-ghost use Rattle.ff_graph_links.specs.labels.Labels.{is_one_of as one_of, filters_of, outs_of, ins_of, given_in, taken_in, meet};
+ghost use Rattle.ff_graph_links.specs.labels.Labels.{is_one_of as one_of, IsShort, outs_of, ins_of, given_in, taken_in, meet};
 
 use ff_lang::{Chain, Graph, Text};
 
@@ -102,9 +101,10 @@ pub(crate) fn gives_to(from: &Graph, to: &Graph) -> bool
 // How many filters a graph may have: its string has no more bytes.
 const MOST: usize = 65_536;
 
-fn is_short(graph: &Graph) -> bool
-    ensures yes { result ≡ true → length (filters_of graph.now) ≤ 65536 }
-    ensures no { result ≡ false → 65536 < length (filters_of graph.now) }
+/// Whether a graph has at most 65,536 filters.
+pub fn is_short(graph: &Graph) -> bool
+    ensures yes { result ≡ true → IsShort graph.now }
+    ensures no { result ≡ false → IsShort graph.now → ⊥ }
 {
     let mut left = MOST;
     for chain in graph.chains.as_slice() {
@@ -119,8 +119,8 @@ fn is_short(graph: &Graph) -> bool
 
 /// Whether each graph has at most 65,536 filters, as all have that were read of a string of so many bytes.
 pub fn are_short(graphs: &[Graph]) -> bool
-    ensures yes { result ≡ true → AllByRecursion (λ (g : Graph). length (filters_of g) ≤ 65536) graphs.now }
-    ensures no { result ≡ false → AllByRecursion (λ (g : Graph). length (filters_of g) ≤ 65536) graphs.now → ⊥ }
+    ensures yes { result ≡ true → AllByRecursion IsShort graphs.now }
+    ensures no { result ≡ false → AllByRecursion IsShort graphs.now → ⊥ }
 {
     for graph in graphs {
         if !is_short(graph) {

@@ -1,8 +1,7 @@
 //! The first fault of the names and labels of complex graphs.
-ghost use Rattle.std.specs.Prelude.{◌≡◌, ◌⊎◌, ◌+◌, ◌^◌, ◌<◌, ◌≤◌, ◌++◌, ◌||◌, true, false, [], None, IfOk, IfErr, OnOk, length};
+ghost use Rattle.std.specs.Prelude.{◌≡◌, ◌⊎◌, ◌+◌, ◌^◌, ◌<◌, ◌++◌, ◌||◌, true, false, [], None, IfOk, IfErr, OnOk, length};
 ghost use Rattle.std.specs.List.{AllByRecursion};
-ghost use Rattle.ff_lang.specs.declared.graph.Graph.{Graph};
-ghost use Rattle.ff_graph_links.specs.labels.Labels.{is_one_of as one_of, filters_of, ins_of, outs_of, taken_in, given_in};
+ghost use Rattle.ff_graph_links.specs.labels.Labels.{is_one_of as one_of, filters_of, IsShort, ins_of, outs_of, taken_in, given_in};
 ghost use Rattle.ff_graph_links.specs.labels.Names.{unknown_label, twice as stands_twice, filter_fault, filters_fault, graphs_fault};
 ghost use Rattle.ff_graph_links.specs.labels.Names.{all_given, labels_fault, IsFaultOf};
 
@@ -193,7 +192,7 @@ fn check_graph<K: Known>(
     seen: &mut Seen,
     graph: &Graph,
 ) -> Result<(), LabelFault>
-    requires few { length (filters_of graph.now) ≤ 65536 }
+    requires few { IsShort graph.now }
     ensures fine { IfOk result (λ _. filters_fault (K.filter known.now) (K.stream known.now) given.now number 0
         seen.old.ins.items seen.old.outs.items (filters_of graph.now) ≡ None) }
     ensures fault { IfErr result (IsFaultOf (filters_fault (K.filter known.now) (K.stream known.now) given.now number 0
@@ -246,7 +245,7 @@ pub fn labels_given(alloc: Global, graphs: &[Graph]) -> Result<Vec<Text>, AllocE
 /// comes first, then labels that name nothing, then labels that stand twice.
 pub fn check_labels<K: Known>(alloc: Global, known: &K, graphs: &[Graph]) -> Result<(), LabelFault>
     requires graphs { length graphs.now < 2 ^ 32 }
-    requires filters { AllByRecursion (λ (g : Graph). length (filters_of g) ≤ 65536) graphs.now }
+    requires filters { AllByRecursion IsShort graphs.now }
     ensures fine { IfOk result (λ _. labels_fault (K.filter known.now) (K.stream known.now) graphs.now ≡ None) }
     ensures fault { IfErr result (IsFaultOf (labels_fault (K.filter known.now) (K.stream known.now) graphs.now)) }
 {
