@@ -70,7 +70,7 @@ taken _ = []
 abbrev pub effect : Kind → List ℕ
 effect kind.Nothing = codes "no effect"
 effect kind.Keeps = codes "an output or a trace that is there is kept, and the status is 3"
-effect kind.Replaces = codes "it is replaced, as without -n; of both the later counts"
+effect kind.Replaces = codes "an output that is there is replaced, as without -n; of both the later counts"
 effect kind.NoStats = codes "no line on standard error says how far the run has come"
 effect kind.Level = codes "how much standard error has: quiet, panic, fatal, error, warning, info, verbose, debug, trace or a number"
 effect kind.Word = codes "no effect"

@@ -33,7 +33,8 @@ use Rattle.ff_command.specs.declared.report.Status.{Status}
 use Rattle.ff_command.specs.declared.report.Status.TheVariants as status
 use Rattle.ff_command.specs.Texts.{fault_text}
 use Rattle.ff_command.specs.Command.{AskFor, AsksAlone, AsksText, AsksGenerated, AreWrong, KeepsOtherFiles, ComesBeforeOutputs, AreSoundTo}
-use Rattle.ff_command.specs.Command.{InputsAreSound, OutputsAreSound, MayWrite, IsToldKept, KeepsThere, refused_head, refused_plan, over, HoldsMeaning, HoldsFront, IsHeadRefused}
+use Rattle.ff_command.specs.Command.{InputsAreSound, OutputsAreSound, MayWrite, IsToldKept, KeepsThere, refused_head, refused_plan}
+use Rattle.ff_command.specs.Command.{over, HoldsMeaning, HoldsFront, IsHeadRefused}
 use Rattle.ff_command.specs.Command.{IsDamaged, IsTooLong, HasFailed, HasFile, GivesNoHead, GivesNoPlan, GivesAll, KeepsInputs, KeepsOutputs}
 use Rattle.ff_command.specs.Command.{KeepsInputCounts, KeepsOutputCounts}
 
@@ -115,9 +116,12 @@ module _ (means : Job → Meaning InputHead PlanError RunFault) where
     pub comes : Comes job before after ins outs answer
     pub plan_memory : answer ≢ status.Plan why.NoMemory
     pub kept : (file : FileRef) → IsToldKept job before file → KeepsFiles before after × ((answer ≡ status.Device file) ⊎ (answer ≡ status.NoMemory))
-    pub no_head : MayWrite job before → (k : ℕ) (why : HeadFault) → IsFirstRefused (over means job) before k why → AreSoundTo ins job k → (answer ≡ refused_head k why) ⊎ (answer ≡ status.NoMemory)
-    pub no_plan : MayWrite job before → (why : PlanError) → HasNoPlan (over means job) before why → InputsAreSound ins job → (answer ≡ refused_plan why) ⊎ (answer ≡ status.NoMemory)
-    pub complete : MayWrite job before → CanBeDone (over means job) before → InputsAreSound ins job → OutputsAreSound outs job → (answer ≡ status.Fine) ⊎ (answer ≡ status.NoMemory)
+    pub no_head : MayWrite job before → (k : ℕ) (why : HeadFault) → IsFirstRefused (over means job) before k why → AreSoundTo ins job k
+        → (answer ≡ refused_head k why) ⊎ (answer ≡ status.NoMemory)
+    pub no_plan : MayWrite job before → (why : PlanError) → HasNoPlan (over means job) before why → InputsAreSound ins job
+        → (answer ≡ refused_plan why) ⊎ (answer ≡ status.NoMemory)
+    pub complete : MayWrite job before → CanBeDone (over means job) before → InputsAreSound ins job → OutputsAreSound outs job
+        → (answer ≡ status.Fine) ⊎ (answer ≡ status.NoMemory)
     pub in_counts : KeepsInputs means job before ins answer
     pub out_counts : KeepsOutputs means job before outs answer
 

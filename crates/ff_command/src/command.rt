@@ -273,8 +273,8 @@ pub fn run_command<
     ensures device { (file : _) → result.status ≡ Status.Device file → AskFor (texts words.now) (λ job. HasFailed (P.means worker.now) job (H.files host.old)
         (counted H.in_faults host.old host.new) (counted H.out_faults host.old host.new) file) }
 
-    // Where the arguments ask for `-n`, and files are told of which one is there that they write, it is that answer,
-    // before an input is opened. No file has changed.
+    // With `-n`, where a file is there that the job writes, the answer is the first such file, or memory ran out. No
+    // file has changed.
     ensures kept { (file : _) → KeepsThere (texts words.now) (H.files host.old) file
         → KeepsFiles (H.files host.old) (H.files host.new) × ((result.status ≡ Status.Device file) ⊎ (result.status ≡ Status.NoMemory)) }
 

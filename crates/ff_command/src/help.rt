@@ -84,7 +84,8 @@ fn effect(kind: Kind) -> &'static str
     match kind {
         Kind::Nothing => "no effect",
         Kind::Keeps => "an output or a trace that is there is kept, and the status is 3",
-        Kind::Replaces => "it is replaced, as without -n; of both the later counts",
+        Kind::Replaces =>
+            "an output that is there is replaced, as without -n; of both the later counts",
         Kind::NoStats => "no line on standard error says how far the run has come",
         Kind::Level =>
             "how much standard error has: quiet, panic, fatal, error, warning, info, verbose, debug, trace or a number",
