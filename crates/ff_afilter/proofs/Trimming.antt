@@ -3,9 +3,9 @@ use Rattle.std.proofs.Common.{◌≡◌, List, None, Result, Ok, Err, inr}
 use Rattle.ff_frame.specs.declared.config.ConfigError.{ConfigError}
 use Rattle.ff_frame.specs.declared.head.StreamHead.{StreamHead}
 use Rattle.ff_lang.specs.declared.graph.Arg.{Arg}
-use Rattle.ff_lasting.specs.declared.settings.TrimSettings.{TrimSettings}
+use Rattle.ff_filter.specs.declared.lasting.settings.TrimSettings.{TrimSettings}
 use Rattle.ff_filter.specs.Options.{is_sound, AreSet, IsRefused}
-use Rattle.ff_lasting.specs.Lastings.{trim_manual}
+use Rattle.ff_filter.specs.lasting.Lastings.{trim_manual}
 use Rattle.ff_filter.proofs.Configuring.{configured, refused}
 use Rattle.ff_afilter.specs.declared.lasting_atrim.LastingATrim.{LastingATrim}
 use Rattle.ff_afilter.specs.Trims.{MakesATrim, IsATrim}

@@ -5,11 +5,11 @@ ghost use Rattle.ff_stream.specs.declared.item.Lane.TheVariants.{Frames};
 
 use crate::atrim::ATrim;
 use ff_filter::{
-    After, Filter, Given, Limited, Range, Step, Stepper, machine_of, sound_settings, ticks_of,
+    After, Filter, Given, Limited, Range, Step, Stepper, TrimSettings, lasting_stop, machine_of,
+    sound_settings, ticks_of,
 };
 use ff_frame::{AFrame, ConfigError, StreamHead};
 use ff_lang::Arg;
-use ff_lasting::{TrimSettings, lasting_stop};
 use ff_stream::{Item, Refused, shared};
 use std::alloc::Global;
 

@@ -13,11 +13,11 @@ use Rattle.ff_frame.specs.declared.head.Codec.{Codec}
 use Rattle.ff_frame.specs.declared.head.Codec.TheVariants.{PcmS8, PcmS16be, PcmS24be, PcmS32be}
 use Rattle.ff_frame.specs.declared.head.StreamHead.{StreamHead}
 use Rattle.ff_frame.specs.declared.head.StreamHead.TheVariants.{Audio, Video}
-use Rattle.ff_pcm_cut.specs.declared.head.PcmHead.{PcmHead as AuHead}
-use Rattle.ff_pcm_cut.specs.Packets.{IsPcmSound, IsStream, block_of, body, packets_of, demuxed}
-use Rattle.ff_pcm_cut.specs.Written.{BodiesComeBack, SamplesComeBack}
-use Rattle.ff_pcm_cut.proofs.SamplesBack.{samples_come_back}
-use Rattle.ff_pcm_cut.proofs.BodyLaws.{some_block, whole_packets}
+use Rattle.ff_pcm.specs.declared.body.head.PcmHead.{PcmHead as AuHead}
+use Rattle.ff_pcm.specs.body.Packets.{IsPcmSound, IsStream, block_of, body, packets_of, demuxed}
+use Rattle.ff_pcm.specs.body.Written.{BodiesComeBack, SamplesComeBack}
+use Rattle.ff_pcm.proofs.BodyLemmas.SamplesBack.{samples_come_back}
+use Rattle.ff_pcm.proofs.BodyLemmas.BodyLaws.{some_block, whole_packets}
 use Rattle.ff_reader.specs.Heads.{early}
 use Rattle.ff_reader.specs.Walks.{agrees, walk, within, head_limit, reading}
 use Rattle.ff_reader.specs.declared.step.Step.TheVariants.{Decide}

@@ -6,7 +6,7 @@ use Rattle.ff_frame.specs.declared.head.StreamHead.{StreamHead}
 use Rattle.ff_frame.specs.declared.head.StreamHead.TheVariants.{Audio}
 use Rattle.ff_frame.specs.declared.head.Codec.{Codec}
 use Rattle.ff_frame.specs.declared.head.Codec.TheVariants.{PcmS8, PcmS16be, PcmS24be, PcmS32be}
-use Rattle.ff_pcm_cut.specs.declared.head.PcmHead.{PcmHead as AuHead}
+use Rattle.ff_pcm.specs.declared.body.head.PcmHead.{PcmHead as AuHead}
 use Rattle.ff_reader.specs.declared.fault.HeadFault.{HeadFault}
 use Rattle.ff_reader.specs.declared.fault.HeadFault.TheVariants.{Damaged, Unsupported}
 use Rattle.ff_reader.specs.declared.step.Step.{Step}

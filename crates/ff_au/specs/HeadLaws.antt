@@ -4,8 +4,8 @@ use Rattle.std.specs.Prelude.{slice_index, ◌==◌, ◌&&◌, nat_le, nat_lt, n
 use Rattle.std.proofs.lemmas.Bool.Decides.{nat_tests}
 use Rattle.ff_frame.specs.Codecs.{IsPcmCodec}
 use Rattle.ff_frame.specs.declared.head.Codec.TheVariants.{PcmS8, PcmS16be, PcmS24be, PcmS32be}
-use Rattle.ff_pcm_cut.specs.declared.head.PcmHead.{PcmHead as AuHead}
-use Rattle.ff_pcm_cut.specs.Packets.{IsHead}
+use Rattle.ff_pcm.specs.declared.body.head.PcmHead.{PcmHead as AuHead}
+use Rattle.ff_pcm.specs.body.Packets.{IsHead}
 use Rattle.ff_reader.specs.declared.fault.HeadFault.{HeadFault}
 use Rattle.ff_reader.specs.declared.fault.HeadFault.TheVariants.{Damaged, Unsupported}
 use Rattle.ff_reader.specs.declared.step.Step.TheVariants.{Wait, Decide}

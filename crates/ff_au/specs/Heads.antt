@@ -3,7 +3,7 @@ use Rattle.std.specs.Prelude.{ℕ, List, codes, map, Option, Some, Result, ⊤}
 use Rattle.ff_frame.specs.declared.cut.HeadEnd.{HeadEnd}
 use Rattle.ff_reader.specs.Heads as heads
 use Rattle.ff_reader.specs.Walks as walks
-use Rattle.ff_pcm_cut.specs.declared.head.PcmHead.{PcmHead as AuHead}
+use Rattle.ff_pcm.specs.declared.body.head.PcmHead.{PcmHead as AuHead}
 use Rattle.ff_au.specs.Fields.{fields}
 
 -- a head, or the fault for which there is none

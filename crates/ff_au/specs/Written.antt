@@ -1,13 +1,13 @@
 -- A whole file as a writer leaves it, and what is read of it.
 use Rattle.std.specs.Prelude.{◌≡◌, ℕ, ◌^◌, ◌<◌, List, ◌++◌, drop, length, Ok, ⊤}
 use Rattle.ff_frame.specs.declared.head.StreamHead.{StreamHead}
-use Rattle.ff_pcm_cut.specs.declared.head.PcmHead.{PcmHead as AuHead}
+use Rattle.ff_pcm.specs.declared.body.head.PcmHead.{PcmHead as AuHead}
 use Rattle.ff_au.specs.Codecs.{IsAuCoded}
 use Rattle.ff_au.specs.Fields.{body_len}
 use Rattle.ff_au.specs.Heads.{head as head_read}
 use Rattle.ff_au.specs.Header.{header, header_len, size_field}
-use Rattle.ff_pcm_cut.specs.Packets.{IsStream, block_of, packets_of, demuxed}
-use Rattle.ff_pcm_cut.specs.Written.{Container}
+use Rattle.ff_pcm.specs.body.Packets.{IsStream, block_of, packets_of, demuxed}
+use Rattle.ff_pcm.specs.body.Written.{Container}
 
 -- the header and the body
 abbrev pub file_of : StreamHead → List ℕ → List ℕ

@@ -1,5 +1,5 @@
 //! The head of an AU input.
-use ff_pcm_cut::PcmHead;
+use ff_pcm::PcmHead;
 use ff_reader::Step;
 
 /// The head of an AU: what comes before the bytes of its samples.

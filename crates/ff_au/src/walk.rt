@@ -1,13 +1,13 @@
 //! AU as a format whose head is read unit by unit: its one unit is the fields after the mark.
 ghost use Rattle.std.specs.Prelude.{◌≡◌, ◌↔◌, List, ◌++◌, ℕ, false, IfOk, ⊤};
-ghost use Rattle.ff_pcm_cut.specs.Packets.{IsHead};
+ghost use Rattle.ff_pcm.specs.body.Packets.{IsHead};
 ghost use Rattle.ff_au.specs.Heads.{grammar as au_grammar, head, answered, IsOpen};
 ghost use Rattle.ff_au.specs.HeadLaws.{is_lawful, is_kept};
 
 use crate::fields::fields_at;
 use crate::head::{AuHead, FieldsStep};
 use ff_frame::HeadEnd;
-use ff_pcm_cut::PcmCut;
+use ff_pcm::PcmCut;
 use ff_reader::{HeadFormat, HeadWalk};
 
 /// What an input begins with: `.snd`.

@@ -6,3 +6,4 @@ pub mod ShiftSound
 pub mod Stepping
 pub mod Taking
 pub mod SpreadLemmas
+pub mod LastingLemmas

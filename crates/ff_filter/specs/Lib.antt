@@ -14,3 +14,4 @@ pub mod Sound
 pub mod StepperLaws
 pub mod Views
 pub mod spread
+pub mod lasting

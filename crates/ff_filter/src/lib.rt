@@ -16,6 +16,7 @@
 mod after;
 mod filter;
 mod inlet;
+mod lasting;
 mod laws;
 mod limited;
 mod machine;
@@ -32,6 +33,7 @@ mod stepper;
 pub use after::{After, closing_of};
 pub use filter::Filter;
 pub use inlet::{Inlet, Next};
+pub use lasting::{TrimSettings, lasting_stop};
 pub use laws::shared_functions_are_sound;
 pub use limited::Limited;
 pub use machine::{Single, machine_of};

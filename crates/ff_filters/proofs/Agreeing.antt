@@ -9,10 +9,10 @@ use Rattle.ff_frame.specs.declared.head.StreamHead.TheVariants.{Audio, Video}
 use Rattle.ff_frame.specs.Heads.{base_of_head}
 use Rattle.ff_lang.specs.declared.graph.Arg.{Arg}
 use Rattle.ff_filter.specs.Options.{is_sound, is_video, Manual, AreRead, IsConfigured}
-use Rattle.ff_lasting.specs.declared.settings.TrimSettings.{TrimSettings}
+use Rattle.ff_filter.specs.declared.lasting.settings.TrimSettings.{TrimSettings}
 use Rattle.ff_filter.specs.declared.range.Range.{Range}
 use Rattle.ff_filter.specs.Ranges.{IsCeiling}
-use Rattle.ff_lasting.specs.Lastings.{trim_manual, near_one}
+use Rattle.ff_filter.specs.lasting.Lastings.{trim_manual, near_one}
 use Rattle.ff_filter.specs.declared.rebase.Rebase.{Rebase}
 use Rattle.ff_filter.specs.Plain.{no_manual, expr_manual, IsRebase}
 use Rattle.ff_filter.specs.spread.Splits.{split_manual, IsSplit}

@@ -10,7 +10,7 @@ use Rattle.ff_filter.specs.declared.pass.Pass.{Pass}
 use Rattle.ff_filter.specs.declared.plain.ExprSettings.{ExprSettings}
 use Rattle.ff_filter.specs.declared.rebase.Rebase.{Rebase}
 use Rattle.ff_filter.specs.Plain.{expr_manual, IsPass, pass_view, IsRebase, rebase_view}
-use Rattle.ff_lasting.specs.Lastings.{trim_manual}
+use Rattle.ff_filter.specs.lasting.Lastings.{trim_manual}
 use Rattle.ff_planes.specs.declared.rectangle.Rectangle.{Rectangle}
 use Rattle.ff_vfilter.specs.declared.crop.CropSettings.{CropSettings}
 use Rattle.ff_vfilter.specs.declared.pad.PadSettings.{PadSettings}

@@ -12,9 +12,9 @@ use Rattle.ff_stream.specs.Times.{ticks}
 use Rattle.ff_filter.specs.Options.{IsTime}
 use Rattle.ff_filter.specs.declared.range.RangeSettings.{RangeSettings}
 use Rattle.ff_filter.specs.declared.range.Range.{Range}
-use Rattle.ff_lasting.specs.declared.settings.TrimSettings.{TrimSettings}
+use Rattle.ff_filter.specs.declared.lasting.settings.TrimSettings.{TrimSettings}
 use Rattle.ff_filter.specs.Ranges.{SetsRange, IsCeiling, IsStop, IsRange}
-use Rattle.ff_lasting.specs.Lastings.{SetsTrim, trim_manual, range_same}
+use Rattle.ff_filter.specs.lasting.Lastings.{SetsTrim, trim_manual, range_same}
 use Rattle.ff_joins.specs.Arguments.{number_between}
 use Rattle.ff_filters.specs.Texts.{duration_of, time_of}
 use Rattle.ff_filters.specs.Ticks.{Times, set_times, TrimTimes, set_trim, ticks_at, in_bits, in_bits-near, range_in}

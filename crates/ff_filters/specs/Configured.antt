@@ -12,7 +12,7 @@ use Rattle.ff_filter.specs.declared.plain.ExprSettings.{ExprSettings}
 use Rattle.ff_filter.specs.declared.rebase.Rebase.{Rebase}
 use Rattle.ff_filter.specs.Options.{is_sound, is_video}
 use Rattle.ff_filter.specs.Plain.{no_manual, expr_manual}
-use Rattle.ff_lasting.specs.Lastings.{trim_manual}
+use Rattle.ff_filter.specs.lasting.Lastings.{trim_manual}
 use Rattle.ff_filter.specs.Views.{View}
 use Rattle.ff_filter.specs.declared.spread.copies.SplitSettings.{SplitSettings}
 use Rattle.ff_filter.specs.spread.Splits.{split_manual}

@@ -15,7 +15,7 @@ use Rattle.ff_y4m.specs.declared.head.Y4mHead.{Y4mHead}
 use Rattle.ff_flac_dec.specs.declared.head.FlacHead.{FlacHead}
 use Rattle.ff_au.specs.HeadLaws as au_laws
 use Rattle.ff_au.specs.Heads as au
-use Rattle.ff_pcm_cut.specs.declared.head.PcmHead.{PcmHead}
+use Rattle.ff_pcm.specs.declared.body.head.PcmHead.{PcmHead}
 use Rattle.ff_wav.specs.HeadLaws as wav_laws
 use Rattle.ff_wav.proofs.FormLaws as wav_forms
 use Rattle.ff_y4m.specs.Heads as y4m

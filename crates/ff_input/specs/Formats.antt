@@ -8,9 +8,9 @@ use Rattle.ff_reader.specs.declared.walk.HeadWalk.{HeadWalk}
 use Rattle.ff_reader.specs.declared.fault.HeadFault.TheVariants.{Unsupported}
 use Rattle.ff_format.specs.declared.format.FileFormat.{FileFormat}
 use Rattle.ff_format.specs.declared.format.FileFormat.TheVariants as format
-use Rattle.ff_pcm_cut.specs.declared.head.PcmHead.{PcmHead}
-use Rattle.ff_pcm_cut.specs.declared.cut.PcmCut.{PcmCut}
-use Rattle.ff_pcm_cut.specs.Cuts.{pcm_cutter}
+use Rattle.ff_pcm.specs.declared.body.head.PcmHead.{PcmHead}
+use Rattle.ff_pcm.specs.declared.body.cut.PcmCut.{PcmCut}
+use Rattle.ff_pcm.specs.body.Cuts.{pcm_cutter}
 use Rattle.ff_au.specs.Heads as au
 use Rattle.ff_au.specs.declared.walk.Au.{Au}
 use Rattle.ff_wav.specs.Heads as wav

@@ -17,8 +17,8 @@ use Rattle.ff_stream.specs.declared.item.Lane.TheVariants.{Packets}
 use Rattle.ff_frame.specs.PcmLaws.{packet_pcm}
 use Rattle.ff_frame.specs.Codecs.{IsPcmCodec, sample_bytes}
 use Rattle.ff_stream.specs.Lanes.{IsItemFor, InOrder, Follows, AreInShape}
-use Rattle.ff_pcm_cut.specs.Packets.{block_of, frames, packet_at, packet_count, packets_of, body, whole_len, IsStream}
-use Rattle.ff_pcm_cut.specs.Cuts.{pcm_cutter}
+use Rattle.ff_pcm.specs.body.Packets.{block_of, frames, packet_at, packet_count, packets_of, body, whole_len, IsStream}
+use Rattle.ff_pcm.specs.body.Cuts.{pcm_cutter}
 use Rattle.ff_input.specs.Owed.{Owes}
 use Rattle.ff_input.specs.Shapes.{IsShaped, all_first}
 use Rattle.ff_input.specs.Streams.{HasStreams}

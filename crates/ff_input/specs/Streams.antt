@@ -5,7 +5,7 @@ use Rattle.ff_frame.specs.Video.{IsSide}
 use Rattle.ff_frame.specs.declared.head.StreamHead.{StreamHead}
 use Rattle.ff_frame.specs.declared.head.StreamHead.TheVariants.{Audio, Video}
 use Rattle.ff_reader.specs.Cutters.{Cutter}
-use Rattle.ff_pcm_cut.specs.Packets as pcm
+use Rattle.ff_pcm.specs.body.Packets as pcm
 use Rattle.ff_flac_frame.specs.Frame.{IsStream}
 use Rattle.ff_flac_dec.specs.Streams.{IsFlacHead, stream_of}
 

@@ -6,7 +6,7 @@ ghost use Rattle.ff_reader.specs.Cutters.{GivesPacket, GaveAll};
 use crate::one_of::OneOf;
 use ff_flac_dec::{FlacCut, FrameSender};
 use ff_frame::Cut;
-use ff_pcm_cut::PcmCut;
+use ff_pcm::PcmCut;
 use ff_reader::PacketCut;
 use ff_y4m::Y4mCut;
 use std::alloc::AllocError;

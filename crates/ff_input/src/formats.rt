@@ -89,7 +89,7 @@ pub(crate) fn start_of(format: FileFormat) -> InputWalk
 }
 
 impl HeadReader for BothForms<HeadWalk<RiffWave>, HeadWalk<Rf64Wave>> {
-    ghost use Rattle.ff_pcm_cut.specs.Packets.{IsHead as IsPcmHead};
+    ghost use Rattle.ff_pcm.specs.body.Packets.{IsHead as IsPcmHead};
     ghost use Rattle.ff_wav.specs.Heads.{head as wav_head};
     ghost use Rattle.ff_input.specs.Answers.{wav_reached};
 

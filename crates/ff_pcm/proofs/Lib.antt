@@ -5,3 +5,4 @@ pub mod SampleLaws
 mod NumberLaws
 mod RawLaws
 mod ValueLaws
+pub mod BodyLemmas

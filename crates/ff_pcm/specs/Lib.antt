@@ -3,3 +3,4 @@ pub mod Depth
 pub mod Frames
 pub mod Raw
 pub mod Samples
+pub mod body

@@ -5,6 +5,7 @@
 //! of that one relation. A packet of raw video is the planes of one frame as they stand (`specs/Raw`).
 #![tactic(auto)]
 
+mod body;
 mod decode;
 mod depth;
 mod encode;
@@ -16,6 +17,7 @@ mod raw;
 mod sample;
 mod values;
 
+pub use body::{PcmCut, PcmHead};
 pub use decode::{depth_of, pcm_decode, size_of_sample};
 pub use depth::depth_change;
 pub use encode::{pcm_encode, pcm_encode_into, room_for};

@@ -4,8 +4,8 @@ use Rattle.std.specs.List.{AllByRecursion, flat_map, list_any, range_with_len}
 use Rattle.std.specs.declared.alloc.Global.{Global}
 use Rattle.std.specs.declared.vec.Vec.{Vec}
 use Rattle.ff_frame.specs.declared.head.StreamHead.{StreamHead}
-use Rattle.ff_map.specs.declared.streams.Stream.{Stream}
-use Rattle.ff_map.specs.Choice.{all_streams}
+use Rattle.ff_words.specs.declared.maps.streams.Stream.{Stream}
+use Rattle.ff_words.specs.maps.Choice.{all_streams}
 use Rattle.ff_plan_layout.specs.declared.layout.InPad.{InPad}
 use Rattle.ff_plan_layout.specs.declared.layout.OutStream.{OutStream}
 use Rattle.ff_plan_layout.specs.declared.layout.Placed.{Placed}

@@ -9,7 +9,7 @@ use Rattle.ff_stream.specs.edges.Ports.{lanes_into, lanes_out_of}
 use Rattle.ff_stream.specs.declared.item.Lane.{Lane}
 use Rattle.ff_stream.specs.declared.item.Lane.TheVariants.{Frames, Packets}
 use Rattle.ff_graph_links.specs.labels.Order.{ComeInOrder, graph_order, feeds}
-use Rattle.ff_map.specs.declared.streams.Stream.{Stream}
+use Rattle.ff_words.specs.declared.maps.streams.Stream.{Stream}
 use Rattle.ff_frame.specs.declared.head.StreamHead.{StreamHead}
 use Rattle.ff_words.specs.declared.job.Job.{Job}
 use Rattle.ff_words.specs.declared.job.OutputJob.{OutputJob}

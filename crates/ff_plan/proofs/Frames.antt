@@ -4,8 +4,8 @@ use Rattle.std.specs.Prelude.{Ok, slice_index_or}
 use Rattle.std.specs.List.{AllByRecursion, flat_map, position_or_len}
 use Rattle.ff_stream.specs.declared.edges.edge.Edge.{Edge}
 use Rattle.ff_graph_links.specs.labels.Order.{ComeInOrder, HasNoLoop, graph_order, feeds, is_in}
-use Rattle.ff_map.specs.declared.streams.Stream.{Stream}
-use Rattle.ff_map.specs.Choice.{numbered, streams_from, all_streams}
+use Rattle.ff_words.specs.declared.maps.streams.Stream.{Stream}
+use Rattle.ff_words.specs.maps.Choice.{numbered, streams_from, all_streams}
 use Rattle.ff_frame.specs.declared.head.StreamHead.{StreamHead}
 use Rattle.ff_words.specs.declared.job.Job.{Job}
 use Rattle.ff_plan_layout.specs.declared.open_pads.OpenOut.{OpenOut}

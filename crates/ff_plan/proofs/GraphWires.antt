@@ -4,7 +4,7 @@ use Rattle.std.proofs.lemmas.List.{append-nil}
 use Rattle.std.specs.Prelude.{slice_get}
 use Rattle.std.specs.List.{AllByRecursion, flat_map, cons_option, position_or_len}
 use Rattle.ff_stream.specs.edges.Ports.{tally, HasOuts}
-use Rattle.ff_map.specs.declared.streams.StreamRef.{StreamRef}
+use Rattle.ff_words.specs.declared.maps.streams.StreamRef.{StreamRef}
 use Rattle.ff_plan_layout.specs.declared.layout.InPad.{InPad}
 use Rattle.ff_plan_layout.specs.declared.layout.Origin.{Origin}
 use Rattle.ff_plan_layout.specs.declared.layout.Origin.TheVariants as origin

@@ -8,9 +8,9 @@ use Rattle.ff_plan.proofs.Upward.{go_upward, is_fed}
 use Rattle.std.specs.List.{position_or_len, AllByRecursion, flat_map, list_any, range_with_len}
 use Rattle.std.proofs.lemmas.Bool.Decides.{nat_tests}
 use Rattle.ff_frame.specs.declared.head.StreamHead.{StreamHead}
-use Rattle.ff_map.specs.declared.streams.StreamRef.{StreamRef}
-use Rattle.ff_map.specs.declared.streams.Stream.{Stream}
-use Rattle.ff_map.specs.Choice.{numbered, streams_from, all_streams}
+use Rattle.ff_words.specs.declared.maps.streams.StreamRef.{StreamRef}
+use Rattle.ff_words.specs.declared.maps.streams.Stream.{Stream}
+use Rattle.ff_words.specs.maps.Choice.{numbered, streams_from, all_streams}
 use Rattle.ff_plan_layout.specs.declared.layout.InPad.{InPad}
 use Rattle.ff_plan_layout.specs.declared.layout.Origin.{Origin}
 use Rattle.ff_plan_layout.specs.declared.layout.Origin.TheVariants as origin

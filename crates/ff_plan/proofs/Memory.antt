@@ -4,10 +4,10 @@ use Rattle.std.specs.Prelude.{Ok, Err, Result, slice_get, slice_index_or, is_som
 use Rattle.std.specs.List.{AllByRecursion, find, filter_map, flat_map}
 use Rattle.ff_lang.specs.declared.graph.Filter.{Filter}
 use Rattle.ff_lang.specs.declared.graph.Graph.{Graph}
-use Rattle.ff_map.specs.declared.map.MapFrom.{MapFrom}
-use Rattle.ff_map.specs.declared.map.MapFrom.TheVariants as from
-use Rattle.ff_map.specs.declared.map.MapSpec.{MapSpec}
-use Rattle.ff_map.specs.Choice.{selected}
+use Rattle.ff_words.specs.declared.maps.map.MapFrom.{MapFrom}
+use Rattle.ff_words.specs.declared.maps.map.MapFrom.TheVariants as from
+use Rattle.ff_words.specs.declared.maps.map.MapSpec.{MapSpec}
+use Rattle.ff_words.specs.maps.Choice.{selected}
 use Rattle.ff_graph_links.specs.declared.labels.fault.LabelFault.{LabelFault}
 use Rattle.ff_graph_links.specs.declared.labels.fault.LabelFault.TheVariants as label_fault
 use Rattle.ff_graph_links.specs.labels.Labels.{is_one_of, filters_of, taken_in, given_in}

@@ -3,8 +3,8 @@ use Rattle.std.proofs.Common.{◌≡◌, ℕ, zero, suc, ◌+◌, ◌<◌, ◌�
 use Rattle.std.specs.Prelude.{slice_get, unwrap_or}
 use Rattle.std.specs.List.{filter, range_with_len}
 use Rattle.ff_frame.specs.declared.head.StreamHead.{StreamHead}
-use Rattle.ff_map.specs.Choice.{numbered, streams_from, all_streams}
-use Rattle.ff_map.specs.declared.streams.Stream.{Stream}
+use Rattle.ff_words.specs.maps.Choice.{numbered, streams_from, all_streams}
+use Rattle.ff_words.specs.declared.maps.streams.Stream.{Stream}
 use Rattle.ff_plan_layout.specs.Choice.{head_at}
 use Rattle.ff_plan_layout.specs.Layout.{IsAmong}
 use Rattle.ff_plan_layout.proofs.Among.{among_either}

@@ -13,13 +13,13 @@ use Rattle.ff_stream.specs.declared.item.Lane.TheVariants.{Frames, Packets}
 use Rattle.ff_lang.specs.declared.graph.Graph.{Graph}
 use Rattle.ff_format.specs.declared.format.FileFormat.{FileFormat}
 use Rattle.ff_words.specs.declared.job.Job.{Job}
-use Rattle.ff_map.specs.declared.map.Kind.{Kind}
-use Rattle.ff_map.specs.declared.map.Kind.TheVariants as kind
-use Rattle.ff_map.specs.declared.map.MapFrom.TheVariants as from
-use Rattle.ff_map.specs.declared.map.MapSpec.{MapSpec}
+use Rattle.ff_words.specs.declared.maps.map.Kind.{Kind}
+use Rattle.ff_words.specs.declared.maps.map.Kind.TheVariants as kind
+use Rattle.ff_words.specs.declared.maps.map.MapFrom.TheVariants as from
+use Rattle.ff_words.specs.declared.maps.map.MapSpec.{MapSpec}
 use Rattle.ff_words.specs.declared.job.OutputJob.{OutputJob}
 use Rattle.ff_words.specs.Words.{none_asked}
-use Rattle.ff_map.specs.declared.map.Pick.TheVariants as pick
+use Rattle.ff_words.specs.declared.maps.map.Pick.TheVariants as pick
 use Rattle.ff_stream.specs.declared.edges.edge.Edge.{Edge}
 use Rattle.ff_plan.specs.declared.planned.Plan.{Plan}
 use Rattle.ff_plan.specs.declared.planned.PlanNode.TheVariants as node

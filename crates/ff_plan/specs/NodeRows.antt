@@ -1,7 +1,7 @@
 -- In which order the nodes of any plan stand.
 use Rattle.std.specs.Prelude.{◌≡◌, ◌⊎◌, ℕ, ◌^◌, ◌<◌, List, [], ◌++◌, length, map, slice_index_or}
 use Rattle.std.specs.List.{range_with_len}
-use Rattle.ff_map.specs.declared.streams.StreamRef.{StreamRef}
+use Rattle.ff_words.specs.declared.maps.streams.StreamRef.{StreamRef}
 use Rattle.ff_plan_layout.specs.declared.layout.Placed.{Placed}
 use Rattle.ff_plan.specs.declared.planned.PlanNode.{PlanNode}
 use Rattle.ff_plan.specs.declared.planned.PlanNode.TheVariants as node

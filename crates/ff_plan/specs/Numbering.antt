@@ -3,8 +3,8 @@ use Rattle.std.specs.Prelude.{ℕ, ◌+◌, ◌^◌, ◌≤◌, ◌==◌, Bool, 
 use Rattle.std.specs.List.{filter, find, flat_map, list_any, position_or_len, range_with_len}
 use Rattle.ff_stream.specs.declared.item.Lane.{Lane}
 use Rattle.ff_stream.specs.declared.item.Lane.TheVariants.{Frames, Packets}
-use Rattle.ff_map.specs.declared.streams.Stream.{Stream}
-use Rattle.ff_map.specs.declared.streams.StreamRef.{StreamRef}
+use Rattle.ff_words.specs.declared.maps.streams.Stream.{Stream}
+use Rattle.ff_words.specs.declared.maps.streams.StreamRef.{StreamRef}
 use Rattle.ff_plan_layout.specs.declared.layout.InPad.{InPad}
 use Rattle.ff_plan_layout.specs.declared.layout.Laid.{Laid}
 use Rattle.ff_plan_layout.specs.declared.layout.Origin.{Origin}
@@ -20,7 +20,7 @@ use Rattle.ff_plan_layout.specs.declared.layout.GraphText.{GraphText}
 use Rattle.ff_plan.specs.declared.planned.Plan.{Plan}
 use Rattle.ff_sched.specs.declared.routes.Routes.{Routes}
 use Rattle.ff_frame.specs.declared.head.StreamHead.{StreamHead}
-use Rattle.ff_map.specs.Choice.{all_streams}
+use Rattle.ff_words.specs.maps.Choice.{all_streams}
 use Rattle.ff_plan_layout.specs.Layout.{same_ref, shows}
 use Rattle.ff_plan.specs.Nodes.{origin_port, way_to, ways_in}
 use Rattle.ff_plan.specs.Wires.{edges_of}

@@ -5,9 +5,9 @@ use Rattle.ff_stream.specs.declared.edges.edge.Edge.{Edge}
 use Rattle.ff_stream.specs.edges.Ports.{lanes_into, lanes_out_of}
 use Rattle.ff_stream.specs.declared.item.Lane.TheVariants.{Frames, Packets}
 use Rattle.ff_frame.specs.declared.head.StreamHead.{StreamHead}
-use Rattle.ff_map.specs.declared.streams.Stream.{Stream}
-use Rattle.ff_map.specs.declared.streams.StreamRef.{StreamRef}
-use Rattle.ff_map.specs.Choice.{all_streams}
+use Rattle.ff_words.specs.declared.maps.streams.Stream.{Stream}
+use Rattle.ff_words.specs.declared.maps.streams.StreamRef.{StreamRef}
+use Rattle.ff_words.specs.maps.Choice.{all_streams}
 use Rattle.ff_plan.specs.declared.planned.Plan.{Plan}
 use Rattle.ff_plan.specs.declared.planned.PlanNode.{PlanNode}
 use Rattle.ff_plan.specs.declared.planned.PlanNode.TheVariants as node

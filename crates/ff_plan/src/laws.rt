@@ -1,8 +1,8 @@
 //! Laws of the edges of every plan. Each is a function that does nothing: its clauses hold of all values.
 ghost use Rattle.std.specs.Prelude.{◌≡◌, ℕ, ◌<◌, ◌≤◌, Bool, List, length, slice_get, Some, Ok};
 ghost use Rattle.std.specs.List.{AllByRecursion};
-ghost use Rattle.ff_map.specs.Choice.{AreBest};
-ghost use Rattle.ff_map.specs.declared.streams.StreamRef.{StreamRef};
+ghost use Rattle.ff_words.specs.maps.Choice.{AreBest};
+ghost use Rattle.ff_words.specs.declared.maps.streams.StreamRef.{StreamRef};
 ghost use Rattle.ff_plan_layout.specs.Choice.{best};
 ghost use Rattle.ff_plan.specs.Wires.{Wire, edges_of};
 ghost use Rattle.ff_stream.specs.edges.Ports.{shape_of, HasIns, HasOuts, IsFed};

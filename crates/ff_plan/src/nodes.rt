@@ -1,7 +1,7 @@
 //! The streams of outputs in their places, and the nodes.
 ghost use Rattle.std.specs.Prelude.{◌≡◌, ◌+◌, ◌^◌, ◌<◌, ◌≤◌, ◌++◌, IfOk, OnOk, vec_len, length, map};
 ghost use Rattle.std.specs.List.{AllByRecursion, range_with_len};
-ghost use Rattle.ff_map.specs.declared.streams.Stream.{Stream};
+ghost use Rattle.ff_words.specs.declared.maps.streams.Stream.{Stream};
 ghost use Rattle.ff_plan_layout.specs.declared.layout.Laid.{Laid};
 ghost use Rattle.ff_plan_layout.specs.declared.layout.Placed.{Placed};
 ghost use Rattle.ff_plan.specs.declared.planned.PlanNode.TheVariants as node;
@@ -10,8 +10,8 @@ ghost use Rattle.ff_plan.specs.Numbering.{nodes_in};
 ghost use Rattle.ff_plan_layout.specs.Rows.{rows};
 
 use crate::planned::PlanNode;
-use ff_map::Stream;
 use ff_plan_layout::{Laid, OutStream, Placed};
+use ff_words::maps::Stream;
 use std::alloc::{AllocError, Global};
 
 // The streams of an output in their places, of which the first has this number.

@@ -1,7 +1,7 @@
 //! The plan made of a layout, by numbering its nodes.
 ghost use Rattle.std.specs.Prelude.{◌≡◌, ◌≤◌, IfOk, length, vec_len};
 ghost use Rattle.std.specs.List.{AllByRecursion};
-ghost use Rattle.ff_map.specs.Choice.{lists};
+ghost use Rattle.ff_words.specs.maps.Choice.{lists};
 ghost use Rattle.ff_plan_layout.specs.Layout.{placed as placed_in};
 ghost use Rattle.ff_plan.specs.Nodes.{plan_of};
 ghost use Rattle.ff_plan.specs.Numbering.{drawing_of, firsts_at, outputs_wires, plan_in, routes_in};
@@ -19,10 +19,10 @@ use crate::routes::{graph_ways, ways};
 use crate::wires::wire_up;
 use ff_frame::StreamHead;
 use ff_lang::Sequence;
-use ff_map::Stream;
 use ff_plan_layout::{GraphText, Laid, Laying, Placed};
 use ff_sched::{Graphs, Routes, Ways};
 use ff_stream::Edge;
+use ff_words::maps::Stream;
 use std::alloc::{AllocError, Global};
 
 /// The nodes of a plan and the edges between them.

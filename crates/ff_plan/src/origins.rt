@@ -1,16 +1,16 @@
 //! The origins of graph inputs and output streams, and the streams and inputs that are used.
 ghost use Rattle.std.specs.Prelude.{◌≡◌, ◌^◌, ◌<◌, ◌++◌, ◌∷◌, [], IfOk, OnOk, vec_len, length, map};
 ghost use Rattle.std.specs.List.{AllByRecursion, filter, flat_map, list_any, range_with_len};
-ghost use Rattle.ff_map.specs.Choice.{lists, all_streams, streams_of};
-ghost use Rattle.ff_map.specs.declared.streams.Stream.{Stream};
+ghost use Rattle.ff_words.specs.maps.Choice.{lists, all_streams, streams_of};
+ghost use Rattle.ff_words.specs.declared.maps.streams.Stream.{Stream};
 ghost use Rattle.ff_plan_layout.specs.declared.layout.InPad.{InPad};
 ghost use Rattle.ff_plan_layout.specs.declared.layout.Placed.{Placed};
 ghost use Rattle.ff_plan_layout.specs.Layout.{shows as is_shown_by};
 ghost use Rattle.ff_plan.specs.Numbering.{sources_of, all_sources, has_stream as input_has};
 
 use ff_frame::StreamHead;
-use ff_map::{Stream, StreamRef};
 use ff_plan_layout::{InPad, Laid, Origin, Placed, same_ref, stream_at};
+use ff_words::maps::{Stream, StreamRef};
 use std::alloc::{AllocError, Global};
 
 // Where the inputs of a graph come from.

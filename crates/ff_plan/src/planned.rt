@@ -1,9 +1,9 @@
 //! Plans as values.
 use ff_lang::Sequence;
-use ff_map::StreamRef;
 use ff_plan_layout::GraphText;
 use ff_sched::Routes;
 use ff_stream::Edge;
+use ff_words::maps::StreamRef;
 
 /// A node of a plan. Inputs, outputs and graphs have numbers from 0, over the whole job; so do the streams of an output.
 #[derive(Clone, Copy, Debug, PartialEq, Eq)]

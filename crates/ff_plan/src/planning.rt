@@ -1,6 +1,6 @@
 //! The planner of a job.
 ghost use Rattle.std.specs.Prelude.{◌≡◌, Ok, IfOk, IfErr};
-ghost use Rattle.ff_map.specs.Choice.{lists};
+ghost use Rattle.ff_words.specs.maps.Choice.{lists};
 ghost use Rattle.ff_plan_layout.specs.Limits.{IsWithinLimits};
 ghost use Rattle.ff_plan.specs.Planned.{planned};
 ghost use Rattle.ff_plan_layout.specs.Refusals.{IsRefused};

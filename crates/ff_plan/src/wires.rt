@@ -7,9 +7,9 @@ ghost use Rattle.ff_plan_layout.specs.Limits.{IsSmall};
 
 use crate::firsts::{Firsts, dec_number, demux_number, graph_number, origin_number, port_of};
 use crate::number::Wire;
-use ff_map::Stream;
 use ff_plan_layout::{InPad, Laid, Placed};
 use ff_stream::Lane;
+use ff_words::maps::Stream;
 use std::alloc::{AllocError, Global};
 
 fn add_wire(

@@ -4,11 +4,11 @@ use Rattle.std.specs.Prelude.{if◌then◌else◌, option_to_list}
 use Rattle.std.specs.List.{AllByRecursion}
 use Rattle.std.proofs.lemmas.Bool.Decides.{nat_tests}
 use Rattle.ff_frame.specs.declared.head.StreamHead.{StreamHead}
-use Rattle.ff_map.specs.declared.map.Kind.{Kind}
-use Rattle.ff_map.specs.declared.map.Kind.TheVariants as kind
-use Rattle.ff_map.specs.declared.streams.Stream.{Stream}
-use Rattle.ff_map.specs.declared.streams.StreamRef.{StreamRef}
-use Rattle.ff_map.specs.Choice.{all_streams, of_kind, places, size, IsLargest, IsChoice, AreBest}
+use Rattle.ff_words.specs.declared.maps.map.Kind.{Kind}
+use Rattle.ff_words.specs.declared.maps.map.Kind.TheVariants as kind
+use Rattle.ff_words.specs.declared.maps.streams.Stream.{Stream}
+use Rattle.ff_words.specs.declared.maps.streams.StreamRef.{StreamRef}
+use Rattle.ff_words.specs.maps.Choice.{all_streams, of_kind, places, size, IsLargest, IsChoice, AreBest}
 use Rattle.ff_plan_layout.specs.Choice.{heaviest_from, heaviest, best_of_kind, best}
 
 abbrev IsBelow : Stream → Stream → Type 0

@@ -5,11 +5,11 @@ use Rattle.std.specs.Prelude.{Ok, Err, Result, slice_get, slice_index_or}
 use Rattle.std.specs.List.{AllByRecursion, find, filter_map, position_or_len, cons_option}
 use Rattle.ff_frame.specs.declared.head.StreamHead.{StreamHead}
 use Rattle.ff_lang.specs.declared.graph.Graph.{Graph}
-use Rattle.ff_map.specs.declared.map.MapFrom.{MapFrom}
-use Rattle.ff_map.specs.declared.map.MapFrom.TheVariants as from
-use Rattle.ff_map.specs.declared.map.MapSpec.{MapSpec}
-use Rattle.ff_map.specs.declared.streams.Stream.{Stream}
-use Rattle.ff_map.specs.Choice.{all_streams, has_kind, selected}
+use Rattle.ff_words.specs.declared.maps.map.MapFrom.{MapFrom}
+use Rattle.ff_words.specs.declared.maps.map.MapFrom.TheVariants as from
+use Rattle.ff_words.specs.declared.maps.map.MapSpec.{MapSpec}
+use Rattle.ff_words.specs.declared.maps.streams.Stream.{Stream}
+use Rattle.ff_words.specs.maps.Choice.{all_streams, has_kind, selected}
 use Rattle.ff_plan_layout.specs.declared.layout.InPad.{InPad}
 use Rattle.ff_plan_layout.specs.declared.layout.Origin.TheVariants as origin
 use Rattle.ff_plan_layout.specs.Labels.{giver, stream_of_label, stream_of_spec, stream_of_map, first_known}

@@ -6,13 +6,13 @@ use Rattle.std.proofs.lemmas.Bool.Decides.{nat_tests}
 use Rattle.ff_frame.specs.declared.head.StreamHead.{StreamHead}
 use Rattle.ff_frame.specs.declared.config.ConfigError.TheVariants as config
 use Rattle.ff_lang.specs.declared.graph.Graph.{Graph}
-use Rattle.ff_map.specs.declared.map.Kind.TheVariants as kind
-use Rattle.ff_map.specs.declared.map.MapFrom.{MapFrom}
-use Rattle.ff_map.specs.declared.map.MapFrom.TheVariants as from
-use Rattle.ff_map.specs.declared.map.MapSpec.{MapSpec}
-use Rattle.ff_map.specs.declared.streams.Stream.{Stream}
-use Rattle.ff_map.specs.declared.streams.StreamRef.{StreamRef}
-use Rattle.ff_map.specs.Choice.{all_streams, selected}
+use Rattle.ff_words.specs.declared.maps.map.Kind.TheVariants as kind
+use Rattle.ff_words.specs.declared.maps.map.MapFrom.{MapFrom}
+use Rattle.ff_words.specs.declared.maps.map.MapFrom.TheVariants as from
+use Rattle.ff_words.specs.declared.maps.map.MapSpec.{MapSpec}
+use Rattle.ff_words.specs.declared.maps.streams.Stream.{Stream}
+use Rattle.ff_words.specs.declared.maps.streams.StreamRef.{StreamRef}
+use Rattle.ff_words.specs.maps.Choice.{all_streams, selected}
 use Rattle.ff_words.specs.declared.job.OutputJob.{OutputJob}
 use Rattle.ff_graph_links.specs.labels.Labels.{is_one_of, filters_of, given_in}
 use Rattle.ff_graph_links.specs.labels.Names.{twice_in, unknown_filter}

@@ -2,7 +2,7 @@
 use Rattle.std.proofs.Common.{◌≡◌, ℕ, ◌+◌, ◌<◌, List, [], ◌∷◌, ◌++◌, drop, take, length, get_or, refl, sym, ap, ◌∙◌}
 use Rattle.std.specs.Prelude.{Ok}
 use Rattle.ff_lang.specs.declared.graph.Graph.{Graph}
-use Rattle.ff_map.specs.declared.map.MapSpec.{MapSpec}
+use Rattle.ff_words.specs.declared.maps.map.MapSpec.{MapSpec}
 use Rattle.ff_words.specs.declared.job.OutputJob.{OutputJob}
 use Rattle.ff_plan_layout.specs.declared.layout.InPad.{InPad}
 use Rattle.ff_plan_layout.specs.Picking.{labels_of_map, used_before, used_by}

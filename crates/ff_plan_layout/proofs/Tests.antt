@@ -3,7 +3,7 @@ use Rattle.std.proofs.Common.{◌≡◌, ℕ, zero, suc, ◌+◌, ◌≤◌, ◌
 use Rattle.std.specs.List.{position_or_len}
 use Rattle.std.proofs.lemmas.Bool.Decides.{nat_tests}
 use Rattle.ff_stream.specs.edges.Ports.{tally}
-use Rattle.ff_map.specs.declared.streams.StreamRef.{StreamRef}
+use Rattle.ff_words.specs.declared.maps.streams.StreamRef.{StreamRef}
 use Rattle.ff_plan_layout.specs.Layout.{same_ref}
 
 pub hit : {A : Type 0} (p : A → Bool) (x : A) (xs : List A) → p x ≡ true → position_or_len p (x ∷ xs) ≡ 0

@@ -5,10 +5,10 @@ use Rattle.std.specs.List.{find, filter_map, flat_map, cons_option, position_or_
 use Rattle.std.proofs.lemmas.Bool.Decides.{nat_tests}
 use Rattle.ff_frame.specs.declared.head.StreamHead.{StreamHead}
 use Rattle.ff_lang.specs.declared.graph.Graph.{Graph}
-use Rattle.ff_map.specs.declared.map.MapFrom.{MapFrom}
-use Rattle.ff_map.specs.declared.map.MapFrom.TheVariants as from
-use Rattle.ff_map.specs.declared.map.MapSpec.{MapSpec}
-use Rattle.ff_map.specs.declared.streams.Stream.{Stream}
+use Rattle.ff_words.specs.declared.maps.map.MapFrom.{MapFrom}
+use Rattle.ff_words.specs.declared.maps.map.MapFrom.TheVariants as from
+use Rattle.ff_words.specs.declared.maps.map.MapSpec.{MapSpec}
+use Rattle.ff_words.specs.declared.maps.streams.Stream.{Stream}
 use Rattle.ff_words.specs.declared.job.OutputJob.{OutputJob}
 use Rattle.ff_stream.specs.edges.Ports.{tally}
 use Rattle.ff_plan_layout.specs.declared.layout.InPad.{InPad}

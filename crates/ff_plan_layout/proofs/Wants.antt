@@ -7,8 +7,8 @@ use Rattle.std.specs.List.{find}
 use Rattle.std.specs.declared.alloc.Global.{Global}
 use Rattle.std.specs.declared.vec.Vec.{Vec}
 use Rattle.ff_frame.specs.declared.head.StreamHead.{StreamHead}
-use Rattle.ff_map.specs.declared.streams.Stream.{Stream}
-use Rattle.ff_map.specs.Choice.{lists, streams_of, streams_from}
+use Rattle.ff_words.specs.declared.maps.streams.Stream.{Stream}
+use Rattle.ff_words.specs.maps.Choice.{lists, streams_of, streams_from}
 use Rattle.ff_plan_layout.specs.Layout.{same_ref}
 use Rattle.ff_plan_layout.specs.Pads.{Want, is_taken}
 use Rattle.ff_plan_layout.specs.declared.layout.Want.TheVariants.{KnownStream, Labelled, Nothing}

@@ -4,11 +4,11 @@ use Rattle.std.specs.Prelude.{nat_lt, Bool, true, false, cond, if◌then◌else�
 use Rattle.std.specs.List.{filter_map}
 use Rattle.ff_frame.specs.declared.head.StreamHead.{StreamHead}
 use Rattle.ff_frame.specs.declared.head.StreamHead.TheVariants as stream_head
-use Rattle.ff_map.specs.declared.map.Kind.{Kind}
-use Rattle.ff_map.specs.declared.map.Kind.TheVariants as kind
-use Rattle.ff_map.specs.declared.streams.Stream.{Stream}
-use Rattle.ff_map.specs.declared.streams.StreamRef.{StreamRef}
-use Rattle.ff_map.specs.Choice.{all_streams, of_kind, places, size}
+use Rattle.ff_words.specs.declared.maps.map.Kind.{Kind}
+use Rattle.ff_words.specs.declared.maps.map.Kind.TheVariants as kind
+use Rattle.ff_words.specs.declared.maps.streams.Stream.{Stream}
+use Rattle.ff_words.specs.declared.maps.streams.StreamRef.{StreamRef}
+use Rattle.ff_words.specs.maps.Choice.{all_streams, of_kind, places, size}
 
 abbrev pub kind_of : StreamHead → Kind
 kind_of (stream_head.Audio tb rate bits channels codec) = kind.Audio

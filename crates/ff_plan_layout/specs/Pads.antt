@@ -4,11 +4,11 @@ use Rattle.std.specs.List.{find, filter_map, flat_map, position_or_len, cons_opt
 use Rattle.std.specs.Str.{bytes_eq}
 use Rattle.ff_frame.specs.declared.head.StreamHead.{StreamHead}
 use Rattle.ff_lang.specs.declared.graph.Graph.{Graph}
-use Rattle.ff_map.specs.declared.map.Kind.{Kind}
+use Rattle.ff_words.specs.declared.maps.map.Kind.{Kind}
 use Rattle.ff_plan_layout.specs.declared.error.PlanError.TheVariants as fault
 use Rattle.ff_plan_layout.specs.Labels.{giver, stream_of_label}
-use Rattle.ff_map.specs.declared.streams.Stream.{Stream}
-use Rattle.ff_map.specs.Choice.{all_streams, has_kind}
+use Rattle.ff_words.specs.declared.maps.streams.Stream.{Stream}
+use Rattle.ff_words.specs.maps.Choice.{all_streams, has_kind}
 use Rattle.ff_plan_layout.specs.declared.layout.InPad.{InPad}
 pub use Rattle.ff_plan_layout.specs.declared.layout.Made.{Made}
 pub use Rattle.ff_plan_layout.specs.declared.layout.Want.{Want}

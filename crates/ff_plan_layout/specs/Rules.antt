@@ -2,7 +2,7 @@
 use Rattle.std.specs.Prelude.{ℕ, Bool, true, false, List, Option, Some, None, Result, Ok, Err}
 use Rattle.ff_frame.specs.declared.head.StreamHead.{StreamHead}
 use Rattle.ff_lang.specs.declared.graph.Graph.{Graph}
-use Rattle.ff_map.specs.declared.map.MapSpec.{MapSpec}
+use Rattle.ff_words.specs.declared.maps.map.MapSpec.{MapSpec}
 pub use Rattle.ff_plan_layout.specs.declared.open_pads.OpenIn.{OpenIn}
 pub use Rattle.ff_plan_layout.specs.declared.open_pads.OpenOut.{OpenOut}
 pub use Rattle.ff_plan_layout.specs.declared.open_pads.Refused.{Refused}

@@ -16,16 +16,16 @@ use Rattle.ff_frame.specs.declared.head.StreamHead.TheVariants as stream_head
 use Rattle.ff_lang.specs.declared.graph.Graph.{Graph}
 use Rattle.ff_format.specs.declared.format.FileFormat.{FileFormat}
 use Rattle.ff_format.specs.Formats.{is_some_sound, taken_by, takes_sound as sound_taken}
-use Rattle.ff_map.specs.declared.map.Kind.{Kind}
-use Rattle.ff_map.specs.declared.map.Kind.TheVariants as kind
-use Rattle.ff_map.specs.declared.map.MapFrom.{MapFrom}
-use Rattle.ff_map.specs.declared.map.MapFrom.TheVariants as from
-use Rattle.ff_map.specs.declared.map.MapSpec.{MapSpec}
+use Rattle.ff_words.specs.declared.maps.map.Kind.{Kind}
+use Rattle.ff_words.specs.declared.maps.map.Kind.TheVariants as kind
+use Rattle.ff_words.specs.declared.maps.map.MapFrom.{MapFrom}
+use Rattle.ff_words.specs.declared.maps.map.MapFrom.TheVariants as from
+use Rattle.ff_words.specs.declared.maps.map.MapSpec.{MapSpec}
 use Rattle.ff_words.specs.declared.job.OutputJob.{OutputJob}
 use Rattle.ff_frame.specs.declared.config.ConfigError.TheVariants as config
 use Rattle.ff_plan_layout.specs.declared.error.PlanError.TheVariants as fault
-use Rattle.ff_map.specs.declared.streams.Stream.{Stream}
-use Rattle.ff_map.specs.Choice.{has_kind, selected}
+use Rattle.ff_words.specs.declared.maps.streams.Stream.{Stream}
+use Rattle.ff_words.specs.maps.Choice.{has_kind, selected}
 use Rattle.ff_plan_layout.specs.Choice.{kind_of, same_kind, known, best}
 use Rattle.ff_graph_links.specs.labels.Labels.{is_one_of, filters_of}
 use Rattle.ff_graph_links.specs.labels.Names.{twice_in, unknown_filter}

@@ -1,7 +1,7 @@
 //! The input streams that an output asks for, and the refusal of a label.
 ghost use Rattle.std.specs.Prelude.{◌≡◌, ◌⊎◌, ◌++◌, ◌∷◌, [], OnOk, IfOk, map};
 ghost use Rattle.std.specs.List.{cons_option, filter};
-ghost use Rattle.ff_map.specs.Choice.{lists};
+ghost use Rattle.ff_words.specs.maps.Choice.{lists};
 ghost use Rattle.ff_plan_layout.specs.Choice.{head_at, known};
 ghost use Rattle.ff_plan_layout.specs.Streams.{as_pad, is_kept};
 
@@ -10,8 +10,8 @@ use crate::layout::{InPad, Origin};
 use crate::takes::{drops, kind_of};
 use ff_frame::StreamHead;
 use ff_lang::Text;
-use ff_map::{Stream, StreamRef};
 use ff_words::OutputJob;
+use ff_words::maps::{Stream, StreamRef};
 use std::alloc::{AllocError, Global};
 
 /// The head of the stream at a place.

@@ -2,7 +2,7 @@
 use crate::open_pads::{OpenIn, OpenOut, Refused};
 use ff_frame::StreamHead;
 use ff_lang::{Graph, Sequence};
-use ff_map::MapSpec;
+use ff_words::maps::MapSpec;
 use std::alloc::{AllocError, Global};
 
 /// What a plan asks of filters and maps: `Rules` of `specs/Rules`, as code.

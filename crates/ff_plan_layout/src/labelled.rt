@@ -1,14 +1,14 @@
 //! The stream that a label names.
 ghost use Rattle.std.specs.Prelude.{◌≡◌, ◌^◌, ◌<◌, Some, IfOk, vec_len, length};
 ghost use Rattle.std.specs.List.{AllByRecursion};
-ghost use Rattle.ff_map.specs.Choice.{lists};
+ghost use Rattle.ff_words.specs.maps.Choice.{lists};
 ghost use Rattle.ff_plan_layout.specs.Choice.{known};
 ghost use Rattle.ff_plan_layout.specs.Labels.{first_known as first_stream, stream_of_spec as of_spec, stream_of_label as of_label};
 
 use crate::choosing::head_of;
 use crate::filtering::Filtering;
 use ff_frame::StreamHead;
-use ff_map::{MapFrom, MapSpec, Stream, StreamRef, select};
+use ff_words::maps::{MapFrom, MapSpec, Stream, StreamRef, select};
 use std::alloc::{AllocError, Global};
 
 // The first of the streams at these places.

@@ -1,7 +1,7 @@
 //! The layout of a plan: graphs, streams of outputs, and where the strings of graphs stand.
 ghost use Rattle.std.specs.Prelude.{◌≡◌, ◌^◌, ◌<◌, ◌≤◌, ◌++◌, ◌∷◌, [], List, Ok, IfOk, IfErr, OnOk, vec_len, length, map};
 ghost use Rattle.std.specs.List.{AllByRecursion, cons_option, flat_map, range_with_len};
-ghost use Rattle.ff_map.specs.Choice.{lists};
+ghost use Rattle.ff_words.specs.maps.Choice.{lists};
 ghost use Rattle.ff_plan_layout.specs.Layout.{placed};
 ghost use Rattle.ff_plan_layout.specs.Limits.{HasFewIns};
 ghost use Rattle.ff_plan_layout.specs.Passing.{laid_by, rows_behind as passed_rows, streams_by};
@@ -27,7 +27,7 @@ use crate::takes::kind_of;
 use ff_frame::StreamHead;
 use ff_graph_links::{orders_are_whole, orders_go_upward};
 use ff_lang::{Graph, Sequence};
-use ff_map::Kind;
+use ff_words::maps::Kind;
 use ff_words::{Job, OutputJob};
 use std::alloc::{AllocError, Global};
 

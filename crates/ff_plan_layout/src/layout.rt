@@ -2,7 +2,7 @@
 use crate::open_pads::OpenOut;
 use ff_frame::StreamHead;
 use ff_lang::{Sequence, Text};
-use ff_map::{Kind, Stream, StreamRef};
+use ff_words::maps::{Kind, Stream, StreamRef};
 
 /// Where frames come from: a stream of an input, or an open output pad of a graph.
 #[derive(Clone, Copy)]

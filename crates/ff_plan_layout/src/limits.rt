@@ -1,7 +1,7 @@
 //! The limits within which jobs are planned.
 ghost use Rattle.std.specs.Prelude.{◌≡◌, ◌≤◌, true, false, length};
 ghost use Rattle.std.specs.List.{AllByRecursion};
-ghost use Rattle.ff_map.specs.Choice.{lists};
+ghost use Rattle.ff_words.specs.maps.Choice.{lists};
 ghost use Rattle.ff_plan_layout.specs.Limits.{IsWithinLimits};
 
 use crate::lengths::have_short_graphs;

@@ -2,7 +2,7 @@
 ghost use Rattle.std.specs.Prelude.{◌≡◌, ◌⊎◌, ◌++◌, None, IfOk, IfErr};
 ghost use Rattle.std.specs.List.{find, flat_map};
 ghost use Rattle.ff_graph_links.specs.labels.Labels.{is_one_of};
-ghost use Rattle.ff_map.specs.declared.map.MapSpec.{MapSpec};
+ghost use Rattle.ff_words.specs.declared.maps.map.MapSpec.{MapSpec};
 ghost use Rattle.ff_plan_layout.specs.Labels.{taken_labels};
 ghost use Rattle.ff_plan_layout.specs.Mapping.{is_unused, unused_among};
 ghost use Rattle.ff_plan_layout.specs.Picking.{used_by};
@@ -13,8 +13,8 @@ ghost use Rattle.ff_plan_layout.specs.Refusals.{IsFault};
 use crate::error::PlanError;
 use ff_graph_links::{labels_given, takes};
 use ff_lang::{Graph, Text};
-use ff_map::{MapFrom, MapSpec};
 use ff_words::OutputJob;
+use ff_words::maps::{MapFrom, MapSpec};
 use std::alloc::Global;
 
 fn map_uses(spec: &MapSpec, label: &str) -> bool

@@ -3,7 +3,7 @@ ghost use Rattle.std.specs.Prelude.{◌≡◌, ◌+◌, ◌^◌, ◌<◌, ◌≤
 ghost use Rattle.std.proofs.Props.{props};
 ghost use Rattle.std.specs.List.{AllByRecursion};
 ghost use Rattle.ff_lang.specs.declared.graph.Graph.{Graph};
-ghost use Rattle.ff_map.specs.Choice.{lists};
+ghost use Rattle.ff_words.specs.maps.Choice.{lists};
 ghost use Rattle.ff_graph_links.specs.labels.Labels.{filters_of};
 ghost use Rattle.ff_plan_layout.specs.Labels.{stream_of_label as of_label, refusal_of, labels_fault};
 ghost use Rattle.ff_plan_layout.specs.Order.{loop_fault};

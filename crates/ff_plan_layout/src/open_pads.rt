@@ -1,7 +1,7 @@
 //! The open pads of a graph, and the refusal of a filter.
 use ff_frame::{ConfigError, StreamHead};
 use ff_lang::Text;
-use ff_map::Kind;
+use ff_words::maps::Kind;
 
 /// An input pad of a graph that no filter of it feeds.
 #[derive(Debug, Drop)]

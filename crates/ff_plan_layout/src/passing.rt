@@ -23,8 +23,8 @@ use crate::takes::{accepts, kind_of, packed_as};
 use ff_frame::ConfigError;
 use ff_graph_links::{Known, check_names, check_own_labels};
 use ff_lang::{Chain, Filter, Graph, Sequence, Text};
-use ff_map::Kind;
 use ff_words::OutputJob;
+use ff_words::maps::Kind;
 use std::alloc::{AllocError, Global};
 
 // The filters that there are; no label of a simple graph names a stream.

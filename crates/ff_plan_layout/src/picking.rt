@@ -16,8 +16,8 @@ use crate::takes::looks_for;
 use crate::wanting::giver;
 use ff_graph_links::gives;
 use ff_lang::{Graph, Text};
-use ff_map::{Kind, MapFrom, MapSpec, best_streams, select};
 use ff_words::OutputJob;
+use ff_words::maps::{Kind, MapFrom, MapSpec, best_streams, select};
 use std::alloc::{AllocError, Global};
 
 fn is_given(graphs: &[Graph], label: &str) -> bool

@@ -1,10 +1,10 @@
 //! The places of input streams.
 ghost use Rattle.std.specs.Prelude.{◌≡◌};
-ghost use Rattle.ff_map.specs.Choice.{stream_at as the_stream_at};
+ghost use Rattle.ff_words.specs.maps.Choice.{stream_at as the_stream_at};
 ghost use Rattle.ff_plan_layout.specs.Layout.{same_ref as are_same};
 
 use ff_frame::StreamHead;
-use ff_map::{Stream, StreamRef};
+use ff_words::maps::{Stream, StreamRef};
 
 /// Whether two places are one.
 pub fn same_ref(a: StreamRef, b: StreamRef) -> bool

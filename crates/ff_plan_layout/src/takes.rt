@@ -1,7 +1,7 @@
 //! The streams that an output takes by its format, and the heads of their packets.
 ghost use Rattle.std.specs.Prelude.{◌≡◌, ◌<◌, ◌≤◌, true};
 ghost use Rattle.std.specs.List.{list_any};
-ghost use Rattle.ff_map.specs.Choice.{has_kind};
+ghost use Rattle.ff_words.specs.maps.Choice.{has_kind};
 ghost use Rattle.ff_plan_layout.specs.declared.layout.InPad.{InPad};
 ghost use Rattle.ff_plan_layout.specs.Choice.{kind_of as kind_in};
 ghost use Rattle.ff_plan_layout.specs.Streams.{takes_kind as kind_taken, audio_codec as codec_of_sound, codec_or, packed_bits as bits_packed, packed_as as head_packed};
@@ -13,8 +13,8 @@ use crate::layout::{InPad, Origin};
 use crate::wanting::is_kind;
 use ff_format::FileFormat;
 use ff_frame::{Codec, Coding, StreamHead};
-use ff_map::Kind;
 use ff_words::OutputJob;
+use ff_words::maps::Kind;
 
 /// The kind of a stream of this head.
 pub(crate) fn kind_of(head: StreamHead) -> Kind

@@ -1,7 +1,7 @@
 //! The stream that each open input pad of the complex graphs gets.
 ghost use Rattle.std.specs.Prelude.{◌≡◌, ◌^◌, ◌<◌, ◌≤◌, ◌++◌, [], IfOk, vec_len, length};
 ghost use Rattle.std.specs.List.{AllByRecursion, find};
-ghost use Rattle.ff_map.specs.Choice.{lists, streams_of, all_streams, has_kind};
+ghost use Rattle.ff_words.specs.maps.Choice.{lists, streams_of, all_streams, has_kind};
 ghost use Rattle.ff_plan_layout.specs.Labels.{giver as number_of_giver, stream_of_label as of_label};
 ghost use Rattle.ff_plan_layout.specs.Pads.{is_taken as was_taken, is_free as seems_free, known_or_nothing as known_or_none, want_of_giver};
 ghost use Rattle.ff_plan_layout.specs.Pads.{want_of as the_want_of, wants_of as the_wants_of, all_wants as wants_of_all};
@@ -16,7 +16,7 @@ use crate::places::{same_ref, stream_at};
 use ff_frame::StreamHead;
 use ff_graph_links::gives;
 use ff_lang::{Graph, Sequence, Text};
-use ff_map::{Kind, Stream};
+use ff_words::maps::{Kind, Stream};
 use std::alloc::{AllocError, Global};
 
 /// The number of the graph that gives a label.

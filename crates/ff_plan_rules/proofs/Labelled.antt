@@ -4,7 +4,7 @@ use Rattle.std.specs.Prelude.{slice_get, slice_index_or, is_some}
 use Rattle.std.specs.List.{AllByRecursion, filter}
 use Rattle.std.specs.Str.{bytes_eq}
 use Rattle.ff_frame.specs.declared.head.StreamHead.{StreamHead}
-use Rattle.ff_map.specs.declared.map.Kind.{Kind}
+use Rattle.ff_words.specs.declared.maps.map.Kind.{Kind}
 use Rattle.ff_graph_links.specs.declared.pads.drawn.Pad.{Pad}
 use Rattle.ff_graph_links.specs.pads.Links.{Seen, giver_from, source_by, source_of, sources_up, sources_of, sources_from, opens_at, opens_from}
 use Rattle.ff_stream.specs.edges.Ports.{tally}

@@ -1,11 +1,11 @@
 -- The function that reads maps reads each of them, and nothing else.
 use Rattle.std.proofs.Common.{◌≡◌, ◌↔◌, ℕ, Option, Some, None, List, [], ◌∷◌, refl, ◌∙◌}
-use Rattle.ff_map.specs.declared.map.MapSpec.{MapSpec}
-use Rattle.ff_map.specs.Grammar.{IsMap}
-use Rattle.ff_map.specs.Reading.{letter_of, start_next, byte_next, end_of}
-use Rattle.ff_map.proofs.Runs.{reads, and_reads, run, and_run}
-use Rattle.ff_map.proofs.Complete.{reads_map}
-use Rattle.ff_map.proofs.Places.{Read-ok}
+use Rattle.ff_words.specs.declared.maps.map.MapSpec.{MapSpec}
+use Rattle.ff_words.specs.maps.Grammar.{IsMap}
+use Rattle.ff_words.specs.maps.Reading.{letter_of, start_next, byte_next, end_of}
+use Rattle.ff_words.proofs.MapsLemmas.Runs.{reads, and_reads, run, and_run}
+use Rattle.ff_words.proofs.MapsLemmas.Complete.{reads_map}
+use Rattle.ff_words.proofs.MapsLemmas.Places.{Read-ok}
 use Rattle.ff_plan_rules.specs.Maps.{goes_on, read_on, map_of}
 
 -- ---- what is read in the end

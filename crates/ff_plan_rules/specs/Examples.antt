@@ -4,9 +4,9 @@ use Rattle.ff_frame.specs.declared.head.StreamHead.{StreamHead}
 use Rattle.ff_frame.specs.declared.head.StreamHead.TheVariants.{Video}
 use Rattle.ff_frame.specs.declared.video.Format.TheVariants.{C420}
 use Rattle.ff_lang.specs.declared.graph.Graph.{Graph}
-use Rattle.ff_map.specs.declared.map.MapFrom.TheVariants.{Input, Label}
-use Rattle.ff_map.specs.declared.map.MapSpec.{MapSpec}
-use Rattle.ff_map.specs.declared.map.Pick.{Pick}
+use Rattle.ff_words.specs.declared.maps.map.MapFrom.TheVariants.{Input, Label}
+use Rattle.ff_words.specs.declared.maps.map.MapSpec.{MapSpec}
+use Rattle.ff_words.specs.declared.maps.map.Pick.{Pick}
 
 abbrev pub of_input : ℕ → Pick → Bool → MapSpec
 of_input file pick optional = record { from = Input file pick; optional = optional }

@@ -1,7 +1,7 @@
 -- The map that a text is, read byte by byte.
 use Rattle.std.specs.Prelude.{ℕ, Option, Some, None, List, [], ◌∷◌}
-use Rattle.ff_map.specs.declared.map.MapSpec.{MapSpec}
-use Rattle.ff_map.specs.Reading.{letter_of, start_next, byte_next, end_of}
+use Rattle.ff_words.specs.declared.maps.map.MapSpec.{MapSpec}
+use Rattle.ff_words.specs.maps.Reading.{letter_of, start_next, byte_next, end_of}
 
 -- with what was read, if reading goes on
 abbrev pub goes_on : {S M : Type 0} → (S → Option M) → Option S → Option M

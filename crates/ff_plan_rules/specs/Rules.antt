@@ -3,8 +3,8 @@ use Rattle.std.specs.Prelude.{Bool, true, false, if◌then◌else◌, List, map,
 use Rattle.ff_frame.specs.declared.config.ConfigError.TheVariants.{Pads}
 use Rattle.ff_frame.specs.declared.head.StreamHead.{StreamHead}
 use Rattle.ff_lang.specs.declared.graph.Graph.{Graph}
-use Rattle.ff_map.specs.declared.map.Kind.{Kind}
-use Rattle.ff_map.specs.declared.map.Kind.TheVariants.{Audio, Video}
+use Rattle.ff_words.specs.declared.maps.map.Kind.{Kind}
+use Rattle.ff_words.specs.declared.maps.map.Kind.TheVariants.{Audio, Video}
 use Rattle.ff_graph.specs.Opens as of_graph
 use Rattle.ff_graph.specs.Configured as of_graph_made
 use Rattle.ff_plan_layout.specs.Rules.{Rules}

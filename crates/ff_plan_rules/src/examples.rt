@@ -1,8 +1,8 @@
 //! Maps and a graph by example, by computation.
 ghost use Rattle.std.specs.Prelude.{◌≡◌, true, false, [], ◌∷◌, codes, Some, None, Ok, Err};
 ghost use Rattle.ff_frame.specs.declared.config.ConfigError.TheVariants.{Pads};
-ghost use Rattle.ff_map.specs.declared.map.Kind.TheVariants as kind;
-ghost use Rattle.ff_map.specs.declared.map.Pick.TheVariants as pick;
+ghost use Rattle.ff_words.specs.declared.maps.map.Kind.TheVariants as kind;
+ghost use Rattle.ff_words.specs.declared.maps.map.Pick.TheVariants as pick;
 ghost use Rattle.ff_plan_rules.specs.Examples.{of_input, of_label, pictures, alone};
 ghost use Rattle.ff_plan_rules.specs.Rules.{graph_rules};
 

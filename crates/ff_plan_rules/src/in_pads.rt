@@ -6,8 +6,8 @@ ghost use Rattle.ff_plan_rules.specs.Rules.{kind_by as kind_of, input_as, open_i
 
 use ff_graph::{OpenInput, open_inputs};
 use ff_lang::{Graph, Sequence, Text};
-use ff_map::Kind;
 use ff_plan_layout::OpenIn;
+use ff_words::maps::Kind;
 use ff_words::text_of;
 use std::alloc::{AllocError, Global};
 

@@ -3,8 +3,8 @@ ghost use Rattle.std.specs.Prelude.{◌≡◌, ◌↔◌, ℕ, ◌^◌, ◌<◌,
 ghost use Rattle.ff_frame.specs.declared.head.StreamHead.{StreamHead};
 ghost use Rattle.ff_lang.specs.declared.graph.Graph.{Graph as Text};
 ghost use Rattle.ff_graph_links.specs.labels.Labels.{filters_of};
-ghost use Rattle.ff_map.specs.Grammar.{IsMap};
-ghost use Rattle.ff_map.specs.declared.map.MapSpec.{MapSpec};
+ghost use Rattle.ff_words.specs.maps.Grammar.{IsMap};
+ghost use Rattle.ff_words.specs.declared.maps.map.MapSpec.{MapSpec};
 ghost use Rattle.ff_plan_layout.specs.Graphs.{AreRules};
 ghost use Rattle.ff_plan_layout.specs.declared.open_pads.OpenOut.{OpenOut};
 ghost use Rattle.ff_plan_layout.specs.declared.open_pads.Refused.{Refused};

@@ -2,7 +2,7 @@
 ghost use Rattle.std.specs.Prelude.{◌≡◌, ℕ, List, IfOk};
 ghost use Rattle.ff_plan_rules.specs.Maps.{map_of as map_that};
 
-use ff_map::{MapError, MapSpec, read_map};
+use ff_words::maps::{MapError, MapSpec, read_map};
 use std::alloc::{AllocError, Global};
 
 /// The map that a string is, if it is one.

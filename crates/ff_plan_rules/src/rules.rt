@@ -8,8 +8,8 @@ use crate::out_pads::configured;
 use ff_frame::StreamHead;
 use ff_graph::{has_loop, is_known};
 use ff_lang::{Graph, Sequence};
-use ff_map::MapSpec;
 use ff_plan_layout::{Filtering, OpenIn, OpenOut, Refused};
+use ff_words::maps::MapSpec;
 use std::alloc::{AllocError, Global};
 
 /// The rules of the filters that there are, and of maps.

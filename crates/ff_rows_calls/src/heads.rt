@@ -6,7 +6,7 @@ use crate::words::Call;
 use ff_flac_dec::FlacHead;
 use ff_frame::{Codec, Format, HeadEnd, StreamHead};
 use ff_lists::front;
-use ff_pcm_cut::PcmHead;
+use ff_pcm::PcmHead;
 use ff_time::Rational;
 use ff_words::AUDIO_CODECS;
 use ff_y4m::Y4mHead;

@@ -6,8 +6,10 @@ use crate::table::Stop;
 use crate::told::Told;
 use crate::words::Call;
 use ff_frame::{Codec, Format, StreamHead};
-use ff_map::{Kind, MapError, MapFrom, MapSpec, Pick, StreamRef, best_streams, read_map, select};
 use ff_time::Rational;
+use ff_words::maps::{
+    Kind, MapError, MapFrom, MapSpec, Pick, StreamRef, best_streams, read_map, select,
+};
 
 fn name_of(kind: Kind) -> &'static str {
     match kind {

@@ -14,10 +14,10 @@ use crate::kinds::Kinds;
 use ff_frame::StreamHead;
 use ff_host::{Sink, Source};
 use ff_lang::{Chain, Filter, Graph, Sequence, Text};
-use ff_map::Kind;
 use ff_net::Machine;
 use ff_plan_layout::{GraphText, simple_graph};
 use ff_trim::OutputCut;
+use ff_words::maps::Kind;
 use ff_words::{Job, OutputJob};
 use std::alloc::{AllocError, Global};
 

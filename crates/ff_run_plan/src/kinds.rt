@@ -7,7 +7,7 @@ ghost use Rattle.ff_net.specs.Pasts.{start};
 ghost use Rattle.ff_net.specs.Ways.{Flow};
 ghost use Rattle.ff_files.specs.Works.{HoldsPart};
 ghost use Rattle.std.specs.List.{AllByRecursion};
-ghost use Rattle.ff_map.specs.Choice.{lists};
+ghost use Rattle.ff_words.specs.maps.Choice.{lists};
 ghost use Rattle.ff_plan_layout.specs.Graphs.{AreRules};
 ghost use Rattle.ff_plan_layout.specs.Limits.{IsWithinLimits};
 ghost use Rattle.ff_plan.specs.Planned.{planned};

@@ -1,6 +1,6 @@
 //! The plan of a job and its run, between the opening and the closing of files.
 ghost use Rattle.std.specs.Prelude.{◌≡◌, ℕ, List, [], ◌∷◌, length, map, Option, None, Some, Ok, IfOk, IfSome, IfErr, OnOk};
-ghost use Rattle.ff_map.specs.Choice.{lists};
+ghost use Rattle.ff_words.specs.maps.Choice.{lists};
 ghost use Rattle.ff_files.specs.Runs.{RunSays};
 ghost use Rattle.ff_run_plan.specs.Accepting.{IsAccepted, IsPlanFor};
 ghost use Rattle.ff_run_plan.specs.Asked.{asked_of};

@@ -8,11 +8,11 @@ use Rattle.ff_lang.specs.declared.graph.Graph.{Graph}
 use Rattle.ff_lang.specs.Grammar.{IsWord, IsLabel}
 use Rattle.ff_lang.specs.Letters.{is_word_byte, is_label_byte}
 use Rattle.ff_lang.specs.Printing.{printed, IsSound, IsSoundFilter}
-use Rattle.ff_map.specs.declared.map.Kind.TheVariants.{Audio}
-use Rattle.ff_map.specs.declared.map.Pick.TheVariants as pick
-use Rattle.ff_map.specs.declared.map.MapFrom.TheVariants.{Input, Label}
-use Rattle.ff_map.specs.declared.map.MapSpec.{MapSpec}
-use Rattle.ff_map.specs.Grammar.{mark}
+use Rattle.ff_words.specs.declared.maps.map.Kind.TheVariants.{Audio}
+use Rattle.ff_words.specs.declared.maps.map.Pick.TheVariants as pick
+use Rattle.ff_words.specs.declared.maps.map.MapFrom.TheVariants.{Input, Label}
+use Rattle.ff_words.specs.declared.maps.map.MapSpec.{MapSpec}
+use Rattle.ff_words.specs.maps.Grammar.{mark}
 use Rattle.ff_format.specs.declared.format.FileFormat.TheVariants.{FrameHash}
 use Rattle.ff_words.specs.declared.job.Job.{Job}
 use Rattle.ff_words.specs.declared.error.Fault.{Fault}

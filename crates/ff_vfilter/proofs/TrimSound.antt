@@ -5,7 +5,7 @@ use Rattle.ff_stream.specs.declared.item.Lane.{Lane}
 use Rattle.ff_stream.specs.Stream.{Mark, whole, broken}
 use Rattle.ff_filter.specs.declared.range.Range.{Range}
 use Rattle.ff_filter.specs.Ranges.{is_past}
-use Rattle.ff_lasting.specs.Lastings.{lasting}
+use Rattle.ff_filter.specs.lasting.Lastings.{lasting}
 use Rattle.ff_filter.specs.Shifts.{start_ticks}
 use Rattle.ff_filter.specs.Sound.{IsSound}
 use Rattle.ff_filter.proofs.Parts.{IsPart, part_later, shape_part}

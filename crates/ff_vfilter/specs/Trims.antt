@@ -10,12 +10,12 @@ use Rattle.ff_lang.specs.declared.graph.Arg.{Arg}
 use Rattle.ff_filter.specs.declared.after.After.{After}
 use Rattle.ff_filter.specs.declared.after.After.TheVariants.{More, Whole}
 use Rattle.ff_filter.specs.declared.range.Range.{Range}
-use Rattle.ff_lasting.specs.declared.settings.TrimSettings.{TrimSettings}
+use Rattle.ff_filter.specs.declared.lasting.settings.TrimSettings.{TrimSettings}
 use Rattle.ff_filter.specs.Joins.{Flow}
 use Rattle.ff_filter.specs.Views.{View}
 use Rattle.ff_filter.specs.Options.{is_video, IsConfigured}
 use Rattle.ff_filter.specs.Ranges.{IsRange, IsCeiling, is_past}
-use Rattle.ff_lasting.specs.Lastings.{trim_manual, lasting}
+use Rattle.ff_filter.specs.lasting.Lastings.{trim_manual, lasting}
 use Rattle.ff_filter.specs.Shifts.{start_ticks}
 use Rattle.ff_filter.specs.Singles.{single_view}
 use Rattle.ff_vfilter.specs.declared.lasting_trim.LastingTrim.{LastingTrim}

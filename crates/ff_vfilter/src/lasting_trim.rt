@@ -5,11 +5,11 @@ ghost use Rattle.ff_filter.specs.Shifts.{start_ticks};
 
 use crate::trim::Trim;
 use ff_filter::{
-    After, Filter, Given, Limited, Range, Step, Stepper, machine_of, ticks_of, video_settings,
+    After, Filter, Given, Limited, Range, Step, Stepper, TrimSettings, lasting_stop, machine_of,
+    ticks_of, video_settings,
 };
 use ff_frame::{ConfigError, StreamHead};
 use ff_lang::Arg;
-use ff_lasting::{TrimSettings, lasting_stop};
 use ff_stream::{Item, Refused};
 use std::alloc::Global;
 

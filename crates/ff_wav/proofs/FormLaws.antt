@@ -12,8 +12,8 @@ use Rattle.ff_reader.proofs.AgreeLaws.{bool_cases, agrees-append, agrees_long, a
 use Rattle.ff_reader.proofs.AnswerLaws.{head_none, early_long, early_short, answer_not_yet as not_yet_by, answer_decided as decided_by, answer_stays as stays_by, answer_sound as sound_by}
 use Rattle.ff_reader.proofs.ReadingLaws.{reading_at, reading_stays as stays_within, reading_opens as opens_within, reading_sound as sound_within, early_sound, within_short}
 use Rattle.ff_reader.proofs.WalkLaws.{walk-drop}
-use Rattle.ff_pcm_cut.specs.Packets.{IsHead}
-use Rattle.ff_pcm_cut.specs.declared.head.PcmHead.{PcmHead as WavHead}
+use Rattle.ff_pcm.specs.body.Packets.{IsHead}
+use Rattle.ff_pcm.specs.declared.body.head.PcmHead.{PcmHead as WavHead}
 use Rattle.ff_wav.specs.Chunks.{unit}
 use Rattle.ff_wav.specs.Heads.{WavWalk, Found, riff_grammar, rf64_grammar, riff_magic, rf64_magic, fork, is_rf64, reading, early, head, answer, IsReached}
 use Rattle.ff_wav.specs.HeadLaws.{riff_lawful, rf64_lawful}

@@ -33,15 +33,15 @@ use Rattle.std.proofs.Math.Seq.{drop-append_seam}
 use Rattle.std.specs.List.{range_with_len}
 use Rattle.std.proofs.Math.Nat.{one-le-mul, div-mul-le_self, mul-div_cancel, mul-le-mul_right, zero-mul}
 use Rattle.std.proofs.lemmas.List.{length-take, take-append-le, take_all, take-take}
-use Rattle.ff_pcm_cut.specs.declared.head.PcmHead.{PcmHead as WavHead}
+use Rattle.ff_pcm.specs.declared.body.head.PcmHead.{PcmHead as WavHead}
 use Rattle.ff_wav.specs.Codecs.{IsWavCodec, IsWavCoded}
 use Rattle.ff_wav.specs.Heads.{riff_magic, rf64_magic, riff_grammar, rf64_grammar, is_rf64, reading, early}
-use Rattle.ff_pcm_cut.specs.Packets.{IsPcmSound, IsStream, block_of, body, frames, packet_at, packet_count, packets_of, demuxed}
+use Rattle.ff_pcm.specs.body.Packets.{IsPcmSound, IsStream, block_of, body, frames, packet_at, packet_count, packets_of, demuxed}
 use Rattle.ff_wav.specs.Written.{pad_of, len_in, says, HeadersAreRead, FilesAreRead, BodiesAreRead, wav_container}
 use Rattle.ff_wav.proofs.FormatBytes.{word_32, word_64, plain_chunk, plain_length, plain_named, plain_other, plain_size, plain_tag, plain_channels, plain_rate, plain_block, plain_bits, long_chunk, long_length, long_named, long_other, long_size, long_tag, long_kind, long_channels, long_rate, long_block, long_bits}
-use Rattle.ff_pcm_cut.specs.Written.{BodiesComeBack, SamplesComeBack}
-use Rattle.ff_pcm_cut.proofs.SamplesBack.{samples_come_back}
-use Rattle.ff_pcm_cut.proofs.BodyLaws.{some_block, whole_packets}
+use Rattle.ff_pcm.specs.body.Written.{BodiesComeBack, SamplesComeBack}
+use Rattle.ff_pcm.proofs.BodyLemmas.SamplesBack.{samples_come_back}
+use Rattle.ff_pcm.proofs.BodyLemmas.BodyLaws.{some_block, whole_packets}
 
 -- ---- the step of a chunk
 

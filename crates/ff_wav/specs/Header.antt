@@ -6,7 +6,7 @@ use Rattle.ff_format.specs.declared.format.Rf64.TheVariants.{Never, Auto, Always
 use Rattle.ff_frame.specs.Codecs.{sample_bytes}
 use Rattle.ff_frame.specs.declared.head.StreamHead.{StreamHead}
 use Rattle.ff_frame.specs.declared.head.StreamHead.TheVariants.{Audio, Video}
-use Rattle.ff_pcm_cut.specs.Packets.{block_of}
+use Rattle.ff_pcm.specs.body.Packets.{block_of}
 use Rattle.ff_wav.specs.declared.header.HeaderForm.{HeaderForm}
 use Rattle.ff_wav.specs.declared.header.HeaderForm.TheVariants.{Riff, RiffWithRoom, Rf64}
 use Rattle.ff_wav.specs.declared.header.Sizes.{Sizes}

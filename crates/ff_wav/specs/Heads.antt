@@ -3,7 +3,7 @@ use Rattle.std.specs.Prelude.{ℕ, Bool, if◌then◌else◌, List, ◌∷◌, �
 use Rattle.ff_frame.specs.declared.cut.HeadEnd.{HeadEnd}
 use Rattle.ff_reader.specs.Heads as heads
 use Rattle.ff_reader.specs.Walks as walks
-use Rattle.ff_pcm_cut.specs.declared.head.PcmHead.{PcmHead as WavHead}
+use Rattle.ff_pcm.specs.declared.body.head.PcmHead.{PcmHead as WavHead}
 use Rattle.ff_wav.specs.Chunks.{WavState, unit}
 use Rattle.ff_reader.specs.declared.walk.HeadWalk.{HeadWalk}
 use Rattle.ff_wav.specs.declared.walk.BothForms.{BothForms}

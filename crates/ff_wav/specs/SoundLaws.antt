@@ -11,7 +11,7 @@ use Rattle.ff_reader.specs.declared.fault.HeadFault.TheVariants.{Damaged, Unsupp
 use Rattle.ff_reader.specs.declared.step.Step.TheVariants.{Wait, Decide, Skip}
 use Rattle.ff_wav.specs.Chunks.{WavState, ChunkStep, passed, number_16, number_32, number_64, large_len, codec_of, stream_of, format_of, step_of, fields, tagged, format_chunk, data_chunk, chunk, sizes_chunk, known, unit}
 use Rattle.ff_reader.specs.Walks.{head_limit, IsKept, Keeps}
-use Rattle.ff_pcm_cut.specs.Packets.{IsHead, IsStream}
+use Rattle.ff_pcm.specs.body.Packets.{IsHead, IsStream}
 
 GoodResult : Result StreamHead HeadFault → Type 0
 GoodResult (Ok f) = IsStream f

@@ -2,7 +2,7 @@
 use Rattle.std.specs.Prelude.{◌≡◌, ℕ, ◌%◌, ◌==◌, ◌≤◌, if◌then◌else◌, Option, None, List, [], ◌∷◌, ◌++◌, drop, length, Ok}
 use Rattle.ff_format.specs.declared.format.Rf64.{Rf64 as Mode}
 use Rattle.ff_frame.specs.declared.head.StreamHead.{StreamHead}
-use Rattle.ff_pcm_cut.specs.declared.head.PcmHead.{PcmHead as WavHead}
+use Rattle.ff_pcm.specs.declared.body.head.PcmHead.{PcmHead as WavHead}
 use Rattle.ff_wav.specs.Chunks.{body_len, large_len}
 use Rattle.ff_wav.specs.Codecs.{IsWavCoded}
 use Rattle.ff_wav.specs.Heads.{head as head_read}
@@ -11,8 +11,8 @@ use Rattle.ff_wav.specs.Header.{header, header_of, header_len, form_of, HasRoom}
 use Rattle.ff_wav.specs.declared.header.HeaderForm.{HeaderForm}
 use Rattle.ff_wav.specs.declared.header.HeaderForm.TheVariants.{Riff, RiffWithRoom, Rf64}
 use Rattle.ff_wav.specs.declared.header.Sizes.{Sizes}
-use Rattle.ff_pcm_cut.specs.Packets.{IsStream, block_of, packets_of, demuxed}
-use Rattle.ff_pcm_cut.specs.Written.{Container}
+use Rattle.ff_pcm.specs.body.Packets.{IsStream, block_of, packets_of, demuxed}
+use Rattle.ff_pcm.specs.body.Written.{Container}
 
 -- one byte 0 behind a body of an odd number of bytes
 abbrev pub pad_of : ℕ → List ℕ

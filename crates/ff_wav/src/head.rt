@@ -1,6 +1,6 @@
 //! The head of a WAV input, and what its chunks say before it is whole.
 use ff_frame::StreamHead;
-use ff_pcm_cut::PcmHead;
+use ff_pcm::PcmHead;
 use ff_reader::Step;
 
 /// The head of a WAV: what comes before the bytes of its samples (RIFF WAVE).

@@ -1,6 +1,6 @@
 //! The bytes of the header that is written.
 ghost use Rattle.std.specs.Prelude.{◌≡◌, ◌+◌, ◌*◌, ◌%◌, ◌^◌, ◌<◌, ◌≤◌, ◌++◌, [], IfOk, OnOk};
-ghost use Rattle.ff_pcm_cut.specs.Packets.{block_of};
+ghost use Rattle.ff_pcm.specs.body.Packets.{block_of};
 ghost use Rattle.ff_frame.specs.Codecs.{sample_bytes};
 ghost use Rattle.ff_wav.specs.Codecs.{IsWavCoded};
 ghost use Rattle.ff_wav.specs.Header.{le_16, le_32, le_64, is_plain, mask_of, fields_of, pcm_guid, extension, data_id, plain_format, long_format, format_bytes};

@@ -1,6 +1,6 @@
 //! The reading of a head chunk by chunk, in either form of WAV.
 ghost use Rattle.std.specs.Prelude.{◌≡◌, ◌↔◌, ◌≤◌, List, [], ◌∷◌, ◌++◌, ℕ, Some, None, Err, length, false, IfOk, codes, map};
-ghost use Rattle.ff_pcm_cut.specs.Packets.{IsHead};
+ghost use Rattle.ff_pcm.specs.body.Packets.{IsHead};
 ghost use Rattle.ff_reader.specs.Heads.{answered, IsOpen};
 ghost use Rattle.ff_reader.specs.Walks.{head_limit};
 ghost use Rattle.ff_wav.specs.Heads.{riff_grammar, rf64_grammar, is_rf64, head, answer, IsReached};
@@ -10,7 +10,7 @@ ghost use Rattle.ff_wav.specs.SoundLaws.{IsKnown, is_kept};
 use crate::chunk::unit_at;
 use crate::head::{WavHead, WavState, WavStep};
 use ff_frame::HeadEnd;
-use ff_pcm_cut::PcmCut;
+use ff_pcm::PcmCut;
 use ff_reader::{HeadFormat, HeadWalk};
 
 /// `RIFF`, four bytes that aren't compared, and `WAVE`.

@@ -5,7 +5,7 @@ use Rattle.std.specs.Prelude.{if◌then◌else◌, not, is_some, nat_le, unwrap_
 use Rattle.std.specs.List.{AllByRecursion}
 use Rattle.std.specs.Str.{bytes_eq}
 use Rattle.ff_lang.specs.declared.graph.Graph.{Graph}
-use Rattle.ff_map.specs.declared.map.MapSpec.{MapSpec}
+use Rattle.ff_words.specs.declared.maps.map.MapSpec.{MapSpec}
 use Rattle.ff_frame.specs.declared.head.Codec.{Codec}
 use Rattle.ff_frame.specs.declared.hash.HashKind.TheVariants.{Sha256, Md5}
 use Rattle.ff_words.specs.declared.error.Fault.{Fault}

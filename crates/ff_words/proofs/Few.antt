@@ -4,7 +4,7 @@ use Rattle.std.specs.Prelude.{flat_map, codes}
 use Rattle.std.specs.List.{AllByRecursion}
 use Rattle.ff_lang.specs.declared.graph.Graph.{Graph}
 use Rattle.ff_lang.specs.Printing.{printed}
-use Rattle.ff_map.specs.declared.map.MapSpec.{MapSpec}
+use Rattle.ff_words.specs.declared.maps.map.MapSpec.{MapSpec}
 use Rattle.ff_format.specs.declared.format.Rf64.{Rf64}
 use Rattle.ff_format.specs.declared.format.Rf64.TheVariants.{Never}
 use Rattle.ff_words.specs.declared.job.InputJob.{InputJob}

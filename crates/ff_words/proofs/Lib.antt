@@ -10,3 +10,4 @@ pub mod Goes
 pub mod Few
 pub mod RoundTrip
 pub mod Bounds
+pub mod MapsLemmas

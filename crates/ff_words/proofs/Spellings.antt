@@ -7,15 +7,15 @@ use Rattle.std.proofs.lemmas.List.{append-nil}
 use Rattle.std.proofs.lemmas.Nat.{div-add-mod'}
 use Rattle.std.proofs.Math.Nat.{mod-lt}
 use Rattle.ff_time.specs.Duration.{IsDigit, AreDigits, number, microseconds, IsDuration}
-use Rattle.ff_map.proofs.Numbers.{digits_append, number-push}
-use Rattle.ff_map.specs.Grammar.{IsNumber, IsPick, IsFrom, IsMap, letter, mark}
-use Rattle.ff_map.specs.declared.map.Kind.TheVariants as of_kind
-use Rattle.ff_map.specs.declared.map.Kind.{Kind as StreamKind}
-use Rattle.ff_map.specs.declared.map.Pick.{Pick}
-use Rattle.ff_map.specs.declared.map.Pick.TheVariants as pick
-use Rattle.ff_map.specs.declared.map.MapFrom.{MapFrom}
-use Rattle.ff_map.specs.declared.map.MapFrom.TheVariants.{Input, Label}
-use Rattle.ff_map.specs.declared.map.MapSpec.{MapSpec}
+use Rattle.ff_words.proofs.MapsLemmas.Numbers.{digits_append, number-push}
+use Rattle.ff_words.specs.maps.Grammar.{IsNumber, IsPick, IsFrom, IsMap, letter, mark}
+use Rattle.ff_words.specs.declared.maps.map.Kind.TheVariants as of_kind
+use Rattle.ff_words.specs.declared.maps.map.Kind.{Kind as StreamKind}
+use Rattle.ff_words.specs.declared.maps.map.Pick.{Pick}
+use Rattle.ff_words.specs.declared.maps.map.Pick.TheVariants as pick
+use Rattle.ff_words.specs.declared.maps.map.MapFrom.{MapFrom}
+use Rattle.ff_words.specs.declared.maps.map.MapFrom.TheVariants.{Input, Label}
+use Rattle.ff_words.specs.declared.maps.map.MapSpec.{MapSpec}
 use Rattle.ff_words.specs.Writing.{micros_text, pick_text, from_text, map_text, IsFinePick, IsFineFrom, IsFineMap, IsFineText}
 
 -- ---- numbers

@@ -4,9 +4,9 @@ use Rattle.std.proofs.Props.{props}
 use Rattle.ff_lang.specs.declared.graph.Graph.{Graph}
 use Rattle.ff_lang.proofs.Places.{IsGraph-unique}
 use Rattle.ff_lang.proofs.Places as graph
-use Rattle.ff_map.specs.declared.map.MapSpec.{MapSpec}
-use Rattle.ff_map.proofs.Places.{IsMap-unique}
-use Rattle.ff_map.proofs.Places as map_text
+use Rattle.ff_words.specs.declared.maps.map.MapSpec.{MapSpec}
+use Rattle.ff_words.proofs.MapsLemmas.Places.{IsMap-unique}
+use Rattle.ff_words.proofs.MapsLemmas.Places as map_text
 use Rattle.ff_time.specs.Duration as time
 use Rattle.ff_time.specs.declared.error.TimeError.{TimeError}
 use Rattle.ff_time.specs.declared.error.TimeError.TheVariants as error

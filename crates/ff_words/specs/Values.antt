@@ -13,9 +13,9 @@ use Rattle.ff_lang.specs.Grammar.{IsGraph}
 use Rattle.ff_lang.specs.Grammar as graph
 use Rattle.ff_time.specs.Duration.{IsDuration}
 use Rattle.ff_time.specs.Duration as time
-use Rattle.ff_map.specs.declared.map.MapSpec.{MapSpec}
-use Rattle.ff_map.specs.Grammar.{IsNumber, IsMap}
-use Rattle.ff_map.specs.Grammar as map_text
+use Rattle.ff_words.specs.declared.maps.map.MapSpec.{MapSpec}
+use Rattle.ff_words.specs.maps.Grammar.{IsNumber, IsMap}
+use Rattle.ff_words.specs.maps.Grammar as map_text
 use Rattle.ff_words.specs.declared.error.WordKind.{WordKind}
 use Rattle.ff_words.specs.declared.job.Solo.TheVariants.{Help, Version, SelfRun}
 use Rattle.ff_words.specs.declared.error.WordKind.TheVariants.{BadValue, BadTime, BadMap, BadGraph}

@@ -9,7 +9,7 @@ use Rattle.std.specs.Str.{bytes_eq}
 use Rattle.std.specs.declared.alloc.Global.{Global}
 use Rattle.ff_frame.specs.declared.head.Codec.{Codec}
 use Rattle.ff_lang.specs.declared.graph.Graph.{Graph}
-use Rattle.ff_map.specs.declared.map.MapSpec.{MapSpec}
+use Rattle.ff_words.specs.declared.maps.map.MapSpec.{MapSpec}
 use Rattle.ff_words.specs.declared.error.Fault.{Fault}
 use Rattle.ff_words.specs.declared.error.WordKind.{WordKind}
 use Rattle.ff_words.specs.declared.error.WordKind.TheVariants.{UnknownOption, MissingValue, BadValue, BadTime, Misplaced, TooMany, NoInput, NoOutput, SameName}

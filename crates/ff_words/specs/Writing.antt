@@ -11,12 +11,12 @@ use Rattle.ff_frame.specs.declared.hash.HashKind.{HashKind}
 use Rattle.ff_lang.specs.declared.graph.Graph.{Graph}
 use Rattle.ff_lang.specs.Grammar.{IsLabel}
 use Rattle.ff_lang.specs.Printing.{printed, IsSound}
-use Rattle.ff_map.specs.declared.map.Pick.{Pick}
-use Rattle.ff_map.specs.declared.map.Pick.TheVariants as pick
-use Rattle.ff_map.specs.declared.map.MapFrom.{MapFrom}
-use Rattle.ff_map.specs.declared.map.MapFrom.TheVariants.{Input, Label}
-use Rattle.ff_map.specs.declared.map.MapSpec.{MapSpec}
-use Rattle.ff_map.specs.Grammar.{letter, mark}
+use Rattle.ff_words.specs.declared.maps.map.Pick.{Pick}
+use Rattle.ff_words.specs.declared.maps.map.Pick.TheVariants as pick
+use Rattle.ff_words.specs.declared.maps.map.MapFrom.{MapFrom}
+use Rattle.ff_words.specs.declared.maps.map.MapFrom.TheVariants.{Input, Label}
+use Rattle.ff_words.specs.declared.maps.map.MapSpec.{MapSpec}
+use Rattle.ff_words.specs.maps.Grammar.{letter, mark}
 use Rattle.ff_format.specs.declared.format.FileFormat.{FileFormat}
 use Rattle.ff_format.specs.declared.format.Rf64.{Rf64}
 use Rattle.ff_format.specs.declared.format.Rf64.TheVariants.{Never, Auto, Always}

@@ -1,8 +1,8 @@
 //! The command that a command line asks for.
+use crate::maps::MapSpec;
 use ff_format::{FileFormat, Rf64};
 use ff_frame::{Codec, Format, HashKind};
 use ff_lang::{Graph, Sequence, Text};
-use ff_map::MapSpec;
 use ff_time::{Rational, TimeCut};
 
 /// An input with its options.

@@ -18,6 +18,7 @@ mod cuts;
 mod error;
 mod job;
 mod laws;
+pub mod maps;
 mod numbers;
 mod read;
 mod read_value;

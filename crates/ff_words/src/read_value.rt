@@ -1,12 +1,13 @@
 //! The values that strings read as, by the kind of their option.
 ghost use Rattle.std.specs.Prelude.{◌≡◌, ◌-◌, ◌^◌, ◌<◌, ◌≤◌, ℕ, length, IfOk, MatchOption, None};
 ghost use Rattle.ff_time.specs.Duration.{IsDigit};
-ghost use Rattle.ff_map.specs.Grammar.{IsNumber};
+ghost use Rattle.ff_words.specs.maps.Grammar.{IsNumber};
 ghost use Rattle.ff_words.specs.Values.{Reads, ReadsGraph, ReadsTime, ReadsMap, ReadsWhole, hash_value, rf64_value, pixels_value, is_spelled, switched, value_named, IsSmall, ReadsNumber, ReadsLevel, mode_value};
 ghost use Rattle.ff_words.specs.Table.{is_level as level_named};
 
 use crate::error::WordKind;
 use crate::job::Solo;
+use crate::maps::{MapError, MapSpec, read_map};
 use crate::numbers::{rate_of, size_of};
 use crate::table::{
     Kind, audio_codec, format_of, is_frame_mode, is_level, is_sync_mode, video_codec,
@@ -15,7 +16,6 @@ use crate::value::{Micros, Value};
 use ff_format::Rf64;
 use ff_frame::{Format, HashKind};
 use ff_lang::{Graph, LangError, Text, read_graph};
-use ff_map::{MapError, MapSpec, read_map};
 use ff_time::{TimeError, read_duration};
 use std::alloc::{AllocError, Global};
 

@@ -15,13 +15,13 @@ ghost use Rattle.ff_words.specs.declared.job.OutputJob.{OutputJob};
 use crate::cuts::{CutEnd, cut, early_end};
 use crate::error::{Fault, WordError, WordKind};
 use crate::job::{Asked, Command, InputJob, Job, OutputJob, Solo};
+use crate::maps::MapSpec;
 use crate::read_value::{read_value, text_of};
 use crate::table::{Concern, Kind, Rule, find_option, format_ending};
 use crate::value::{Micros, Value};
 use ff_format::{FileFormat, Rf64};
 use ff_frame::{Codec, HashKind};
 use ff_lang::{Graph, Sequence, Text};
-use ff_map::MapSpec;
 use std::alloc::{AllocError, Global};
 use std::mem;
 

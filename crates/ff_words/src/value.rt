@@ -2,10 +2,10 @@
 ghost use Rattle.std.specs.Prelude.{◌≤◌, ◌^◌};
 
 use crate::job::{Size, Solo};
+use crate::maps::MapSpec;
 use ff_format::{FileFormat, Rf64};
 use ff_frame::{Codec, Format, HashKind};
 use ff_lang::{Graph, Text};
-use ff_map::MapSpec;
 use ff_time::Rational;
 
 /// Microseconds of a cut.

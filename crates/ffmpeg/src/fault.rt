@@ -1,7 +1,7 @@
 //! What is said of a fault on standard error, beside the line of the log.
+use crate::explain::{FRONT, Seen, explain, named_file, tells_faults};
 use crate::words::WordsEnd;
 use ff_command::{Line, Report, Status};
-use ff_explain::{FRONT, Seen, explain, named_file, tells_faults};
 use ff_host_file::FileHost;
 use std::alloc::{AllocError, Global};
 use std::fs;

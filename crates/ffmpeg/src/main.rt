@@ -2,14 +2,15 @@
 //! of the report. The command itself is `ff_run::ffmpeg`, the files are those of `ff_host_file`.
 #![tactic(auto)]
 
+mod explain;
 mod fault;
 mod words;
 
 ghost use Rattle.std.specs.Prelude.{◌≢◌};
 
+use explain::tells_progress;
 use fault::{tell, tell_end};
 use ff_command::{Status, exit_number, fault_line, status_number};
-use ff_explain::tells_progress;
 use ff_host::Sink;
 use ff_host_file::{FileHost, LogSink};
 use ff_run::ffmpeg;

@@ -18,12 +18,12 @@ use Rattle.ff_flac_frame.specs.Frame.{IsStream}
 use Rattle.ff_plan_rules.specs.Kept.{IsFitHead}
 use Rattle.ff_input.specs.Formats.{InputHead, IsHead, any_owes, stream_in}
 use Rattle.ff_input.specs.Streams.{IsInputStream, IsPictures}
-use Rattle.ff_map.specs.declared.map.Kind.TheVariants as kind
+use Rattle.ff_words.specs.declared.maps.map.Kind.TheVariants as kind
 use Rattle.ff_format.specs.Formats.{taken_by, takes_sound}
 use Rattle.ff_mux.specs.writers.AnyWriters.{CanWrite, writes_taken}
 use Rattle.ff_pcm.specs.Frames.{IsPcmHead}
 use Rattle.ff_plan_layout.specs.Streams.{audio_codec, coded_bits, most_streams, packed_as, packed_bits, takes_head, takes_kind, takes_sound as sound_taken}
-use Rattle.ff_pcm_cut.specs.Packets as pcm
+use Rattle.ff_pcm.specs.body.Packets as pcm
 use Rattle.ff_format.specs.declared.format.SoundTaken.{SoundTaken}
 use Rattle.ff_format.specs.declared.format.SoundTaken.TheVariants.{Nothing, Pcm, PcmIn, Flac}
 use Rattle.ff_words.specs.declared.job.OutputJob.{OutputJob}

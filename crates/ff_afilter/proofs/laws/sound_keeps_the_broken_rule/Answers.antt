@@ -3,7 +3,7 @@ use Rattle.ff_stream.specs.declared.item.Item.{Item}
 use Rattle.ff_stream.specs.Lanes.{IsValid}
 use Rattle.ff_stream.specs.Stream.{Mark}
 use Rattle.ff_filter.specs.Joins.{Flow}
-use Rattle.ff_lasting.specs.Lastings.{lasting}
+use Rattle.ff_filter.specs.lasting.Lastings.{lasting}
 use Rattle.ff_filter.specs.Shifts.{from_first}
 use Rattle.ff_filter.proofs.SpreadLemmas.OneRule.{one_keeps_rule, valid_ended}
 use Rattle.ff_afilter.specs.Channels.{channel_item}

@@ -1,5 +1,5 @@
 use Rattle.std.proofs.Common.{◌≡◌, ◌++◌, map, drop}
-use Rattle.ff_map.specs.declared.streams.Stream.{Stream}
+use Rattle.ff_words.specs.declared.maps.streams.Stream.{Stream}
 use Rattle.ff_plan.specs.declared.planned.PlanNode.TheVariants as node
 use Rattle.ff_plan.proofs.nodes.add_decs.Given as goal
 

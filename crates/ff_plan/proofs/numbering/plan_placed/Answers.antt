@@ -1,7 +1,7 @@
 use Rattle.std.proofs.Common.{◌≡◌, ℕ, ◌≤◌, List, length, sym, ap, ◌∙◌, arith}
 use Rattle.std.specs.List.{filter, list_any, range_with_len}
-use Rattle.ff_map.specs.declared.streams.Stream.{Stream}
-use Rattle.ff_map.specs.Choice.{all_streams, lists}
+use Rattle.ff_words.specs.declared.maps.streams.Stream.{Stream}
+use Rattle.ff_words.specs.maps.Choice.{all_streams, lists}
 use Rattle.ff_plan_layout.specs.declared.layout.Origin.{Origin}
 use Rattle.ff_plan_layout.specs.Layout.{shows}
 use Rattle.ff_plan.specs.Numbering.{streams_in, inputs_in, has_stream}

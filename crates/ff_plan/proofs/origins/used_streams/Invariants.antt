@@ -1,7 +1,7 @@
 use Rattle.std.proofs.Common.{◌≡◌, ◌++◌, drop}
 use Rattle.std.specs.List.{filter, list_any}
-use Rattle.ff_map.specs.Choice.{lists, streams_from}
-use Rattle.ff_map.specs.declared.streams.Stream.{Stream}
+use Rattle.ff_words.specs.maps.Choice.{lists, streams_from}
+use Rattle.ff_words.specs.declared.maps.streams.Stream.{Stream}
 use Rattle.ff_plan_layout.specs.Layout.{shows}
 use Rattle.ff_plan.proofs.origins.used_streams.Given as goal
 

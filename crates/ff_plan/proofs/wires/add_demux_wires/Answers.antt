@@ -1,6 +1,6 @@
 use Rattle.std.proofs.Common.{◌≡◌, ℕ, ◌+◌, ◌<◌, List, [], ◌∷◌, ◌++◌, None, drop, length, map, sym, ap, ◌∙◌, append_assoc}
 use Rattle.ff_stream.specs.declared.item.Lane.TheVariants.{Packets}
-use Rattle.ff_map.specs.declared.streams.Stream.{Stream}
+use Rattle.ff_words.specs.declared.maps.streams.Stream.{Stream}
 use Rattle.ff_plan.specs.declared.number.Wire.{Wire}
 use Rattle.ff_plan.specs.Numbering.{wire_of, demux_wire_in, demux_number}
 use Rattle.ff_plan_layout.proofs.Fronts.{drop_next}

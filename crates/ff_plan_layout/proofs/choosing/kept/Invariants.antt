@@ -1,6 +1,6 @@
 use Rattle.std.proofs.Common.{◌≡◌, ◌++◌, map, drop}
 use Rattle.std.specs.List.{filter}
-use Rattle.ff_map.specs.Choice.{lists}
+use Rattle.ff_words.specs.maps.Choice.{lists}
 use Rattle.ff_plan_layout.specs.Choice.{known}
 use Rattle.ff_plan_layout.specs.Streams.{as_pad, is_kept}
 use Rattle.ff_plan_layout.proofs.choosing.kept.Given as goal

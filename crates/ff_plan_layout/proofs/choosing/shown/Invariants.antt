@@ -1,5 +1,5 @@
 use Rattle.std.proofs.Common.{◌≡◌, ◌++◌, map, drop}
-use Rattle.ff_map.specs.Choice.{lists}
+use Rattle.ff_words.specs.maps.Choice.{lists}
 use Rattle.ff_plan_layout.specs.Choice.{known}
 use Rattle.ff_plan_layout.specs.Streams.{as_pad}
 use Rattle.ff_plan_layout.proofs.choosing.shown.Given as goal

@@ -1,5 +1,5 @@
 use Rattle.std.proofs.Common.{◌≡◌, drop}
-use Rattle.ff_map.specs.Choice.{lists}
+use Rattle.ff_words.specs.maps.Choice.{lists}
 use Rattle.ff_plan_layout.specs.Choice.{known}
 use Rattle.ff_plan_layout.specs.Labels.{first_known}
 use Rattle.ff_plan_layout.proofs.labelled.first_known.Given as goal

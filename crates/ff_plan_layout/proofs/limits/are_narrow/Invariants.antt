@@ -1,6 +1,6 @@
 use Rattle.std.proofs.Common.{◌≤◌, drop, length}
 use Rattle.std.specs.List.{AllByRecursion}
-use Rattle.ff_map.specs.Choice.{lists}
+use Rattle.ff_words.specs.maps.Choice.{lists}
 use Rattle.ff_plan_layout.proofs.limits.are_narrow.Given as goal
 
 abbrev pub invariant-loop-streams : goal.invariant-loop-streams

@@ -1,6 +1,6 @@
 use Rattle.std.proofs.Common.{◌≡◌, drop}
 use Rattle.std.specs.List.{list_any}
-use Rattle.ff_map.specs.Choice.{has_kind}
+use Rattle.ff_words.specs.maps.Choice.{has_kind}
 use Rattle.ff_plan_layout.specs.declared.layout.InPad.{InPad}
 use Rattle.ff_plan_layout.proofs.takes.has_kind_among.Given as goal
 

@@ -1,6 +1,6 @@
 use Rattle.std.proofs.Common.{◌≡◌, ◌++◌, [], drop}
 use Rattle.std.specs.List.{AllByRecursion}
-use Rattle.ff_map.specs.Choice.{lists}
+use Rattle.ff_words.specs.maps.Choice.{lists}
 use Rattle.ff_plan_layout.specs.Limits.{IsFewWants}
 use Rattle.ff_plan_layout.specs.Pads.{wants_from}
 use Rattle.ff_plan_layout.specs.Rows.{flat}

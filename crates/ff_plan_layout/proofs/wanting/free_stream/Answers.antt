@@ -1,7 +1,7 @@
 use Rattle.std.proofs.Common.{◌++◌}
 use Rattle.std.specs.Prelude.{Some, None}
 use Rattle.std.specs.List.{find}
-use Rattle.ff_map.specs.Choice.{lists, all_streams}
+use Rattle.ff_words.specs.maps.Choice.{lists, all_streams}
 use Rattle.ff_plan_layout.specs.Pads.{is_free}
 use Rattle.ff_plan_layout.specs.Rows.{flat}
 use Rattle.ff_plan_layout.proofs.Wants.{streams_next}

@@ -1,6 +1,6 @@
 use Rattle.std.proofs.Common.{◌≡◌, length, Some, ap, subst, ◌∙◌, rules, arith}
 use Rattle.ff_graph_links.specs.labels.Order.{feeds}
-use Rattle.ff_map.specs.Choice.{lists}
+use Rattle.ff_words.specs.maps.Choice.{lists}
 use Rattle.ff_plan_layout.specs.declared.error.PlanError.{PlanError}
 use Rattle.ff_plan.proofs.Frames.{frames_kept}
 use Rattle.ff_run_plan.specs.Meaning.{plan_for, refusal_of}

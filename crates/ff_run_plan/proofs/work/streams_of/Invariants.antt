@@ -1,5 +1,5 @@
 use Rattle.std.proofs.Common.{◌≡◌, ◌∷◌, [], map, take, vec_items}
-use Rattle.ff_map.specs.Choice.{lists}
+use Rattle.ff_words.specs.maps.Choice.{lists}
 use Rattle.ff_run_plan.proofs.work.streams_of.Given as goal
 
 abbrev pub invariant-loop-k : goal.invariant-loop-k

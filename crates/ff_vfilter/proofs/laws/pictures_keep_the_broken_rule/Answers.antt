@@ -3,7 +3,7 @@ use Rattle.ff_stream.specs.declared.item.Item.{Item}
 use Rattle.ff_stream.specs.Lanes.{IsValid}
 use Rattle.ff_stream.specs.Stream.{Mark}
 use Rattle.ff_filter.specs.Joins.{Flow}
-use Rattle.ff_lasting.specs.Lastings.{stop_that_counts}
+use Rattle.ff_filter.specs.lasting.Lastings.{stop_that_counts}
 use Rattle.ff_filter.specs.Shifts.{from_first}
 use Rattle.ff_filter.proofs.SpreadLemmas.OneRule.{one_keeps_rule, valid_ended}
 use Rattle.ff_vfilter.specs.Pictures.{with_picture}

@@ -3,8 +3,8 @@ use Rattle.std.proofs.lemmas.List.{take_more, take_all}
 use Rattle.std.proofs.Math.Nat.{pow-le-pow_right, pow-suc}
 use Rattle.std.specs.List.{AllByRecursion}
 use Rattle.ff_time.specs.Duration.{IsDigit, number}
-use Rattle.ff_map.proofs.Numbers.{digits_append, number-push}
-use Rattle.ff_map.proofs.Numbered.{all-at}
+use Rattle.ff_words.proofs.MapsLemmas.Numbers.{digits_append, number-push}
+use Rattle.ff_words.proofs.MapsLemmas.Numbered.{all-at}
 use Rattle.ff_words.proofs.read_value.number_in.Goals as goal
 
 small : (k n : ℕ) → k < 9 → n < 10 ^ k → n < 100000000

@@ -1,8 +1,0 @@
-use Rattle.ff_map.proofs.Places.{IsMap-unique, IsBadAt-unique}
-use Rattle.ff_map.proofs.laws.maps_have_one_meaning.Goals as goal
-
-pub returns-clause-map : goal.returns-clause-map
-returns-clause-map c = IsMap-unique
-
-pub returns-clause-place : goal.returns-clause-place
-returns-clause-place c = IsBadAt-unique

@@ -1,6 +1,0 @@
-use Rattle.std.proofs.Common.{◌≡◌, ◌++◌, drop}
-use Rattle.ff_map.specs.Choice.{places, numbered}
-use Rattle.ff_map.proofs.selecting.every.Given as goal
-
-abbrev pub invariant-loop-stream : goal.invariant-loop-stream
-invariant-loop-stream l = l.refs.items ++ places (numbered l.input l.stream (drop l.stream l.heads)) ≡ places (numbered l.input 0 l.heads)
