@@ -7,7 +7,7 @@ use crate::head::{AuHead, FieldsStep};
 use ff_frame::{Codec, StreamHead};
 use ff_pcm::size_of_sample;
 use ff_reader::{HeadFault, Step};
-use ff_time::{Rational, TimeError};
+use ff_time::Rational;
 
 /// The largest data offset that is read.
 const LARGEST_START: u32 = 1 << 28;
@@ -26,15 +26,6 @@ fn at_32(bytes: &[u8], place: usize) -> u32
     65536 * at_16(bytes, place) as u32 + at_16(bytes, place + 2) as u32
 }
 
-// A time base of so many ticks a second.
-fn ticks(rate: u32) -> Result<Rational, TimeError>
-    requires some { 0 < rate }
-    requires few { rate < 2 ^ 31 }
-    ensures { result ≡ Ok (record { num = 1; den = rate }) }
-{
-    Rational::new(1, i64::from(rate))
-}
-
 // The codec of an encoding, which is 2, 3, 4 or 5.
 fn codec_of_encoding(encoding: u32) -> Codec
     ensures { result ≡ codec_of encoding }
@@ -48,23 +39,21 @@ fn codec_of_encoding(encoding: u32) -> Codec
 }
 
 // What the fields say of the stream, which were found to be right.
-fn stream(at: u64, encoding: u32, rate: u32, channels: u32) -> Result<StreamHead, HeadFault>
+fn stream(encoding: u32, rate: u32, channels: u32) -> StreamHead
     requires some_rate { 1 ≤ rate }
     requires small_rate { rate < 2 ^ 31 }
     requires few_channels { channels ≤ 8 }
-    ensures { result ≡ Ok (stream_of (codec_of encoding) rate channels) }
+    ensures { result ≡ stream_of (codec_of encoding) rate channels }
 {
-    let Ok(tb) = ticks(rate) else {
-        return Err(HeadFault::Unsupported { offset: at });
-    };
+    let tb = Rational::one_over(rate);
     let codec = codec_of_encoding(encoding);
-    Ok(StreamHead::Audio {
+    StreamHead::Audio {
         tb,
         rate,
         bits: 8 * size_of_sample(codec) as u8,
         channels: channels as u8,
         codec,
-    })
+    }
 }
 
 // A body of 2^32 - 1 bytes goes to the end of the input.
@@ -106,7 +95,7 @@ fn checked(
         return Err(HeadFault::Unsupported { offset: at + 16 });
     }
     Ok(AuHead {
-        head: stream(at, encoding, rate, channels)?,
+        head: stream(encoding, rate, channels),
         start: start as u64,
         len: body_size(size),
     })

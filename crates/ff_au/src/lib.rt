@@ -5,7 +5,7 @@
 //! ```
 //!
 //! `specs/Fields` says what the fields tell, and which fault comes first. `specs/Heads` says what the head of a whole input
-//! is, and which first bytes decide it. The body is linear PCM, and its packets are those of ff_pcm_cut. `specs/Layout` says how
+//! is, and which first bytes decide it. The body is linear PCM, and its packets are those of ff_pcm. `specs/Layout` says how
 //! a file is written.
 #![tactic(auto)]
 

@@ -2,7 +2,6 @@
 use Rattle.std.specs.Prelude.{◌≡◌, ◌⊎◌, ℕ, ◌+◌, ◌≤◌, ◌^◌, nat_le, nat_lt, ◌&&◌, Bool, true, false, ◌||◌, not, cond, if◌then◌else◌}
 use Rattle.std.specs.Prelude.{is_some, Option, Some, None, List, [], ◌∷◌, length, Result, Ok, Err}
 use Rattle.std.specs.Str.{bytes_eq}
-use Rattle.ff_digits.specs.Digits.{digits_from}
 use Rattle.ff_time.specs.Duration.{IsDuration}
 use Rattle.ff_frame.specs.declared.config.ConfigError.{ConfigError}
 use Rattle.ff_frame.specs.declared.config.ConfigError.TheVariants.{UnknownOption, BadOption, Pads, Kind, NoMemory}
@@ -46,10 +45,6 @@ AreRead manual keyed place s (a ∷ others) r =
 -- a time of at most 10^15 microseconds
 abbrev pub IsTime : List ℕ → ℕ → Type 0
 IsTime text us = IsDuration text us × (us ≤ 10 ^ 15)
-
--- a whole number of 1 to so many digits
-abbrev pub number_of : ℕ → List ℕ → Option ℕ
-number_of most text = if nat_le 1 (length text) && nat_le (length text) most then digits_from 0 text else None
 
 abbrev pub is_sound : StreamHead → Bool
 is_sound (Audio tb rate bits channels codec) = true

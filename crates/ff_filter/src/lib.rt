@@ -10,7 +10,7 @@
 //! views. What was fed stands before what still comes, and what was given before what is still given. No past is
 //! kept.
 //!
-//! `spread`: Filters of one input and several outputs.
+//! `lasting`: The range of times of `trim` and `atrim`. `spread`: Filters of one input and several outputs.
 #![tactic(auto)]
 
 mod after;
@@ -37,9 +37,7 @@ pub use lasting::{TrimSettings, lasting_stop};
 pub use laws::shared_functions_are_sound;
 pub use limited::Limited;
 pub use machine::{Single, machine_of};
-pub use options::{
-    Settings, option_of, read_args, read_number, read_time, sound_settings, video_settings,
-};
+pub use options::{Settings, option_of, read_args, read_time, sound_settings, video_settings};
 pub use outlet::Outlet;
 pub use pass::Pass;
 pub use plain::{ExprSettings, NoSettings};

@@ -1,8 +1,7 @@
 //! The reading of a filter's arguments, and the checks of its input's head.
 ghost use Rattle.std.specs.Prelude.{◌≡◌, ◌↔◌, ◌<◌, ◌≤◌, ◌^◌, ℕ, length, IfSome, IsNone, Some, false};
-ghost use Rattle.ff_filter.specs.Options.{Manual, named, option_of as option_at, AreRead, IsTime, number_of, only_head, is_sound, is_video, AreSet};
+ghost use Rattle.ff_filter.specs.Options.{Manual, named, option_of as option_at, AreRead, IsTime, only_head, is_sound, is_video, AreSet};
 
-use ff_digits::digits;
 use ff_frame::{ConfigError, StreamHead};
 use ff_lang::Arg;
 use ff_time::read_duration;
@@ -73,19 +72,6 @@ pub fn read_time(text: &str) -> Option<u64>
         Ok(us) => Some(us),
         Err(_) => None,
     }
-}
-
-/// A whole number of 1 to `most` digits.
-pub fn read_number(text: &str, most: usize) -> Option<u64>
-    requires { most ≤ 10 }
-    ensures value { result ≡ number_of most text.now }
-    ensures few { IfSome result (λ n. n < 10 ^ 10) }
-{
-    let bytes = text.as_bytes();
-    if bytes.len() >= 1 && bytes.len() <= most {
-        return digits(bytes);
-    }
-    None
 }
 
 // The head of the only input, which has to be video. `Pads` where there isn't one input, `Kind` where it is audio.

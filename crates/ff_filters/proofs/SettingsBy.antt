@@ -2,8 +2,8 @@
 use Rattle.std.proofs.Common.{◌≡◌, ℕ, zero, suc, ◌≤◌, ◌==◌, Bool, true, false, nat_le, cond, ◌&&◌, Option, Some, None, option_map, List, codes, refl, sym, ap, ◌∙◌, arith}
 use Rattle.std.specs.Str.{bytes_eq}
 use Rattle.std.proofs.lemmas.Bool.Decides.{nat_tests}
+use Rattle.ff_time.specs.Digits.{number_of, ratio_of}
 use Rattle.ff_time.specs.Fraction.{Fraction}
-use Rattle.ff_filter.specs.Options.{number_of}
 use Rattle.ff_filter.specs.declared.plain.ExprSettings.{ExprSettings}
 use Rattle.ff_filter.specs.Plain.{no_manual, expr_manual}
 use Rattle.ff_filter.specs.declared.spread.copies.SplitSettings.{SplitSettings}
@@ -15,7 +15,7 @@ use Rattle.ff_vfilter.specs.declared.fps.FpsSettings.{FpsSettings}
 use Rattle.ff_vfilter.specs.Sizes.{put}
 use Rattle.ff_vfilter.specs.Crops.{crop_manual}
 use Rattle.ff_vfilter.specs.Pads.{pad_manual}
-use Rattle.ff_vfilter.specs.FpsOptions.{ratio_of, SetsFps, fps_manual}
+use Rattle.ff_vfilter.specs.FpsOptions.{SetsFps, fps_manual}
 use Rattle.ff_fsync.specs.declared.stacks.options.StackSettings.{StackSettings}
 use Rattle.ff_fsync.specs.stacks.Options.{SetsStack, stack_manual}
 use Rattle.ff_joins.specs.declared.join_options.JoinSettings.{JoinSettings}

@@ -1,7 +1,7 @@
 -- What a value of an option makes of settings, filter by filter.
 use Rattle.std.specs.Prelude.{ℕ, zero, suc, ◌==◌, true, if◌then◌else◌, Option, Some, None, option_map, List, codes}
 use Rattle.std.specs.Str.{bytes_eq}
-use Rattle.ff_filter.specs.Options.{number_of}
+use Rattle.ff_time.specs.Digits.{number_of}
 use Rattle.ff_filter.specs.declared.plain.NoSettings.{NoSettings}
 use Rattle.ff_filter.specs.declared.plain.ExprSettings.{ExprSettings}
 use Rattle.ff_filter.specs.declared.spread.copies.SplitSettings.{SplitSettings}

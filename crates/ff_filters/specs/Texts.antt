@@ -1,10 +1,10 @@
 -- What the texts of arguments give, as functions: times, and the time base of a rate.
 use Rattle.std.specs.Prelude.{ℕ, zero, suc, ◌/◌, ◌%◌, ◌^◌, nat_le, nat_lt, ◌&&◌, Bool, if◌then◌else◌}
 use Rattle.std.specs.Prelude.{Option, Some, None, List, [], ◌∷◌, length}
+use Rattle.ff_time.specs.Digits.{ratio_of}
 use Rattle.ff_time.specs.Fraction.{Fraction}
 use Rattle.ff_time.specs.Reading.{Exact, first, letter_of, next_of, value_of}
 use Rattle.ff_joins.specs.Arguments.{number_between}
-use Rattle.ff_vfilter.specs.FpsOptions.{ratio_of}
 
 -- f goes on from what is there
 abbrev pub on_some : {A B : Type 0} → (A → Option B) → Option A → Option B

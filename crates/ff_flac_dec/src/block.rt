@@ -7,7 +7,7 @@ ghost use Rattle.ff_flac_dec.specs.Blocks.{number_24, kind_of, is_last, rate_in,
 use crate::head::{BlockStep, FlacHead};
 use ff_frame::{Codec, StreamHead};
 use ff_reader::{HeadFault, Step};
-use ff_time::{Rational, TimeError};
+use ff_time::Rational;
 
 fn at_24(bytes: &[u8], place: usize) -> u32
     requires { place + 3 ≤ length bytes.now }
@@ -39,31 +39,20 @@ fn bits_at(bytes: &[u8]) -> u8
     16 * (bytes[16] % 2) + bytes[17] / 16 + 1
 }
 
-// A time base of so many ticks a second.
-fn ticks(rate: u32) -> Result<Rational, TimeError>
-    requires some { 0 < rate }
-    requires few { rate < 2 ^ 31 }
-    ensures { result ≡ Ok (record { num = 1; den = rate }) }
-{
-    Rational::new(1, i64::from(rate))
-}
-
 // Audio with one tick a sample frame.
-fn sound(rate: u32, bits: u8, channels: u8) -> Option<StreamHead>
+fn sound(rate: u32, bits: u8, channels: u8) -> StreamHead
     requires some { 0 < rate }
     requires few { rate < 2 ^ 31 }
-    ensures { result ≡ Some (sound_of rate bits channels) }
+    ensures { result ≡ sound_of rate bits channels }
 {
-    let Ok(tb) = ticks(rate) else {
-        return None;
-    };
-    Some(StreamHead::Audio {
+    let tb = Rational::one_over(rate);
+    StreamHead::Audio {
         tb,
         rate,
         bits,
         channels,
         codec: Codec::Flac,
-    })
+    }
 }
 
 // What comes after a block of so many bytes.
@@ -107,10 +96,7 @@ fn info_at(at: u64, bytes: &[u8]) -> BlockStep
     if !(4 <= bits && bits <= 24) {
         return Step::Decide(Err(HeadFault::Unsupported { offset: at + 16 }));
     }
-    match sound(rate, bits, channels_at(bytes)) {
-        Some(head) => closed(34, head, at, bytes),
-        None => Step::Wait,
-    }
+    closed(34, sound(rate, bits, channels_at(bytes)), at, bytes)
 }
 
 #[tactic(auto, unfolding(crate::specs::Blocks::other))]

@@ -72,25 +72,6 @@ impl FlacCut {
     {
         self.sender = sender;
     }
-
-    // What comes where no whole frame is there: more bytes are wanted, or all came, or the last frame isn't whole.
-    fn unfinished(&self) -> Cut
-        requires { self.now.head.start + self.now.used ≤ 2 ^ 50 }
-        ensures not_yet { result ≡ Cut.NotYet ↔ self.now.ended ≡ false }
-        ensures over { result ≡ Cut.End ↔ ((self.now.ended ≡ true) × (self.now.held.bytes ≡ [])) }
-        ensures broken { (offset : ℕ) → result ≡ Cut.Broken offset ↔ ((self.now.ended ≡ true) × (self.now.held.bytes ≢ []) × (offset ≡ place_of self.now)) }
-        ensures none { (p : Pkt) → result ≢ Cut.Pkt p }
-    {
-        if !self.ended {
-            return Cut::NotYet;
-        }
-        if self.held.len() == 0 {
-            return Cut::End;
-        }
-        Cut::Broken {
-            offset: self.head.start + self.used,
-        }
-    }
 }
 
 impl PacketCut for FlacCut {
@@ -192,7 +173,7 @@ impl PacketCut for FlacCut {
                 Ok(Cut::Pkt(p))
             }
             Front::Other => Ok(Cut::Broken { offset }),
-            Front::Wait => Ok(self.unfinished()),
+            Front::Wait => Ok(self.held.unfinished(self.ended, offset)),
         }
     }
 }

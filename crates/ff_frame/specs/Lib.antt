@@ -4,4 +4,5 @@ pub mod Frame
 pub mod Heads
 pub mod Packet
 pub mod PcmLaws
+pub mod Sizes
 pub mod Video

@@ -18,6 +18,7 @@ mod hash;
 mod head;
 mod lists;
 mod packet;
+mod size;
 mod totals;
 mod video;
 
@@ -30,5 +31,6 @@ pub use hash::HashKind;
 pub use head::{Codec, StreamHead};
 pub use lists::{Bytes, Samples};
 pub use packet::Pkt;
+pub use size::{is_side, read_sides};
 pub use totals::Totals;
 pub use video::{Format, VFrame};

@@ -1,10 +1,11 @@
 -- Filters whose arguments say how many inputs they have.
 use Rattle.std.specs.Prelude.{◌≡◌, ℕ, ◌+◌, ◌==◌, nat_le, ◌&&◌, Bool, true, false, ◌||◌, cond, is_some, Option, Some, None, List, [], ◌∷◌, Result, Ok}
 use Rattle.std.specs.Prelude.{Err}
+use Rattle.ff_time.specs.Digits.{number_of}
 use Rattle.ff_frame.specs.declared.config.ConfigError.{ConfigError}
 use Rattle.ff_frame.specs.declared.head.StreamHead.{StreamHead}
 use Rattle.ff_lang.specs.declared.graph.Arg.{Arg}
-use Rattle.ff_filter.specs.Options.{Manual, option_of, AreRead, number_of}
+use Rattle.ff_filter.specs.Options.{Manual, option_of, AreRead}
 
 -- a whole number of 1 to 5 digits from lo to hi
 abbrev pub number_between : ℕ → ℕ → Option ℕ → Option ℕ

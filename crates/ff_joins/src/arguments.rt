@@ -3,8 +3,9 @@ ghost use Rattle.std.specs.Prelude.{◌≡◌, ◌≤◌, false, IfSome};
 ghost use Rattle.ff_filter.specs.Options.{option_of as option_at};
 ghost use Rattle.ff_joins.specs.Arguments.{ranged as ranged_of, or_else, gives, last_number as last_number_of, times_from};
 
-use ff_filter::{Settings, option_of, read_number};
+use ff_filter::{Settings, option_of};
 use ff_lang::Arg;
+use ff_time::read_number;
 
 /// A whole number of 1 to 5 digits from `least` to `most`.
 pub fn ranged(text: &str, least: u64, most: u64) -> Option<u64>

@@ -1,4 +1,4 @@
--- Plans of some commands, worked out by hand: jobs with what ff_map and ff_graph say of their graphs.
+-- Plans of some commands, worked out by hand: jobs with what ff_words and ff_graph say of their graphs.
 use Rattle.std.specs.Prelude.{ℕ, Bool, true, false, List, [], ◌∷◌, codes, cond, Option, Some, None, Ok}
 use Rattle.std.specs.Str.{bytes_eq}
 use Rattle.ff_time.specs.Fraction.{Fraction}

@@ -1,5 +1,5 @@
 -- The streams behind their places, and the automatic choice as a function. Which streams a map names, and which are the best
--- of their kind, is said in ff_map.
+-- of their kind, is said in ff_words.
 use Rattle.std.specs.Prelude.{nat_lt, Bool, true, false, cond, if◌then◌else◌, List, [], ◌∷◌, ◌++◌, Option, Some, None, slice_get, unwrap_or, option_to_list}
 use Rattle.std.specs.List.{filter_map}
 use Rattle.ff_frame.specs.declared.head.StreamHead.{StreamHead}
@@ -45,6 +45,6 @@ heaviest (s ∷ ss) = Some (heaviest_from s ss)
 abbrev pub best_of_kind : List (List StreamHead) → Kind → Bool → Option Stream
 best_of_kind heads k wanted = cond wanted (heaviest (of_kind k (all_streams heads))) None
 
--- the only list of places that is the best choice of ff_map
+-- the only list of places that is the best choice of ff_words
 abbrev pub best : List (List StreamHead) → Bool → Bool → List StreamRef
 best heads video audio = places (option_to_list (best_of_kind heads kind.Video video) ++ option_to_list (best_of_kind heads kind.Audio audio))

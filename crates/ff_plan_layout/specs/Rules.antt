@@ -8,7 +8,7 @@ pub use Rattle.ff_plan_layout.specs.declared.open_pads.OpenOut.{OpenOut}
 pub use Rattle.ff_plan_layout.specs.declared.open_pads.Refused.{Refused}
 use Rattle.ff_plan_layout.specs.declared.error.PlanError.{PlanError}
 
--- Of ff_map the map that a text is, of ff_graph the rest: whether a filter's name is known, whether the filters of a graph
+-- Of ff_words the map that a text is, of ff_graph the rest: whether a filter's name is known, whether the filters of a graph
 -- feed each other in a loop, its open input pads in the order of writing, and its open output pads with their heads where the
 -- open input pads have these heads (None where a pad found no stream), or the refusal that comes first.
 pub record Rules : Type 0 where

@@ -1,7 +1,7 @@
 //! The rules of filters and maps that plans go by: those of the filters that there are.
 //!
 //! ```text
-//!   ff_map ─────────► map_of ────────────────────────────────┐
+//!   ff_words ───────► map_of ────────────────────────────────┐
 //!   ff_graph ───────► known, loops, open_ins, configured ────┴─► graph_rules ─► ff_plan
 //! ```
 //!

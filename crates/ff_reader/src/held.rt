@@ -1,6 +1,8 @@
 //! A byte queue, first in, first out.
-ghost use Rattle.std.specs.Prelude.{◌≡◌, ◌+◌, ◌-◌, ◌≤◌, ◌<◌, ◌^◌, [], ◌++◌, IfOk, OnOk, OnErr, IsOk, length, take, drop, vec_len, vec_capacity, slice_get};
+ghost use Rattle.std.specs.Prelude.{◌≡◌, ◌≢◌, ◌↔◌, ◌+◌, ◌-◌, ◌≤◌, ◌<◌, ◌^◌, [], ◌++◌, IfOk, OnOk, OnErr, IsOk, ℕ, true, false, length, take, drop, vec_len, vec_capacity, slice_get};
+ghost use Rattle.ff_frame.specs.declared.packet.Pkt.{Pkt};
 
+use ff_frame::Cut;
 use std::alloc::{AllocError, Global};
 use std::marker::Model;
 use std::mem::replace;
@@ -45,6 +47,23 @@ impl Held {
         ensures { result ≡ length self.now.bytes }
     {
         self.as_slice().len()
+    }
+
+    /// What comes where no whole unit waits: more bytes are wanted, or all came, or the last unit isn't whole, at this
+    /// offset.
+    pub fn unfinished(&self, ended: bool, offset: u64) -> Cut
+        ensures not_yet { result ≡ Cut.NotYet ↔ ended ≡ false }
+        ensures over { result ≡ Cut.End ↔ ((ended ≡ true) × (self.now.bytes ≡ [])) }
+        ensures broken { (place : ℕ) → result ≡ Cut.Broken place ↔ ((ended ≡ true) × (self.now.bytes ≢ []) × (place ≡ offset)) }
+        ensures none { (p : Pkt) → result ≢ Cut.Pkt p }
+    {
+        if !ended {
+            return Cut::NotYet;
+        }
+        if self.len() == 0 {
+            return Cut::End;
+        }
+        Cut::Broken { offset }
     }
 
     /// The bytes that wait.

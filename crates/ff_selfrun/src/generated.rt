@@ -4,7 +4,6 @@
 //! alone (`specs/generated/Generated`). A program shows with them, without any file, that it writes what it is to
 //! write.
 
-mod base;
 mod pictures;
 mod sound;
 

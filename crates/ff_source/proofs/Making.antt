@@ -2,6 +2,7 @@
 use Rattle.std.proofs.Common.{◌≡◌, ◌≢◌, ℕ, zero, suc, ◌*◌, ◌<◌, ◌≤◌, ◌^◌, ◌&&◌, cond, if◌then◌else◌, codes, bytes_eq, Bool, true, false, ℤ, pos, negsuc, ◌≤ℤ◌, Option, Some, None, IfSome, IsNone, IfOk, List, Result, Ok, Err, refl, sym, subst, arith, mul-le-mul_right}
 use Rattle.std.proofs.lemmas.Int.{ints}
 use Rattle.std.proofs.lemmas.Bool.Decides.{nat_tests}
+use Rattle.ff_frame.specs.Sizes.{is_side}
 use Rattle.ff_time.specs.Fraction.{Fraction, IsBase, IsBase-unit}
 use Rattle.ff_frame.specs.declared.config.ConfigError.{ConfigError}
 use Rattle.ff_frame.specs.declared.config.ConfigError.TheVariants.{BadSize}
@@ -10,7 +11,6 @@ use Rattle.ff_frame.specs.Video.{IsSide}
 use Rattle.ff_lang.specs.declared.graph.Arg.{Arg}
 use Rattle.ff_stream.specs.Times.{ticks}
 use Rattle.ff_filter.specs.Ranges.{IsCeiling}
-use Rattle.ff_vfilter.specs.Sizes.{is_side}
 use Rattle.ff_source.specs.declared.color_options.ColorSettings.{ColorSettings}
 use Rattle.ff_source.specs.declared.silence_options.SilenceSettings.{SilenceSettings}
 use Rattle.ff_source.specs.declared.length.Length.{Length}

@@ -1,15 +1,14 @@
 -- `color` by its arguments.
-use Rattle.std.specs.Prelude.{◌≡◌, ℕ, zero, suc, ◌&&◌, nat_lt, Bool, if◌then◌else◌, cond, ◌==◌, length}
+use Rattle.std.specs.Prelude.{◌≡◌, ℕ, zero, suc, ◌&&◌, cond}
 use Rattle.std.specs.Prelude.{Option, Some, None, List, [], ◌∷◌, codes, Result, Ok, Err}
-use Rattle.std.specs.List.{position_or_len, before_first, after_first}
+use Rattle.ff_time.specs.Digits.{IsRate}
+use Rattle.ff_time.specs.Fraction.{Fraction}
+use Rattle.ff_frame.specs.Sizes.{sides_of, is_side}
 use Rattle.ff_frame.specs.declared.config.ConfigError.{ConfigError}
 use Rattle.ff_frame.specs.declared.config.ConfigError.TheVariants.{BadOption, BadSize}
 use Rattle.ff_lang.specs.declared.graph.Arg.{Arg}
-use Rattle.ff_filter.specs.Options.{Manual, IsTime, number_of}
+use Rattle.ff_filter.specs.Options.{Manual, IsTime}
 use Rattle.ff_filter.specs.Ranges.{IsCeiling}
-use Rattle.ff_vfilter.specs.declared.fps.FpsSettings.{FpsSettings}
-use Rattle.ff_vfilter.specs.FpsOptions.{SetsFps, both}
-use Rattle.ff_vfilter.specs.Sizes.{is_side}
 use Rattle.ff_source.specs.declared.color.Color.{Color}
 use Rattle.ff_source.specs.declared.color.Color.TheVariants.{Black}
 use Rattle.ff_source.specs.declared.color_options.ColorSettings.{ColorSettings}
@@ -20,18 +19,11 @@ use Rattle.ff_source.specs.Bases.{one_over}
 use Rattle.ff_source.specs.Colors.{color_named}
 use Rattle.ff_source.specs.Readings.{IsMadeBy}
 
-abbrev pub is_x : ℕ → Bool
-is_x b = b == 120
-
--- WxH: columns and rows, whole numbers of 1 to 5 digits
-abbrev pub size_of : List ℕ → Option (ℕ × ℕ)
-size_of text = if nat_lt (position_or_len is_x text) (length text) then both (number_of 5 (before_first is_x text)) (number_of 5 (after_first is_x text)) else None
-
 -- a colour; a size; pictures a second, as `fps` reads them; a duration
 abbrev pub SetsColor : ColorSettings → ℕ → List ℕ → ColorSettings → Type 0
 SetsColor s zero value t = (color : Color) × (color_named value ≡ Some color) × (t ≡ record s { color = color })
-SetsColor s (suc zero) value t = (size : ℕ × ℕ) × (size_of value ≡ Some size) × (t ≡ record s { width = size.0; height = size.1 })
-SetsColor s (suc (suc zero)) value t = (rate : FpsSettings) × SetsFps value rate × (t ≡ record s { base = rate.base })
+SetsColor s (suc zero) value t = (size : ℕ × ℕ) × (sides_of value ≡ Some size) × (t ≡ record s { width = size.0; height = size.1 })
+SetsColor s (suc (suc zero)) value t = (base : Fraction) × IsRate value base × (t ≡ record s { base = base })
 SetsColor s (suc (suc (suc option))) value t = (length : Length) × IsTime value length.us × (t ≡ record s { duration = Some length })
 
 abbrev pub color_manual : Manual ColorSettings

@@ -1,9 +1,10 @@
 -- `anullsrc` by its arguments.
 use Rattle.std.specs.Prelude.{◌≡◌, ◌≤◌, ◌<◌, ◌^◌, ℕ, zero, suc, Option, Some, None, List, [], ◌∷◌, codes, Result, Ok, Err}
+use Rattle.ff_time.specs.Digits.{number_of}
 use Rattle.ff_frame.specs.declared.config.ConfigError.{ConfigError}
 use Rattle.ff_frame.specs.declared.config.ConfigError.TheVariants.{BadOption}
 use Rattle.ff_lang.specs.declared.graph.Arg.{Arg}
-use Rattle.ff_filter.specs.Options.{Manual, IsTime, number_of}
+use Rattle.ff_filter.specs.Options.{Manual, IsTime}
 use Rattle.ff_filter.specs.Ranges.{IsCeiling}
 use Rattle.ff_source.specs.declared.length.Length.{Length}
 use Rattle.ff_source.specs.declared.silence_options.SilenceSettings.{SilenceSettings}

@@ -1,15 +1,13 @@
 //! The arguments of `color`.
 ghost use Rattle.std.specs.Prelude.{◌≡◌, ◌<◌, ◌^◌, IfSome, IsNone};
-ghost use Rattle.ff_source.specs.ColorOptions.{size_of, made_color, MakesColor};
+ghost use Rattle.ff_source.specs.ColorOptions.{made_color, MakesColor};
 
-use crate::base::one_over;
 use crate::color::{Color, Pictures};
 use crate::length::Length;
 use crate::made::Made;
-use ff_filter::{Settings, read_number};
-use ff_frame::ConfigError;
-use ff_time::Rational;
-use ff_vfilter::{FpsSettings, is_side};
+use ff_filter::Settings;
+use ff_frame::{ConfigError, is_side, read_sides};
+use ff_time::{Rational, read_rate};
 
 /// The settings of `color`.
 #[derive(Clone, Copy, Debug)]
@@ -26,23 +24,6 @@ pub struct ColorSettings {
     pub duration: Option<Length>,
 }
 
-// WxH: whole numbers of 1 to 5 digits.
-fn size(text: &str) -> Option<(u64, u64)>
-    ensures value { result ≡ size_of text.now }
-    ensures few { IfSome result (λ size. (size.0 < 10 ^ 10) × (size.1 < 10 ^ 10)) }
-{
-    match text.split_once('x') {
-        None => None,
-        Some((first, second)) => match read_number(first, 5) {
-            None => None,
-            Some(width) => match read_number(second, 5) {
-                None => None,
-                Some(height) => Some((width, height)),
-            },
-        },
-    }
-}
-
 impl ColorSettings {
     ghost use Rattle.ff_source.specs.ColorOptions.{color_default, SetsColor};
 
@@ -54,7 +35,7 @@ impl ColorSettings {
             color: Color::Black,
             width: 320,
             height: 240,
-            base: one_over(25),
+            base: Rational::one_over(25),
             duration: None,
         }
     }
@@ -81,7 +62,7 @@ impl ColorSettings {
         ensures set { IfSome result (λ t. SetsColor self 1 value.now t) }
         ensures none { IsNone result → (t : ColorSettings) → SetsColor self 1 value.now t → ⊥ }
     {
-        match size(value) {
+        match read_sides(value) {
             None => None,
             Some((width, height)) => Some(ColorSettings {
                 color: self.color,
@@ -98,14 +79,13 @@ impl ColorSettings {
         ensures set { IfSome result (λ t. SetsColor self 2 value.now t) }
         ensures none { IsNone result → (t : ColorSettings) → SetsColor self 2 value.now t → ⊥ }
     {
-        let fps = FpsSettings { base: self.base };
-        match fps.set(0, value) {
+        match read_rate(value) {
             None => None,
-            Some(rate) => Some(ColorSettings {
+            Some(base) => Some(ColorSettings {
                 color: self.color,
                 width: self.width,
                 height: self.height,
-                base: rate.base,
+                base,
                 duration: self.duration,
             }),
         }

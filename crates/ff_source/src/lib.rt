@@ -9,7 +9,6 @@
 //! `specs/Colors` and `specs/Silences` have. No frame is made before it is asked for.
 #![tactic(auto)]
 
-mod base;
 mod color;
 mod color_options;
 mod laws;

@@ -3,13 +3,12 @@ ghost use Rattle.std.specs.Prelude.{◌≡◌, IfSome, IsNone, ℕ};
 ghost use Rattle.ff_source.specs.Bases.{one_over as over};
 ghost use Rattle.ff_source.specs.SilenceOptions.{IsRate, MakesSilence};
 
-use crate::base::one_over;
 use crate::length::Length;
 use crate::made::Made;
 use crate::silence::{Silence, read_channels};
-use ff_filter::{Settings, read_number};
+use ff_filter::Settings;
 use ff_frame::ConfigError;
-use ff_time::Rational;
+use ff_time::{Rational, read_number};
 
 /// The settings of `anullsrc`.
 #[derive(Clone, Copy, Debug)]
@@ -33,7 +32,7 @@ fn base(text: &str) -> Option<Rational>
             if rate < 1 || rate >= 1 << 31 {
                 return None;
             }
-            Some(one_over(rate as u32))
+            Some(Rational::one_over(rate as u32))
         }
     }
 }
@@ -47,7 +46,7 @@ impl SilenceSettings {
     {
         SilenceSettings {
             channels: 2,
-            base: one_over(44100),
+            base: Rational::one_over(44100),
             duration: None,
         }
     }

@@ -1,4 +1,5 @@
 pub mod Common
+pub mod Digits
 pub mod Duration
 pub mod Fraction
 pub mod Laws

@@ -87,6 +87,15 @@ impl Rational {
         })
     }
 
+    /// The time base of so many ticks a second.
+    pub fn one_over(rate: u32) -> Rational
+        requires some { 0 < rate }
+        requires few { rate < 2 ^ 31 }
+        ensures { result ≡ record { num = 1; den = rate } }
+    {
+        Rational { num: 1, den: rate }
+    }
+
     /// The numerator.
     pub fn num(&self) -> i64
         ensures value { result ≡ pos self.now.num }

@@ -8,8 +8,7 @@ use Rattle.ff_time.specs.Rescale.{Reaches}
 use Rattle.ff_time.proofs.Ceiling.{IsCeiling-div_ceil, Reaches-ceiling, Reaches-least}
 use Rattle.ff_stream.specs.Times.{ticks}
 use Rattle.ff_filter.specs.declared.range.Range.{Range}
-use Rattle.ff_filter.specs.declared.range.RangeSettings.{RangeSettings}
-use Rattle.ff_filter.specs.Ranges.{IsCeiling, IsRange}
+use Rattle.ff_filter.specs.Ranges.{IsCeiling}
 use Rattle.ff_trim.specs.Cuts.{ticks_at, in_bits}
 
 ints_between : (a b : ℤ) → a ≤ℤ b → b ≤ℤ a → a ≡ b
@@ -31,7 +30,7 @@ num_some us tb n r least =
           )
     ]
 
-ceiling_is : (us : ℕ) (tb : Fraction) (k : ℕ) → IsCeiling us tb k → ticks_at tb us ≡ k
+pub ceiling_is : (us : ℕ) (tb : Fraction) (k : ℕ) → IsCeiling us tb k → ticks_at tb us ≡ k
 ceiling_is us tb k h =
     let some = num_some us tb h.0 h.1 h.2 in
     let is = IsCeiling-div_ceil (us * tb.den) (tb.num * 1000000) some in
@@ -39,9 +38,6 @@ ceiling_is us tb k h =
     let high = Reaches-least us tb (ticks_at tb us) h.0 is h.1 in
     let same : h.0 ≡ pos (ticks_at tb us) = ints_between h.0 (pos (ticks_at tb us)) low high in
     ap ticks (sym same) ∙ sym h.3
-
-pub start_is : {s : RangeSettings} {tb : Fraction} {r : Range} → IsRange s tb r → r.start ≡ ticks_at tb s.start
-start_is {s} {tb} {r} h = sym (ceiling_is s.start tb r.start h.start)
 
 near_one : (n : ℕ) (p q : n < 2 ^ 63) → p ≡ q
 near_one n p q = (let one : IsProp (n < 2 ^ 63) = hlevel props in one p q)

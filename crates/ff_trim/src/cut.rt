@@ -10,9 +10,9 @@ ghost use Rattle.ff_filter.specs.Shifts.{earlier as earlier_by};
 ghost use Rattle.ff_trim.specs.Cuts.{ticks_at, start_in, stop_in, range_in, kept};
 
 use ff_afilter::ATrim;
-use ff_filter::{Given, Pass, Range, RangeSettings, Step, earlier};
+use ff_filter::{Given, Pass, Range, Step, earlier};
 use ff_frame::StreamHead;
-use ff_stream::{Item, Refused};
+use ff_stream::{Item, Refused, time_base};
 use ff_time::TimeCut;
 use ff_vfilter::Trim;
 
@@ -45,17 +45,12 @@ fn given_earlier(given: Given, by: u64) -> Given
 }
 
 // So many microseconds in ticks of a stream.
-#[tactic(auto, using(crate::proofs::Ticking::start_is))]
 fn ticks_in(us: u64, head: &StreamHead) -> u64
     requires near { us ≤ 10 ^ 15 }
     ensures is { result ≡ ticks_at (base_of_head head.now) us }
     ensures near { result < 2 ^ 63 }
 {
-    let settings = RangeSettings {
-        start: us,
-        stop: None,
-    };
-    Range::of(settings, head).start
+    Range::ceiling(us, time_base(head))
 }
 
 // Where a cut of this length ends that starts there.

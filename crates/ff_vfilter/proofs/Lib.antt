@@ -1,6 +1,6 @@
 pub mod Cutting
 pub mod Evenly
-pub mod Fractions
+pub mod RateStart
 pub mod Keeping
 pub mod RateShape
 pub mod Rating

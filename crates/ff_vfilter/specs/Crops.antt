@@ -16,7 +16,8 @@ use Rattle.ff_planes.specs.declared.rectangle.Rectangle.{Rectangle}
 use Rattle.ff_planes.specs.Parts.{cropped}
 use Rattle.ff_vfilter.specs.declared.crop.CropSettings.{CropSettings}
 use Rattle.ff_vfilter.specs.Pictures.{agrees, repainted}
-use Rattle.ff_vfilter.specs.Sizes.{SetsSize, no_sizes, on_columns, on_rows, size_of, place_of, is_side, sized}
+use Rattle.ff_frame.specs.Sizes.{is_side}
+use Rattle.ff_vfilter.specs.Sizes.{SetsSize, no_sizes, on_columns, on_rows, size_of, place_of, sized}
 
 -- the rectangle lies in the picture
 abbrev pub lies_in : VFrame → Rectangle → Bool

@@ -1,7 +1,7 @@
 -- `fps` by its arguments.
-use Rattle.std.specs.Prelude.{◌≡◌, ℕ, nat_lt, Bool, false, pos, if◌then◌else◌, ◌==◌, Option, Some, None, List, [], ◌∷◌, codes, length, Result, Ok}
-use Rattle.std.specs.List.{position_or_len, before_first, after_first}
-use Rattle.ff_time.specs.Fraction.{Fraction, IsBase, IsLowestOf}
+use Rattle.std.specs.Prelude.{◌≡◌, ℕ, Bool, false, List, [], ◌∷◌, codes, Result, Ok}
+use Rattle.ff_time.specs.Digits.{IsRate}
+use Rattle.ff_time.specs.Fraction.{Fraction}
 use Rattle.ff_frame.specs.declared.config.ConfigError.{ConfigError}
 use Rattle.ff_frame.specs.declared.head.StreamHead.{StreamHead}
 use Rattle.ff_frame.specs.declared.head.StreamHead.TheVariants.{Audio, Video}
@@ -11,35 +11,13 @@ use Rattle.ff_stream.specs.Within.{within, passes_limits}
 use Rattle.ff_stream.specs.Times.{with_base}
 use Rattle.ff_lang.specs.declared.graph.Arg.{Arg}
 use Rattle.ff_filter.specs.Views.{View}
-use Rattle.ff_filter.specs.Options.{Manual, number_of, is_video, IsConfigured}
+use Rattle.ff_filter.specs.Options.{Manual, is_video, IsConfigured}
 use Rattle.ff_vfilter.specs.declared.fps.FpsSettings.{FpsSettings}
 use Rattle.ff_vfilter.specs.Rates.{rated, none_held}
 
-abbrev pub is_slash : ℕ → Bool
-is_slash b = b == 47
-
-abbrev pub over_one : Option ℕ → Option (ℕ × ℕ)
-over_one None = None
-over_one (Some n) = Some (n, 1)
-
-abbrev pub both : Option ℕ → Option ℕ → Option (ℕ × ℕ)
-both None d = None
-both (Some n) None = None
-both (Some n) (Some d) = Some (n, d)
-
--- N, or N/D: whole numbers of 1 to 10 digits
-abbrev pub ratio_of : List ℕ → Option (ℕ × ℕ)
-ratio_of text =
-    if nat_lt (position_or_len is_slash text) (length text) then both (number_of 10 (before_first is_slash text)) (number_of 10 (after_first is_slash text))
-    else over_one (number_of 10 text)
-
--- `fps` is N or N/D pictures a second; the time base is 1/fps in lowest terms, of two positive numbers of at most 2^31 - 1
-pub record SetsFps (value : List ℕ) (t : FpsSettings) : Type 0 where
-  pub n : ℕ
-  pub d : ℕ
-  pub ratio : ratio_of value ≡ Some (n, d)
-  pub lowest : IsLowestOf (pos d) (pos n) t.base
-  pub small : IsBase t.base
+-- `fps` is N or N/D pictures a second
+abbrev pub SetsFps : List ℕ → FpsSettings → Type 0
+SetsFps value t = IsRate value t.base
 
 abbrev pub fps_manual : Manual FpsSettings
 fps_manual = record {

@@ -16,7 +16,8 @@ use Rattle.ff_planes.specs.declared.rectangle.Rectangle.{Rectangle}
 use Rattle.ff_planes.specs.Parts.{padded}
 use Rattle.ff_vfilter.specs.declared.pad.PadSettings.{PadSettings}
 use Rattle.ff_vfilter.specs.Pictures.{agrees, repainted}
-use Rattle.ff_vfilter.specs.Sizes.{SetsSize, no_sizes, on_columns, on_rows, size_of, place_of, is_side, sized}
+use Rattle.ff_frame.specs.Sizes.{is_side}
+use Rattle.ff_vfilter.specs.Sizes.{SetsSize, no_sizes, on_columns, on_rows, size_of, place_of, sized}
 
 -- the picture has the rectangle's size
 abbrev pub fills : VFrame → Rectangle → Bool

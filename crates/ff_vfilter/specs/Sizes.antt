@@ -1,10 +1,10 @@
 -- Sizes and places that arguments give, on the grid of Cb and Cr.
-use Rattle.std.specs.Prelude.{◌≡◌, ℕ, zero, suc, ◌*◌, ◌/◌, Bool, ◌&&◌, nat_le, Option, Some, None, List}
+use Rattle.std.specs.Prelude.{◌≡◌, ℕ, zero, suc, ◌*◌, ◌/◌, Option, Some, None, List}
 use Rattle.ff_frame.specs.declared.video.Format.{Format}
 use Rattle.ff_frame.specs.declared.video.Format.TheVariants.{C420, C422, C444, Mono}
 use Rattle.ff_frame.specs.declared.head.StreamHead.{StreamHead}
 use Rattle.ff_frame.specs.declared.head.StreamHead.TheVariants.{Audio, Video}
-use Rattle.ff_filter.specs.Options.{number_of}
+use Rattle.ff_time.specs.Digits.{number_of}
 use Rattle.ff_vfilter.specs.declared.sizes.Sizes.{Sizes}
 
 -- the sizes with this number as the width, the height, x or y
@@ -47,10 +47,6 @@ size_of grid (Some n) whole = grid n
 abbrev pub place_of : (ℕ → ℕ) → Option ℕ → ℕ → ℕ
 place_of grid None place = grid place
 place_of grid (Some n) place = grid n
-
--- 1 to 16,384 columns or rows
-abbrev pub is_side : ℕ → Bool
-is_side n = nat_le 1 n && nat_le n 16384
 
 -- the head with other columns and rows
 abbrev pub sized : StreamHead → ℕ → ℕ → StreamHead

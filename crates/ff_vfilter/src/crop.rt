@@ -3,13 +3,12 @@ ghost use Rattle.std.specs.Prelude.{◌≡◌, if◌then◌else◌, Some, None, 
 ghost use Rattle.ff_vfilter.specs.Crops.{lies_in};
 
 use crate::repaint::{Paint, Repaint, agrees};
-use crate::sizes::{Sizes, height_of, is_side, sized, width_of, x_of, y_of};
-use ff_filter::{
-    After, Filter, Limited, Settings, Stepper, machine_of, read_number, video_settings,
-};
-use ff_frame::{Bytes, ConfigError, Format, StreamHead, VFrame};
+use crate::sizes::{Sizes, height_of, sized, width_of, x_of, y_of};
+use ff_filter::{After, Filter, Limited, Settings, Stepper, machine_of, video_settings};
+use ff_frame::{Bytes, ConfigError, Format, StreamHead, VFrame, is_side};
 use ff_lang::Arg;
 use ff_planes::{Rectangle, crop};
+use ff_time::read_number;
 use std::alloc::Global;
 
 /// Shows a part of each frame.

@@ -1,17 +1,17 @@
 //! The filter `fps`, by its arguments and the head of its input.
 ghost use Rattle.std.specs.Prelude.{◌≡◌, ◌<◌, ◌^◌, ◌∷◌, [], pos, None, Some, ℕ, IfSome, IsNone, IfOk, IfErr};
-ghost use Rattle.ff_time.specs.Fraction.{Fraction, IsBase, IsLowestOf};
+ghost use Rattle.ff_time.specs.Fraction.{Fraction};
 ghost use Rattle.ff_frame.specs.declared.config.ConfigError.TheVariants.{NoMemory};
-ghost use Rattle.ff_vfilter.specs.FpsOptions.{ratio_of, fps_head, fps_view};
+ghost use Rattle.ff_vfilter.specs.FpsOptions.{fps_head, fps_view};
 
 use crate::rate::Rate;
 use crate::scale::Scale;
 use crate::showing::{Ahead, Showing};
-use ff_filter::{Filter, Inlet, Settings, read_number, video_settings};
+use ff_filter::{Filter, Inlet, Settings, video_settings};
 use ff_frame::{ConfigError, StreamHead};
 use ff_lang::Arg;
 use ff_stream::{time_base, with_base};
-use ff_time::Rational;
+use ff_time::{Rational, read_rate};
 use std::alloc::Global;
 
 /// The settings of `fps`.
@@ -19,49 +19,6 @@ use std::alloc::Global;
 pub struct FpsSettings {
     /// The time base of the output, which is one over the frames a second.
     pub base: Rational,
-}
-
-// N, or N/D: whole numbers of 1 to 10 digits.
-fn ratio(text: &str) -> Option<(u64, u64)>
-    ensures value { result ≡ ratio_of text.now }
-    ensures few { IfSome result (λ r. (r.0 < 10 ^ 10) × (r.1 < 10 ^ 10)) }
-{
-    match text.split_once('/') {
-        None => match read_number(text, 10) {
-            None => None,
-            Some(n) => Some((n, 1)),
-        },
-        Some((first, second)) => match read_number(first, 10) {
-            None => None,
-            Some(n) => match read_number(second, 10) {
-                None => None,
-                Some(d) => Some((n, d)),
-            },
-        },
-    }
-}
-
-// The fraction in lowest terms, where both numbers are positive and the lowest terms below 2^31.
-fn lowest(num: i64, den: i64) -> Option<Rational>
-    ensures is { IfSome result (IsLowestOf num den) }
-    ensures base { IfSome result IsBase }
-    ensures none { IsNone result → (b : Fraction) → IsLowestOf num den b → IsBase b → ⊥ }
-{
-    match Rational::new(num, den) {
-        Ok(base) => Some(base),
-        Err(_) => None,
-    }
-}
-
-// One over n/d in lowest terms, where both are positive and the lowest terms below 2^31.
-fn one_over(n: u64, d: u64) -> Option<Rational>
-    requires first { n < 10 ^ 10 }
-    requires second { d < 10 ^ 10 }
-    ensures is { IfSome result (λ b. IsLowestOf (pos d) (pos n) b) }
-    ensures base { IfSome result IsBase }
-    ensures none { IsNone result → (b : Fraction) → IsLowestOf (pos d) (pos n) b → IsBase b → ⊥ }
-{
-    lowest(d as i64, n as i64)
 }
 
 impl Settings for FpsSettings {
@@ -78,12 +35,9 @@ impl Settings for FpsSettings {
     }
 
     fn set(self, _option: usize, value: &str) -> Option<FpsSettings> {
-        match ratio(value) {
+        match read_rate(value) {
             None => None,
-            Some((n, d)) => match one_over(n, d) {
-                None => None,
-                Some(base) => Some(FpsSettings { base }),
-            },
+            Some(base) => Some(FpsSettings { base }),
         }
     }
 }
@@ -149,11 +103,10 @@ impl Fps {
         ensures made { IfOk result (λ r. IsMade (IsFps args.now heads.now) fps_view fps_head (⟦<Rate as Filter>⟧.view r.0) r.1.items) }
         ensures refused { IfErr result (IsRefused (IsFps args.now heads.now)) }
     {
-        // 1/25 is a time base: the other arm is never taken.
-        let Ok(base) = Rational::new(1, 25) else {
-            return Err(ConfigError::NoMemory);
+        let settings = FpsSettings {
+            base: Rational::one_over(25),
         };
-        match video_settings(FpsSettings { base }, args, heads) {
+        match video_settings(settings, args, heads) {
             Err(error) => Err(error),
             Ok((head, settings)) => rate_and_head(alloc, &head, settings.base),
         }

@@ -42,7 +42,7 @@ pub use repaint::{Paint, Repaint};
 pub use scale::Scale;
 pub use set_pts::SetPts;
 pub use showing::{Ahead, Showing};
-pub use sizes::{Sizes, is_side};
+pub use sizes::Sizes;
 pub use span::Span;
 pub use split::Split;
 pub use trim::Trim;

@@ -4,13 +4,12 @@ ghost use Rattle.ff_frame.specs.Video.{IsSide};
 ghost use Rattle.ff_planes.specs.Parts.{IsPart};
 
 use crate::repaint::{Paint, Repaint, agrees};
-use crate::sizes::{Sizes, height_of, is_side, sized, width_of, x_of, y_of};
-use ff_filter::{
-    After, Filter, Limited, Settings, Stepper, machine_of, read_number, video_settings,
-};
-use ff_frame::{Bytes, ConfigError, Format, StreamHead, VFrame};
+use crate::sizes::{Sizes, height_of, sized, width_of, x_of, y_of};
+use ff_filter::{After, Filter, Limited, Settings, Stepper, machine_of, video_settings};
+use ff_frame::{Bytes, ConfigError, Format, StreamHead, VFrame, is_side};
 use ff_lang::Arg;
 use ff_planes::{Rectangle, pad};
+use ff_time::read_number;
 use std::alloc::Global;
 
 /// Shows each frame in a rectangle of its size, on black.

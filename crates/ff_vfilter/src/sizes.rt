@@ -1,6 +1,6 @@
 //! The sizes and places that the arguments of `crop` and `pad` give, on the grid of chroma.
 ghost use Rattle.std.specs.Prelude.{◌≡◌};
-ghost use Rattle.ff_vfilter.specs.Sizes.{on_columns as columns_on, on_rows as rows_on, size_of, place_of, is_side as is_a_side, sized as head_sized};
+ghost use Rattle.ff_vfilter.specs.Sizes.{on_columns as columns_on, on_rows as rows_on, size_of, place_of, sized as head_sized};
 
 use ff_frame::{Format, StreamHead};
 
@@ -105,13 +105,6 @@ pub(crate) fn y_of(format: Format, given: Option<u64>, place: u64) -> u64
         None => on_rows(format, place),
         Some(number) => on_rows(format, number),
     }
-}
-
-/// 1 to 16,384 columns or rows.
-pub fn is_side(number: u64) -> bool
-    ensures { result ≡ is_a_side number }
-{
-    number >= 1 && number <= 16384
 }
 
 /// The head with other columns and rows.

@@ -9,7 +9,7 @@ ghost use Rattle.ff_wav.specs.Chunks.{WavState, number_64, known, sizes_chunk, u
 use crate::head::{ChunkStep, WavHead, WavState, WavStep};
 use ff_frame::{Codec, StreamHead};
 use ff_reader::{HeadFault, Step};
-use ff_time::{Rational, TimeError};
+use ff_time::Rational;
 
 fn at_16(bytes: &[u8], place: usize) -> u16
     requires { place + 2 ≤ length bytes.now }
@@ -40,15 +40,6 @@ fn has_id(bytes: &[u8], id: &[u8]) -> bool
     &bytes[..4] == id
 }
 
-// A time base of so many ticks a second.
-fn ticks(rate: u32) -> Result<Rational, TimeError>
-    requires some { 0 < rate }
-    requires few { rate < 2 ^ 31 }
-    ensures { result ≡ Ok (record { num = 1; den = rate }) }
-{
-    Rational::new(1, i64::from(rate))
-}
-
 // The codec of so many bits, which are 8, 16, 24 or 32.
 fn codec_of_bits(bits: u16) -> Codec
     ensures { result ≡ codec_of bits }
@@ -62,23 +53,21 @@ fn codec_of_bits(bits: u16) -> Codec
 }
 
 // What the fields say, which were found to be right.
-fn stream(at: u64, channels: u16, rate: u32, bits: u16) -> Result<StreamHead, HeadFault>
+fn stream(channels: u16, rate: u32, bits: u16) -> StreamHead
     requires few_channels { channels ≤ 8 }
     requires some_rate { 1 ≤ rate }
     requires small_rate { rate < 2 ^ 31 }
     requires few_bits { bits ≤ 32 }
-    ensures { result ≡ Ok (stream_of channels rate bits) }
+    ensures { result ≡ stream_of channels rate bits }
 {
-    let Ok(tb) = ticks(rate) else {
-        return Err(HeadFault::Unsupported { offset: at });
-    };
-    Ok(StreamHead::Audio {
+    let tb = Rational::one_over(rate);
+    StreamHead::Audio {
         tb,
         rate,
         bits: bits as u8,
         channels: channels as u8,
         codec: codec_of_bits(bits),
-    })
+    }
 }
 
 #[tactic(auto, unfolding(crate::specs::Chunks::format_of))]
@@ -104,7 +93,7 @@ fn checked(
     if !(block == channels * (bits / 8)) {
         return Err(HeadFault::Unsupported { offset: at + 20 });
     }
-    stream(at, channels, rate, bits)
+    Ok(stream(channels, rate, bits))
 }
 
 // Passes over a chunk of this size: 8 bytes, the size, and a pad byte where the size is odd.

@@ -4,7 +4,7 @@
 //! byte where the size is odd. Past 4 GiB it begins with `RF64`, and its first chunk, `ds64`, has the sizes in 64 bits
 //! (EBU Tech 3306). `specs/Chunks` says what one chunk does to the reading of a head. `specs/Heads` says what the head
 //! of a whole input is, and which first bytes decide it. The body is linear PCM, and its packets are those of
-//! ff_pcm_cut. `specs/Header` has the header that is written, in each form, and `specs/Layout` how a file is written.
+//! ff_pcm. `specs/Header` has the header that is written, in each form, and `specs/Layout` how a file is written.
 #![tactic(auto)]
 
 mod chunk;

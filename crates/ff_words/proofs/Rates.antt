@@ -10,34 +10,13 @@ use Rattle.std.proofs.lemmas.Str.Parse.{digit_from_value}
 use Rattle.std.proofs.lemmas.Str.{digit_value_digit}
 use Rattle.std.specs.Str.Parse.{AllDigits, digits_value_after}
 use Rattle.std.specs.Char.{digit_value}
+use Rattle.ff_frame.specs.Sizes.{is_x, sides_of, is_side}
+use Rattle.ff_time.specs.Digits.{is_digit, digits_from, number_of, is_slash, over_one, both, ratio_of, IsRate}
 use Rattle.ff_time.specs.Fraction.{Fraction, IsBase, IsLowestOf, IsBelowOne, IsTooBig, IsReduced}
-use Rattle.ff_time.specs.declared.error.TimeError.{TimeError}
-use Rattle.ff_time.specs.declared.error.TimeError.TheVariants.{NotPositive, TooBig}
 use Rattle.ff_time.proofs.Lowest.{IsLowestOf-small, IsReduced-num, IsReduced-den}
 use Rattle.ff_words.specs.declared.job.Size.{Size}
-use Rattle.ff_words.specs.Numbers.{is_digit, digits_from, number_of, is_slash, is_x, over_one, both, ratio_of, IsRate, sides_of, is_side, sized, size_of}
+use Rattle.ff_words.specs.Numbers.{sized, size_of}
 use Rattle.ff_words.specs.Writing.{rate_text, size_text, IsFineSize, IsFineText}
-
-below_one : (n : ℕ) (z : ℤ) → z ≡ pos n → 0 < n → z <ℤ pos 1 → ⊥
-below_one n z e p h = let less : pos n <ℤ pos 1 = subst (λ (y : ℤ). y <ℤ pos 1) e h in clash n p less
-  where
-    clash : (n : ℕ) → 0 < n → pos n <ℤ pos 1 → ⊥
-    clash n p h = grind (arith)
-
--- where no time base is answered, there is none
-no_base : (num den : ℤ) (r : Result Fraction TimeError) (e : TimeError) → r ≡ Err e → (IsErrOf r NotPositive ↔ IsBelowOne num den) → (IsErrOf r TooBig ↔ ((f : Fraction) × IsLowestOf num den f × IsTooBig f)) → (e ≡ NotPositive) ⊎ (e ≡ TooBig)
-    → (b : Fraction) → IsLowestOf num den b → IsBase b → ⊥
-no_base num den r e is below big (inl k) b h i =
-    elim (below.0 (cc (is, k))) as (λ _. ⊥) [ inl l ↦ below_one h.n num h.num_is h.num_positive l | inr l ↦ below_one h.d den h.den_is h.den_positive l ]
-no_base num den r e is below big (inr k) b h i =
-    let f = big.0 (cc (is, k)) in
-    IsLowestOf-small num den b f.0 h f.1 i.num_small i.den_small f.2
-
--- the same, as numbers are stored
-pub no_base_stored : (num den x y : ℤ) → x ≡ num → y ≡ den → (r : Result Fraction TimeError) (e : TimeError) → r ≡ Err e → (IsErrOf r NotPositive ↔ IsBelowOne x y) → (IsErrOf r TooBig ↔ ((f : Fraction) × IsLowestOf x y f × IsTooBig f)) → (e ≡ NotPositive) ⊎ (e ≡ TooBig)
-    → (b : Fraction) → IsLowestOf num den b → IsBase b → ⊥
-no_base_stored num den x y ex ey r e is below big k b h i =
-    no_base x y r e is below big k b (subst (λ (z : ℤ). IsLowestOf z y b) (sym ex) (subst (λ (z : ℤ). IsLowestOf num z b) (sym ey) h)) i
 
 -- ---- one at most
 

@@ -2,6 +2,7 @@
 use Rattle.std.specs.Prelude.{◌≡◌, ℕ, ◌≤◌, ◌<◌, ◌^◌, ◌⊎◌, Bool, true, false, if◌then◌else◌, Option, Some, None, Result, Ok, Err, List, length, map}
 use Rattle.std.specs.Str.{bytes_eq}
 use Rattle.std.specs.Char.{to_ascii_lowercase}
+use Rattle.ff_time.specs.Digits.{IsRate}
 use Rattle.ff_frame.specs.declared.head.Codec.{Codec}
 use Rattle.ff_frame.specs.declared.hash.HashKind.TheVariants.{Sha256, Md5}
 use Rattle.ff_format.specs.declared.format.Rf64.TheVariants.{Never, Auto, Always}
@@ -25,7 +26,7 @@ use Rattle.ff_words.specs.declared.table.Kind.TheVariants as kind
 use Rattle.ff_words.specs.declared.value.Micros.{Micros}
 use Rattle.ff_words.specs.declared.value.Value.{Value}
 use Rattle.ff_words.specs.declared.value.Value.TheVariants as value
-use Rattle.ff_words.specs.Numbers.{IsRate, size_of}
+use Rattle.ff_words.specs.Numbers.{size_of}
 use Rattle.ff_words.specs.Options.{hash_name, rf64_name, pixels_name}
 use Rattle.ff_words.specs.Table.{format_named, audio_codec, video_codec, is_level, is_frame_mode, is_sync_mode}
 

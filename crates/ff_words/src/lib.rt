@@ -12,12 +12,15 @@
 //! file has the options between it and the file before. (c) The fields of a job are those options' values. It says
 //! for each argument, each file and the end what is wrong there by itself; the answer is the first in order of
 //! reading. It has no options that wait and no state: `read_words` has them, and goes over the arguments once.
+//!
+//! `maps`: The strings that are maps, the streams that a map names, and the choice without one.
 #![tactic(auto)]
 
 mod cuts;
 mod error;
 mod job;
 mod laws;
+/// Stream choices: maps, what they name, and the choice without one.
 pub mod maps;
 mod numbers;
 mod read;

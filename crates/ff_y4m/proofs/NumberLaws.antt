@@ -14,7 +14,7 @@ use Rattle.ff_time.specs.Fraction.{Fraction, IsBase, IsReduced, IsLowestOf, IsBe
 use Rattle.ff_time.specs.declared.error.TimeError.{TimeError}
 use Rattle.ff_time.specs.declared.error.TimeError.TheVariants.{NotPositive, TooBig}
 use Rattle.ff_time.proofs.Lowest.{reduced_lem, IsReduced-num, IsReduced-den, IsReduced-base}
-use Rattle.ff_digits.specs.Digits.{is_digit}
+use Rattle.ff_time.specs.Digits.{is_digit}
 use Rattle.ff_y4m.specs.Numbers.{first_place, euclid, lowest, base_of, IsBaseOf}
 use Rattle.ff_y4m.proofs.LineLaws.{moved}
 

@@ -10,7 +10,7 @@ use Rattle.std.specs.Str.Parse.{AllDigits, digits_value_after}
 use Rattle.std.specs.Char.{digit_value}
 use Rattle.ff_y4m.specs.declared.parameters.Parameters.{Parameters}
 use Rattle.ff_y4m.specs.Lines.{line_end}
-use Rattle.ff_digits.specs.Digits.{is_digit, digits_from}
+use Rattle.ff_time.specs.Digits.{is_digit, digits_from}
 use Rattle.ff_y4m.specs.Numbers.{whole, first_place, both, around, pair}
 use Rattle.ff_y4m.specs.Parameters.{lettered}
 use Rattle.ff_y4m.specs.Heads.{word_len, parameters}

@@ -2,7 +2,7 @@
 use Rattle.std.specs.Prelude.{◌≡◌, ◌↔◌, ℕ, zero, suc, ◌+◌, ◌%◌, ◌/◌, ◌^◌, ◌==◌, ◌&&◌, ◌||◌, nat_le, nat_lt}
 use Rattle.std.specs.Prelude.{if◌then◌else◌, List, [], ◌∷◌, take, drop, length, Option, Some, None, pos}
 use Rattle.std.specs.Option.{option_map}
-use Rattle.ff_digits.specs.Digits.{digits_from}
+use Rattle.ff_time.specs.Digits.{digits_from}
 use Rattle.ff_time.specs.Fraction.{Fraction, IsBase, IsLowestOf}
 
 -- a whole number has 1 to 10 digits

@@ -44,29 +44,6 @@ fn packet(place: u64, count: u64, planes: Vec<u8>) -> Pkt
     }
 }
 
-impl Y4mCut {
-    ghost use Rattle.ff_y4m.specs.Cuts.{place_of};
-
-    // What comes where no whole frame is there: more bytes are wanted, or all came, or the last frame isn't whole.
-    fn unfinished(&self) -> Cut
-        requires { self.now.head.start + self.now.used ≤ 2 ^ 50 }
-        ensures not_yet { result ≡ Cut.NotYet ↔ self.now.ended ≡ false }
-        ensures over { result ≡ Cut.End ↔ ((self.now.ended ≡ true) × (self.now.held.bytes ≡ [])) }
-        ensures broken { (offset : ℕ) → result ≡ Cut.Broken offset ↔ ((self.now.ended ≡ true) × (self.now.held.bytes ≢ []) × (offset ≡ place_of self.now)) }
-        ensures none { (p : Pkt) → result ≢ Cut.Pkt p }
-    {
-        if !self.ended {
-            return Cut::NotYet;
-        }
-        if self.held.len() == 0 {
-            return Cut::End;
-        }
-        Cut::Broken {
-            offset: self.head.start + self.used,
-        }
-    }
-}
-
 impl PacketCut for Y4mCut {
     ghost use Rattle.ff_y4m.specs.Cuts.{y4m_cutter, Cuts, head_of, place_of, has_ended, waiting_in, full_frame};
 
@@ -155,7 +132,10 @@ impl PacketCut for Y4mCut {
             Front::Other => Ok(Cut::Broken {
                 offset: self.head.start + self.used,
             }),
-            Front::Wait => Ok(self.unfinished()),
+            Front::Wait => Ok(
+                self.held
+                    .unfinished(self.ended, self.head.start + self.used),
+            ),
         }
     }
 }

@@ -2,8 +2,7 @@
 ghost use Rattle.std.specs.Prelude.{◌≡◌, ◌≤◌, ◌<◌, ◌^◌, length, take, drop, IfSome, pos, ℕ};
 ghost use Rattle.ff_y4m.specs.Numbers.{whole as whole_number, first_place, pair as pair_of, base_of};
 
-use ff_digits::digits;
-use ff_time::Rational;
+use ff_time::{Rational, digits};
 
 /// A whole number of 1 to 10 digits.
 #[tactic(auto, unfolding(crate::specs::Numbers::whole))]

@@ -1,11 +1,12 @@
 -- The same stream on several outputs.
 use Rattle.std.specs.Prelude.{◌≡◌, ◌≤◌, ℕ, Bool, false, List, [], ◌∷◌, codes, replicate, Some, Result, Ok}
+use Rattle.ff_time.specs.Digits.{number_of}
 use Rattle.ff_frame.specs.declared.config.ConfigError.{ConfigError}
 use Rattle.ff_frame.specs.declared.head.StreamHead.{StreamHead}
 use Rattle.ff_stream.specs.declared.item.Lane.TheVariants.{Frames}
 use Rattle.ff_lang.specs.declared.graph.Arg.{Arg}
 use Rattle.ff_filter.specs.Views.{View}
-use Rattle.ff_filter.specs.Options.{Manual, number_of, IsConfigured}
+use Rattle.ff_filter.specs.Options.{Manual, IsConfigured}
 use Rattle.ff_filter.specs.declared.spread.copies.SplitSettings.{SplitSettings}
 use Rattle.ff_filter.specs.spread.Spreads.{on_output}
 

@@ -5,6 +5,7 @@ ghost use Rattle.ff_filter.specs.Ranges.{IsCeiling};
 
 use crate::{Range, RangeSettings, Settings, read_time};
 use ff_frame::StreamHead;
+use ff_stream::time_base;
 
 /// What the arguments of `trim` and `atrim` say, in microseconds.
 #[derive(Clone, Copy, Debug)]
@@ -28,11 +29,7 @@ impl TrimSettings {
         ensures is { IsCeiling self.lasting (base_of_head head.now) result }
         ensures near { result < 2 ^ 63 }
     {
-        let settings = RangeSettings {
-            start: self.lasting,
-            stop: None,
-        };
-        Range::of(settings, head).start
+        Range::ceiling(self.lasting, time_base(head))
     }
 }
 

@@ -6,9 +6,10 @@ ghost use Rattle.ff_filter.specs.spread.Splits.{split_view};
 
 use crate::spread::share::Share;
 use crate::spread::spreader::Spreader;
-use crate::{Filter, Settings, read_number};
+use crate::{Filter, Settings};
 use ff_frame::{ConfigError, StreamHead};
 use ff_stream::Item;
+use ff_time::read_number;
 use std::alloc::{AllocError, Global};
 
 /// Gives each output the whole stream.

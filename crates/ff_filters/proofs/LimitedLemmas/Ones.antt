@@ -4,6 +4,7 @@ use Rattle.std.proofs.Common.{arith}
 use Rattle.std.specs.Prelude.{replicate}
 use Rattle.std.proofs.lemmas.Bool.Decides.{nat_tests}
 use Rattle.std.proofs.lemmas.List.{length-replicate}
+use Rattle.ff_frame.specs.Sizes.{is_side}
 use Rattle.ff_time.specs.Fraction.{Fraction}
 use Rattle.ff_frame.specs.declared.config.ConfigError.{ConfigError}
 use Rattle.ff_frame.specs.declared.config.ConfigError.TheVariants.{BadSize}
@@ -46,7 +47,6 @@ use Rattle.ff_vfilter.specs.HFlips.{hflip_frame, hflip_view}
 use Rattle.ff_vfilter.specs.VFlips.{vflip_frame, vflip_view}
 use Rattle.ff_vfilter.specs.Pictures.{repainted, repainted-below}
 use Rattle.ff_vfilter.specs.Rates.{Held, rate_step, shows_to_end, rated, none_held}
-use Rattle.ff_vfilter.specs.Sizes.{is_side}
 use Rattle.ff_vfilter.specs.Trims.{lasting_trimmed, at_once, trim_view}
 use Rattle.ff_vfilter.specs.LastingLaws.{lasting-below, lasting-calm}
 use Rattle.ff_vfilter.proofs.Keeping.{hflip_sound, vflip_sound, crop_sound, pad_sound}

@@ -2,6 +2,7 @@
 use Rattle.std.specs.Prelude.{◌≡◌, ◌≢◌, ℕ, ◌≤◌, Bool, true, false, ◌&&◌, cond, nat_le, nat_eq, Option, None, Some, is_some, List, [], ◌∷◌, length, Result, Ok, Err, refl}
 use Rattle.std.proofs.Common.{inr, ap, sym, ◌∙◌, subst, arith, get_or}
 use Rattle.std.proofs.lemmas.Bool.{and_parts, and_from, ne_eqb, eq-eqb, leb-true}
+use Rattle.ff_frame.specs.Sizes.{is_side}
 use Rattle.ff_time.specs.Fraction.{Fraction}
 use Rattle.ff_time.specs.Common.{IsCommonOf}
 use Rattle.ff_time.proofs.CommonBases.{common_once}
@@ -23,7 +24,7 @@ use Rattle.ff_fsync.specs.declared.stacks.shape.Direction.TheVariants.{Beside, B
 use Rattle.ff_fsync.specs.stacks.CommonBases.{common_of}
 use Rattle.ff_fsync.proofs.StacksLemmas.Bases.{common_of_is}
 use Rattle.ff_fsync.specs.stacks.Bases.{bases_of, base_or, in_common, has_common}
-use Rattle.ff_fsync.specs.stacks.Heads.{size_across, total, is_side, all_on_grid, has_size, are_alike, with_length}
+use Rattle.ff_fsync.specs.stacks.Heads.{size_across, total, all_on_grid, has_size, are_alike, with_length}
 use Rattle.ff_fsync.specs.stacks.Options.{stack_manual, counted}
 use Rattle.ff_fsync.specs.stacks.Shapes.{shape_of}
 use Rattle.ff_fsync.specs.stacks.Stacks.{StackOf, Unless, stack_on, AfterRead, IsPlanned, IsStack, stack_view, stack_by, planned_by, head_of}

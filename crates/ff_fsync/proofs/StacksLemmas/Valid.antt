@@ -3,6 +3,7 @@ use Rattle.std.specs.Prelude.{◌≡◌, ◌≢◌, ℕ, suc, ◌+◌, ◌-◌, 
 use Rattle.std.proofs.Common.{inl, inr, ap, sym, ◌∙◌, subst, arith}
 use Rattle.std.proofs.lemmas.Bool.{and_parts}
 use Rattle.std.proofs.lemmas.Int.{ints}
+use Rattle.ff_frame.specs.Sizes.{is_side}
 use Rattle.ff_frame.specs.declared.config.ConfigError.{ConfigError}
 use Rattle.ff_frame.specs.declared.head.StreamHead.{StreamHead}
 use Rattle.ff_frame.specs.declared.head.StreamHead.TheVariants.{Audio as AudioHead, Video as VideoHead}
@@ -29,7 +30,7 @@ use Rattle.ff_fsync.specs.declared.stacks.shape.Direction.{Direction}
 use Rattle.ff_fsync.specs.declared.stacks.shape.Direction.TheVariants.{Beside, Below}
 use Rattle.ff_fsync.specs.declared.stacks.shape.Shape.{Shape}
 use Rattle.ff_fsync.specs.stacks.Bases.{all_told, units_on, in_common, has_common, base_or}
-use Rattle.ff_fsync.specs.stacks.Heads.{are_alike, is_side, size_across, all_on_grid, has_size, total, with_length, stack_fault}
+use Rattle.ff_fsync.specs.stacks.Heads.{are_alike, size_across, all_on_grid, has_size, total, with_length, stack_fault}
 use Rattle.ff_fsync.specs.stacks.Shapes.{end_ticks, fits_stack, planes_by, stacked_planes, lasts, stacked, shape_of}
 use Rattle.ff_fsync.specs.stacks.Stacks.{StackOf, stacked_of, stack_on, AreStreamsOf}
 use Rattle.ff_fsync.proofs.StacksLemmas.Exact.{AreBased, AreTold, AreShaped, all_shaped, shape_based, common_there_is, common_fine, has_picture}

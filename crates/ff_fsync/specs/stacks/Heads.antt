@@ -1,6 +1,7 @@
 -- Which streams can be stacked, and the head of the stack.
-use Rattle.std.specs.Prelude.{ℕ, ◌+◌, ◌%◌, Bool, true, false, ◌&&◌, nat_le, nat_eq, cond, Option, Some, None, List, [], ◌∷◌, length}
+use Rattle.std.specs.Prelude.{ℕ, ◌+◌, ◌%◌, Bool, true, false, ◌&&◌, nat_eq, cond, Option, Some, None, List, [], ◌∷◌, length}
 use Rattle.ff_frame.specs.declared.config.ConfigError.{ConfigError}
+use Rattle.ff_frame.specs.Sizes.{is_side}
 use Rattle.ff_frame.specs.declared.config.ConfigError.TheVariants.{Pads, Kind, Mismatch, BadSize}
 use Rattle.ff_frame.specs.declared.head.StreamHead.{StreamHead}
 use Rattle.ff_frame.specs.declared.head.StreamHead.TheVariants.{Audio, Video}
@@ -53,10 +54,6 @@ all_on_grid d (h ∷ k ∷ hs) = head_on_grid d h && all_on_grid d (k ∷ hs)
 abbrev pub total : Direction → List StreamHead → ℕ
 total d [] = 0
 total d (h ∷ hs) = size_along d h + total d hs
-
--- 1 to 16,384 columns or rows
-abbrev pub is_side : ℕ → Bool
-is_side n = nat_le 1 n && nat_le n 16384
 
 -- the stack has a size, and each picture but the last lies on the grid of Cb and Cr
 abbrev pub has_size : Direction → StreamHead → List StreamHead → Bool

@@ -1,8 +1,9 @@
 -- The arguments of a stack, and how many inputs it has by them.
 use Rattle.std.specs.Prelude.{◌≡◌, ◌≤◌, ℕ, zero, suc, ◌+◌, Bool, true, false, ◌||◌}
 use Rattle.std.specs.Prelude.{◌&&◌, nat_le, cond, codes, is_some, Option, Some, None, List, [], ◌∷◌}
+use Rattle.ff_time.specs.Digits.{number_of}
 use Rattle.ff_lang.specs.declared.graph.Arg.{Arg}
-use Rattle.ff_filter.specs.Options.{Manual, number_of, option_of}
+use Rattle.ff_filter.specs.Options.{Manual, option_of}
 use Rattle.ff_fsync.specs.declared.stacks.options.StackSettings.{StackSettings}
 
 -- `inputs` is a whole number of 2 to 16, `shortest` one of 0 and 1

@@ -2,8 +2,9 @@
 ghost use Rattle.std.specs.Prelude.{◌≡◌, false};
 ghost use Rattle.ff_fsync.specs.stacks.Options.{counted, inputs_of, gives_inputs};
 
-use ff_filter::{Settings, read_number};
+use ff_filter::Settings;
 use ff_lang::Arg;
+use ff_time::read_number;
 
 /// The settings of `hstack` and `vstack`.
 #[derive(Clone, Copy, Debug)]

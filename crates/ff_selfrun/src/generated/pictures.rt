@@ -3,8 +3,8 @@ ghost use Rattle.std.specs.Prelude.{◌≡◌, ◌≤◌, ◌<◌, ◌++◌, IfO
 ghost use Rattle.ff_y4m.specs.Header.{frame_line};
 ghost use Rattle.ff_selfrun.specs.generated.Generated.{generated_y4m, picture_head, pictures, planes};
 
-use crate::generated::base::part_of_second;
 use ff_frame::{Format, StreamHead};
+use ff_time::Rational;
 use ff_y4m::y4m_header;
 use std::alloc::{AllocError, Global};
 
@@ -15,7 +15,7 @@ fn head() -> StreamHead
     ensures { result ≡ picture_head }
 {
     StreamHead::Video {
-        tb: part_of_second(25),
+        tb: Rational::one_over(25),
         format: Format::C420,
         width: 16,
         height: 8,

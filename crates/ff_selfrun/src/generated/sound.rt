@@ -2,9 +2,9 @@
 ghost use Rattle.std.specs.Prelude.{◌≡◌, ◌≤◌, ◌<◌, ◌++◌, ◌*◌, ◌+◌, IfOk, OnOk};
 ghost use Rattle.ff_selfrun.specs.generated.Generated.{generated_wav, sample, sample_bytes, sound, sound_head};
 
-use crate::generated::base::part_of_second;
 use ff_format::Rf64;
 use ff_frame::{Codec, StreamHead};
+use ff_time::Rational;
 use ff_wav::WavPut;
 use std::alloc::{AllocError, Global};
 
@@ -15,7 +15,7 @@ fn head() -> StreamHead
     ensures { result ≡ sound_head }
 {
     StreamHead::Audio {
-        tb: part_of_second(RATE),
+        tb: Rational::one_over(RATE),
         rate: RATE,
         bits: 16,
         channels: 2,

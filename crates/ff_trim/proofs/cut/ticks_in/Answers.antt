@@ -1,5 +1,5 @@
-use Rattle.ff_trim.proofs.Ticking.{start_is}
+use Rattle.ff_trim.proofs.Ticking.{ceiling_is}
 use Rattle.ff_trim.proofs.cut.ticks_in.Goals as goal
 
 pub returns-clause-is : goal.returns-clause-is
-returns-clause-is c = start_is c.of.ensures
+returns-clause-is c = cc (ceiling_is c.args.us c.time_base.result c.ceiling.result c.ceiling.ensures.is, c.time_base.ensures)

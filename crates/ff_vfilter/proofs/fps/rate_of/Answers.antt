@@ -1,4 +1,4 @@
-use Rattle.ff_vfilter.proofs.Fractions.{rate_starts}
+use Rattle.ff_vfilter.proofs.RateStart.{rate_starts}
 use Rattle.ff_vfilter.proofs.fps.rate_of.Goals as goal
 
 pub returns : goal.returns

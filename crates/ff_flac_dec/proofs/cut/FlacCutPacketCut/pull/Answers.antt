@@ -52,13 +52,13 @@ returns-in-Wait-clause-breaks c = λ offset ok head fed n cuts more r.
 pub returns-in-Wait-clause-stays : goal.returns-in-Wait-clause-stays
 returns-in-Wait-clause-stays c = λ offset ok.
     let o : c.unfinished.result ≡ Broken offset = cc (ok) in
-    let h = (c.unfinished.ensures.broken offset).0 o in (same_cut c.args.self.now c.self-in-Wait-1.given.0 c.self-in-Wait-1.given.1.0 c.self-in-Wait-1.given.1.1.0, h.2)
+    let h = (c.unfinished.ensures.broken offset).0 o in (same_cut c.args.self.now _ _ _, h.2)
 
 pub returns-in-Wait-clause-still : goal.returns-in-Wait-clause-still
 returns-in-Wait-clause-still c = λ ok.
     let cut = c.args.self.now in
     let e : unit (stream_of cut.head.head) cut.held.bytes ≡ Wait = sym (rw (c.as_slice.ensures, c.stream-stream.ensures) at c.in_ok-found.ensures.exact) ∙ c.in-Wait.is in
-    (same_cut c.args.self.now c.self-in-Wait-1.given.0 c.self-in-Wait-1.given.1.0 c.self-in-Wait-1.given.1.1.0, waits_below (stream_of cut.head.head) cut.frames cut.held.bytes (wait_more (stream_of cut.head.head) cut.held.bytes e))
+    (same_cut c.args.self.now _ _ _, waits_below (stream_of cut.head.head) cut.frames cut.held.bytes (wait_more (stream_of cut.head.head) cut.held.bytes e))
 
 pub returns-in-Wait-clause-few : goal.returns-in-Wait-clause-few
 returns-in-Wait-clause-few c = λ ok.

@@ -1,6 +1,6 @@
 use Rattle.std.proofs.Common.{◌≡◌, ◌<◌, ◌^◌, drop}
-use Rattle.ff_digits.specs.Digits.{digits_from}
-use Rattle.ff_digits.proofs.digits.Given as goal
+use Rattle.ff_time.specs.Digits.{digits_from}
+use Rattle.ff_time.proofs.decimal.digits.Given as goal
 
 abbrev pub invariant-digits : goal.invariant-digits
 invariant-digits l = record {

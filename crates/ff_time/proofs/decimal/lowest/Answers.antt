@@ -1,6 +1,6 @@
 use Rattle.std.proofs.Common.{◌≡◌, rules, to_z, of_z, w64}
-use Rattle.ff_vfilter.proofs.Fractions.{no_base_stored}
-use Rattle.ff_vfilter.proofs.fps.lowest.Goals as goal
+use Rattle.ff_time.proofs.NoBases.{no_base_stored}
+use Rattle.ff_time.proofs.decimal.lowest.Goals as goal
 
 pub returns-in-Err-clause-none : goal.returns-in-Err-clause-none
 returns-in-Err-clause-none c e b h i =

@@ -1,9 +1,0 @@
-use Rattle.std.proofs.Common.{◌≡◌, ◌<◌, ◌^◌, drop}
-use Rattle.ff_words.specs.Numbers.{digits_from}
-use Rattle.ff_words.proofs.numbers.digits.Given as goal
-
-abbrev pub invariant-digits : goal.invariant-digits
-invariant-digits l = record {
-  so_far : digits_from l.value (drop l.i l.bytes) ≡ digits_from 0 l.bytes;
-  few : l.value < 10 ^ l.i;
-}
