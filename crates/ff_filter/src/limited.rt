@@ -1,7 +1,5 @@
 //! The limits of every stream, put on a function of one stream.
-ghost use Rattle.std.specs.Prelude.{◌≡◌, ◌≤◌, ◌<◌, ◌*◌, ◌/◌, ◌^◌, ◌≤ℤ◌, nat_lt, refl, Option, IsTrue};
-ghost use Rattle.ff_frame.specs.Heads.{base_of_head};
-ghost use Rattle.ff_stream.specs.Times.{end_of, ticks};
+ghost use Rattle.std.specs.Prelude.{◌≡◌, ◌≤◌, ◌<◌, ◌/◌, ◌^◌, ◌≤ℤ◌, refl, Option, IsTrue};
 ghost use Rattle.ff_stream.specs.Within.{passes_limits};
 ghost use Rattle.ff_stream.specs.declared.item.Lane.TheVariants.{Frames};
 ghost use Rattle.ff_filter.specs.Views.{closes};
@@ -10,14 +8,10 @@ ghost use Rattle.ff_filter.specs.Limits.{limit_step, limited};
 ghost use Rattle.ff_filter.specs.LimitLaws.{limited-waits, limited-ends, limited-breaks, limited-below, limited-calm, limited-settles};
 
 use crate::after::After;
+use crate::limits::is_long;
 use crate::step::{Given, Step};
 use ff_frame::StreamHead;
-use ff_stream::{Item, Refused, end_of_item, time_base};
-
-// The limits.
-const LAST_SECOND: u128 = 1_000_000_000;
-
-const MOST_ITEMS: u64 = 1 << 40;
+use ff_stream::{Item, Refused};
 
 /// A function of one stream, cut at the limits of every stream. Its output breaks off before item number 2^40,
 /// counted from 0, and before an item that ends past 1,000,000,000 seconds.
@@ -31,26 +25,6 @@ pub struct Limited<A: Step> {
     pub before: u64,
     pub ghost few: { before ≤ 2 ^ 40 },
     pub ghost frames: { A.lane_out inner ≡ Frames head },
-}
-
-// Whether an item ends past the last second.
-fn ends_late(head: &StreamHead, item: &Item) -> bool
-    ensures { result ≡ nat_lt (1000000000 * (base_of_head head.now).den) (ticks (end_of item.now) * (base_of_head head.now).num) }
-{
-    let tb = time_base(head);
-    let end = end_of_item(item);
-    if end <= 0 {
-        return false;
-    }
-    LAST_SECOND * (tb.den() as u128) < (end as u128) * (tb.num() as u128)
-}
-
-// Whether an item passes a limit, where so many came before it.
-fn is_long(head: &StreamHead, before: u64, item: &Item) -> bool
-    requires few { before ≤ 2 ^ 40 }
-    ensures { result ≡ passes_limits (Frames head.now) before item.now }
-{
-    (MOST_ITEMS < before + 1) | ends_late(head, item)
 }
 
 impl<A: Step> Step for Limited<A> {

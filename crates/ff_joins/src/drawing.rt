@@ -9,8 +9,8 @@ ghost use Rattle.ff_joins.specs.Segmented.{over_at, waits_in, segments_view, is_
 
 use crate::over::is_over;
 use crate::segments::Segments;
-use crate::times::{is_long, later};
-use ff_filter::{After, Inlet, Next, Outlet, closing_of};
+use crate::times::later;
+use ff_filter::{After, Inlet, Next, Outlet, closing_of, is_long};
 use ff_stream::{Item, Refused, discard, end_ticks};
 
 // How many items wait on these inputs.

@@ -14,16 +14,11 @@ ghost use Rattle.ff_vfilter.specs.RateCuts.{span_of, span_ahead, is_late as is_l
 
 use crate::showing::{Ahead, Showing};
 use crate::span::Span;
-use ff_filter::{Filter, Inlet, Next, closing_of};
+use ff_filter::{Filter, Inlet, MOST_ITEMS, Next, closing_of, ends_past};
 use ff_frame::{StreamHead, VFrame};
-use ff_stream::{Item, Refused, discard, time_base};
+use ff_stream::{Item, Refused, discard};
 use std::alloc::{AllocError, Global};
 use std::mem::replace;
-
-// The limits.
-const LAST_SECOND: u128 = 1_000_000_000;
-
-const MOST_ITEMS: u128 = 1 << 40;
 
 /// Gives frames at an even rate, within the limits of every stream.
 #[derive(Drop)]
@@ -60,9 +55,8 @@ fn is_late(given: &StreamHead, before: u128, number: u64) -> bool
     requires { before < 2 ^ 65 }
     ensures { result ≡ is_late_by given.now before number }
 {
-    let tb = time_base(given);
     let end = number as u128 + 1;
-    (MOST_ITEMS < before + 1) | (LAST_SECOND * (tb.den() as u128) < end * (tb.num() as u128))
+    (MOST_ITEMS as u128 <= before) | ends_past(given, end)
 }
 
 // The same of the frame itself.

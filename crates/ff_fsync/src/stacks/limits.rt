@@ -2,13 +2,8 @@
 ghost use Rattle.std.specs.Prelude.{◌≡◌, ◌≤◌, ◌+◌, ◌^◌, ◌≤ℤ◌, false};
 ghost use Rattle.ff_fsync.specs.stacks.Limits.{long_at};
 
+use ff_filter::{MOST_ITEMS, ends_past};
 use ff_frame::StreamHead;
-use ff_stream::time_base;
-
-// The limits.
-const LAST_SECOND: u128 = 1_000_000_000;
-
-const MOST_ITEMS: u64 = 1 << 40;
 
 /// Whether an item that ends then passes a limit, where so many came before it.
 pub(crate) fn is_long(head: &StreamHead, before: u64, end: u128) -> bool
@@ -17,6 +12,5 @@ pub(crate) fn is_long(head: &StreamHead, before: u64, end: u128) -> bool
     ensures is { result ≡ long_at head.now before end }
     ensures few { result ≡ false → before + 1 ≤ 2 ^ 40 }
 {
-    let tb = time_base(head);
-    (MOST_ITEMS < before + 1) | (LAST_SECOND * (tb.den() as u128) < end * (tb.num() as u128))
+    (MOST_ITEMS < before + 1) | ends_past(head, end)
 }
