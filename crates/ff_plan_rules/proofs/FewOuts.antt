@@ -1,6 +1,6 @@
 -- A graph that a word of a command can write gives few streams, and where a filter of it is refused, its number is small.
 use Rattle.std.proofs.Common.{◌≡◌, ℕ, zero, suc, ◌*◌, ◌^◌, ◌<◌, ◌≤◌, Bool, true, false, List, [], ◌∷◌, map, length, replicate, Option, None, Some, Result, Ok, Err, refl, sym, ap, subst, ◌∙◌, arith, length-append}
-use Rattle.std.specs.Prelude.{slice_get, slice_index_or, if◌then◌else◌}
+use Rattle.std.specs.Prelude.{slice_get, slice_index_or, ◌||◌, if◌then◌else◌}
 use Rattle.std.specs.List.{AllByRecursion}
 use Rattle.std.proofs.lemmas.List.{length-map, length-replicate}
 use Rattle.ff_frame.specs.declared.config.ConfigError.{ConfigError}
@@ -29,7 +29,7 @@ use Rattle.ff_graph.proofs.Refusals.{refused_there}
 use Rattle.ff_plan_layout.specs.declared.open_pads.OpenOut.{OpenOut}
 use Rattle.ff_plan_layout.specs.declared.open_pads.Refused.{Refused}
 use Rattle.ff_plan_rules.specs.Kept.{IsFitHead, AreFitHeads}
-use Rattle.ff_plan_rules.specs.Rules.{output_as, outputs_as, configured}
+use Rattle.ff_plan_rules.specs.Rules.{output_as, outputs_as, is_empty, configured}
 use Rattle.ff_plan_rules.proofs.Lists.{no_ok, all_more}
 use Rattle.ff_plan_rules.proofs.Making.{made_parts, heads_keep}
 use Rattle.ff_plan_rules.proofs.KeptHeads.{fit_is_kept}
@@ -121,7 +121,7 @@ outs_few g heads outs few fit e =
 -- ---- the number of a filter that is refused
 
 pub number_small : (g : Graph) (heads : List (Option StreamHead)) (r : Refused) → length (filters_of g) ≤ 65536 → configured g heads ≡ Err r → r.filter < 65536
-number_small g heads r few e = step (of_graph.loops g) e where
+number_small g heads r few e = step (of_graph.loops g || is_empty g) e where
   step : (c : Bool) → (if c then Err (record { filter = 0; kind = fault.Pads }) else outputs_as (of_graph_made.configured g heads)) ≡ Err r → r.filter < 65536
   step true f =
       let first : (let z : Refused = record { filter = 0; kind = fault.Pads } in z) ≡ r = cc in

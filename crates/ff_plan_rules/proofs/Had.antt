@@ -28,7 +28,7 @@ use Rattle.ff_graph.specs.Configured.{Made, heads_into, leaves_over, stands_at, 
 use Rattle.ff_graph.specs.Configured.{feeds_one, unless_fed, outs_at, outs_from, open_outs, outs_of as outs_by}
 use Rattle.ff_plan_layout.specs.declared.open_pads.OpenOut.{OpenOut}
 use Rattle.ff_plan_layout.specs.declared.open_pads.Refused.{Refused}
-use Rattle.ff_plan_rules.specs.Rules.{input_as, output_as, refused_as, outputs_as, open_ins, configured}
+use Rattle.ff_plan_rules.specs.Rules.{input_as, output_as, refused_as, outputs_as, open_ins, is_empty, configured}
 use Rattle.ff_plan_rules.proofs.Lists.{never, some_same, no_some, same_ok, no_ok, all_from, all_at, all_joined}
 use Rattle.ff_plan_rules.proofs.OpenPads.{IsOpen, are_open, place_is, given_there}
 use Rattle.ff_plan_rules.proofs.Given.{written, HasPads}
@@ -100,7 +100,7 @@ unlooped false r outs e = e
 
 pub was_had : (g : Graph) (given : List (Option StreamHead)) (outs : List OpenOut) → configured g given ≡ Ok outs → WasMade g given outs
 was_had g given outs e =
-    let a = as_ok (of_graph_made.configured g given) outs (unlooped (of_graph.loops g) (outputs_as (of_graph_made.configured g given)) outs e) in
+    let a = as_ok (of_graph_made.configured g given) outs (unlooped (of_graph.loops g || is_empty g) (outputs_as (of_graph_made.configured g given)) outs e) in
     let b = outs_ok (seen_graph g) (make_all (seen_graph g) given) a.0 a.1 in
     record { made = b.0; is = b.1; open_ = a.2 ∙ ap (λ (os : List of_graph_made.OpenOut). map output_as os) b.2 }
 

@@ -1,6 +1,6 @@
 -- What the filters of a graph keep of heads, and why it is refused.
 use Rattle.std.proofs.Common.{◌≡◌, ◌≢◌, ℕ, zero, suc, Bool, true, false, List, [], ◌∷◌, map, length, replicate, Option, None, Some, Ok, Err, refl, sym, subst, ◌∙◌, arith}
-use Rattle.std.specs.Prelude.{slice_get, slice_index_or, if◌then◌else◌}
+use Rattle.std.specs.Prelude.{slice_get, slice_index_or, ◌||◌, if◌then◌else◌}
 use Rattle.std.specs.List.{AllByRecursion}
 use Rattle.ff_frame.specs.declared.config.ConfigError.TheVariants as fault
 use Rattle.ff_frame.specs.declared.head.StreamHead.{StreamHead}
@@ -22,7 +22,7 @@ use Rattle.ff_plan_layout.specs.Streams.{takes_head}
 use Rattle.ff_plan_layout.specs.declared.open_pads.OpenOut.{OpenOut}
 use Rattle.ff_plan_layout.specs.declared.open_pads.Refused.{Refused}
 use Rattle.ff_plan_rules.specs.Kept.{IsFitHead, KeepHeads}
-use Rattle.ff_plan_rules.specs.Rules.{output_as, outputs_as, configured, graph_rules}
+use Rattle.ff_plan_rules.specs.Rules.{output_as, outputs_as, is_empty, configured, graph_rules}
 use Rattle.ff_plan_rules.proofs.Lists.{some_same, no_some, no_ok, all_at, all_joined}
 use Rattle.ff_plan_rules.proofs.Making.{made_parts, heads_keep}
 use Rattle.ff_plan_rules.proofs.KeptHeads.{fit_is_kept, taken_is_kept}
@@ -122,7 +122,7 @@ module _ (P : StreamHead → Type 0) (keeps : IsKept P) where
 -- ---- refusals
 
 reason_so : (g : Graph) (heads : List (Option StreamHead)) (r : Refused) → configured g heads ≡ Err r → r.kind ≢ fault.NoMemory
-reason_so g heads r e = step (of_graph.loops g) e where
+reason_so g heads r e = step (of_graph.loops g || is_empty g) e where
   step : (c : Bool) → (if c then Err (record { filter = 0; kind = fault.Pads }) else outputs_as (of_graph_made.configured g heads)) ≡ Err r → r.kind ≢ fault.NoMemory
   step true f = (let same : fault.Pads ≡ r.kind = cc in λ none. cc)
   step false f = (let k = as_err (of_graph_made.configured g heads) r f in λ none. never_for_memory g heads k.0 k.1 (k.3 ∙ none))

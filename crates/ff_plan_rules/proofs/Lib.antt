@@ -9,4 +9,5 @@ mod Labelled
 mod Lists
 mod Making
 mod ReadMaps
+pub mod SomeFilters
 mod OpenPads

@@ -1,10 +1,11 @@
 -- The rules of filters and maps that the product's plans go by.
-use Rattle.std.specs.Prelude.{Bool, true, false, if◌then◌else◌, List, map, Option, Result, Ok, Err}
+use Rattle.std.specs.Prelude.{Bool, true, false, ◌||◌, nat_eq, if◌then◌else◌, List, length, map, Option, Result, Ok, Err}
 use Rattle.ff_frame.specs.declared.config.ConfigError.TheVariants.{Pads}
 use Rattle.ff_frame.specs.declared.head.StreamHead.{StreamHead}
 use Rattle.ff_lang.specs.declared.graph.Graph.{Graph}
 use Rattle.ff_words.specs.declared.maps.map.Kind.{Kind}
 use Rattle.ff_words.specs.declared.maps.map.Kind.TheVariants.{Audio, Video}
+use Rattle.ff_graph.specs.Drawings.{seen_graph}
 use Rattle.ff_graph.specs.Opens as of_graph
 use Rattle.ff_graph.specs.Configured as of_graph_made
 use Rattle.ff_plan_layout.specs.Rules.{Rules}
@@ -35,9 +36,14 @@ outputs_as (Err r) = Err (refused_as r)
 abbrev pub open_ins : Graph → List OpenIn
 open_ins g = map input_as (of_graph.open_ins g)
 
--- Its open output pads where those have these heads, or the refusal that comes first. A graph with a loop is refused; a plan asks for that first.
+-- no string writes a graph without a filter
+abbrev pub is_empty : Graph → Bool
+is_empty g = nat_eq (length (seen_graph g)) 0
+
+-- Its open output pads where those have these heads, or the refusal that comes first. A graph with a loop is refused, which a plan asks for
+-- first; one without a filter is refused too.
 abbrev pub configured : Graph → List (Option StreamHead) → Result (List OpenOut) Refused
-configured g heads = if of_graph.loops g then Err (record { filter = 0; kind = Pads }) else outputs_as (of_graph_made.configured g heads)
+configured g heads = if of_graph.loops g || is_empty g then Err (record { filter = 0; kind = Pads }) else outputs_as (of_graph_made.configured g heads)
 
 abbrev pub graph_rules : Rules
 graph_rules = record {

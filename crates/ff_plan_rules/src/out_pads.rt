@@ -1,7 +1,7 @@
 //! The open output pads of a graph, as plans have them.
 ghost use Rattle.std.specs.Prelude.{◌≡◌, ◌≤◌, ◌^◌, IfOk, length, map};
 ghost use Rattle.ff_graph.specs.Pads.{output_of};
-ghost use Rattle.ff_plan_rules.specs.Rules.{output_as, configured as configured_as};
+ghost use Rattle.ff_plan_rules.specs.Rules.{output_as, is_empty as has_none, configured as configured_as};
 
 use crate::in_pads::MOST_PADS;
 use ff_frame::{ConfigError, StreamHead};
@@ -48,6 +48,18 @@ fn refused(filter: usize, kind: ConfigError) -> Result<Refused, AllocError>
     }
 }
 
+// Whether a graph has no filter. No string writes such a graph.
+fn is_empty(graph: &Graph) -> bool
+    ensures { result ≡ has_none graph.now }
+{
+    for chain in graph.chains.as_slice() {
+        if chain.filters.as_slice().len() > 0 {
+            return false;
+        }
+    }
+    true
+}
+
 /// The open output pads of a graph whose open input pads have these heads, or the refusal that comes first.
 pub(crate) fn configured(
     alloc: Global,
@@ -57,7 +69,7 @@ pub(crate) fn configured(
     ensures pads { IfOk result (λ outs. outs ≡ configured_as graph.now heads.now) }
     ensures few { IfOk result (λ outs. IfOk outs (λ pads. length pads ≤ 2 ^ 20)) }
 {
-    if has_loop(alloc, graph)? {
+    if has_loop(alloc, graph)? || is_empty(graph) {
         return Ok(Err(refused(0, ConfigError::Pads)?));
     }
     match configure_graph(alloc, graph, heads) {

@@ -197,13 +197,13 @@ module _ {H : Type 0} (is : KindsOf H) (job : Job) (heads : List H) (plan : Plan
       outs_are = f.outs;
     }
 
-    pub shortest_fits : ((heads : List StreamHead) → AllByRecursion is.IsFrames heads → is.CanJoin heads) → (k o : ℕ) (out : OutputJob) → slice_get job.outputs o ≡ Some out
+    pub shortest_fits : ((heads : List StreamHead) → AllByRecursion is.IsFrames heads → 1 ≤ length heads → is.CanJoin heads) → (k o : ℕ) (out : OutputJob) → slice_get job.outputs o ≡ Some out
         → ends.FitsShortest (heads_at o) plan.edges k → Fits k (node.Shortest o)
     shortest_fits joins k o out there f = record {
       out = out;
       there = there;
       heads = heads_at o;
-      can = joins (heads_at o) (frames_in is.IsFrames plan.edges k (heads_at o) frames f.ins);
+      can = joins (heads_at o) (frames_in is.IsFrames plan.edges k (heads_at o) frames f.ins) (fit.taken.some o (slice_get_within job.outputs o out there));
       ins_are = f.ins;
       outs_are = f.outs;
     }

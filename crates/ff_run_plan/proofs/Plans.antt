@@ -49,7 +49,7 @@ pub record AreLawful {H : Type 0} (is : KindsOf H) : Type 0 where
   pub plans : PlansAreSound is.rules
   pub carries : FramesAreKept is.rules is.IsFrames
   pub filters : GraphsAreHad is
-  pub joins : (heads : List StreamHead) → AllByRecursion is.IsFrames heads → is.CanJoin heads
+  pub joins : (heads : List StreamHead) → AllByRecursion is.IsFrames heads → 1 ≤ length heads → is.CanJoin heads
   pub encodes : (h : StreamHead) (out : OutputJob) → is.IsFrames h → takes_head out h ≡ true → is.CanEncode h (packed_as out h)
   pub writes : (hs : List StreamHead) (out : OutputJob) → AllByRecursion (λ h. is.IsFrames h × (takes_head out h ≡ true)) hs → 1 ≤ length hs → length hs ≤ most_streams out.format
       → is.CanMux out (map (λ h. packed_as out h) hs)

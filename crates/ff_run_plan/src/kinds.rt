@@ -161,8 +161,8 @@ pub trait Kinds<Src: Source + Send + Drop, Snk: Sink + Send + Drop, Part: Machin
     /// What the rules make can be had as a graph,
     ghost filters: { GraphsAreHad is };
 
-    /// frames can go to an output together,
-    ghost joins: { (heads : List StreamHead) → AllByRecursion is.IsFrames heads → is.CanJoin heads };
+    /// frames of some streams can go to an output together,
+    ghost joins: { (heads : List StreamHead) → AllByRecursion is.IsFrames heads → 1 ≤ length heads → is.CanJoin heads };
 
     /// each can be coded as an output takes it,
     ghost encodes: { (h : StreamHead) (out : OutputJob) → is.IsFrames h → takes_head out h ≡ true → is.CanEncode h (packed_as out h) };

@@ -19,6 +19,7 @@ use Rattle.ff_node_demux.specs.Demuxing.{demux_task}
 use Rattle.ff_node_flac.specs.Coding.{CanCode, coded_head, flac_task}
 use Rattle.ff_graph.specs.Configured.{CanBeHad}
 use Rattle.ff_graph.specs.Opens.{open_ins}
+use Rattle.ff_graph.specs.composed.Pads.{HasFilter}
 use Rattle.ff_input.specs.Formats.{InputHead, IsHead, any_cutter, stream_in}
 use Rattle.ff_lang.specs.declared.graph.Graph.{Graph}
 use Rattle.ff_node_mux.specs.Muxing.{mux_task, unpatched, file, head_bases}
@@ -55,11 +56,12 @@ abbrev pub enc_task_to : Bool → StreamHead → Task
 enc_task_to true coded = flac_task
 enc_task_to false coded = enc_task (packet_made coded)
 
--- A graph of this text, whose labels are clear, on frames of these heads at its open inputs, which are few. With them it can be had, and it
--- has frames of those at its outputs.
+-- A graph of this text, which has a filter and whose labels are clear, on frames of these heads at its open inputs, which are few. With them
+-- it can be had, and it has frames of those at its outputs.
 pub record CanFilter (text : Graph) (heads outs : List StreamHead) : Type 0 where
   pub fit : AreFitHeads heads
   pub clear : IsClear text
+  pub filters : HasFilter text
   pub counted : length heads ≡ length (open_ins text)
   pub few : length heads ≤ 16
   pub had : CanBeHad text (all_given heads)
@@ -87,7 +89,7 @@ all_kinds = record {
   dec_task = λ head cut outputs. dec_task head (frame_made head) cut outputs;
   CanFilter = CanFilter;
   graph_task = told_graph;
-  CanJoin = λ heads. Unit {0};
+  CanJoin = λ heads. 1 ≤ length heads;
   shortest_task = joint_task;
   CanEncode = λ head coded. CanEncodeTo (is_flac_coded coded) head coded;
   enc_task = λ head coded. enc_task_to (is_flac_coded coded) coded;

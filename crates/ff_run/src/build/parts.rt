@@ -144,8 +144,7 @@ impl<Src: Source + Send + Drop, Snk: Sink + Send + Drop> Kinds<Src, Snk, Part<Sr
         };
         match Through::new(graph) {
             Some(graph) => Ok(Part::Graph(graph)),
-            // A graph without a filter, which no string stands for.
-            None => Err(AllocError),
+            None => unreachable!(),
         }
     }
 
@@ -157,7 +156,7 @@ impl<Src: Source + Send + Drop, Snk: Sink + Send + Drop> Kinds<Src, Snk, Part<Sr
         let joint = joint_machine(alloc, ends, heads)?;
         match Through::new(joint) {
             Some(joint) => Ok(Part::Joint(joint)),
-            None => Err(AllocError),
+            None => unreachable!(),
         }
     }
 
@@ -240,7 +239,7 @@ impl<Src: Source + Send + Drop, Snk: Sink + Send + Drop> Kinds<Src, Snk, Part<Sr
 
     ghost filters = { graphs_are_had };
 
-    ghost joins = { λ heads all. tt };
+    ghost joins = { λ heads all some. some };
 
     ghost encodes = { heads_encode };
 
