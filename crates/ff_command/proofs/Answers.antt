@@ -19,7 +19,8 @@ use Rattle.ff_input.specs.Formats.{InputHead}
 use Rattle.ff_plan_layout.specs.declared.error.PlanError.{PlanError}
 use Rattle.ff_run_plan.specs.declared.fault.RunFault.{RunFault}
 use Rattle.ff_files.specs.Counts.{Counts}
-use Rattle.ff_files.specs.Works.{Meaning, HoldWritten}
+use Rattle.ff_files.specs.Names.{Name, name_at}
+use Rattle.ff_files.specs.Works.{Meaning, HoldsWritten, HoldWritten}
 use Rattle.ff_files.specs.Ends.{IsFirstRefused, HasNoPlan, CanBeDone}
 use Rattle.ff_command.specs.declared.report.FileRef.{FileRef}
 use Rattle.ff_command.specs.declared.report.Status.{Status}
@@ -101,9 +102,13 @@ module _ (means : Job → Meaning InputHead PlanError RunFault) where
   none-told words None answer h asked = refl
   none-told words (Some t) answer h asked = absurd (not-alone words asked.0 asked.1 (h.0.0, h.0.1))
 
+  one-same : (job : Job) (files : Files) (j : ℕ) (name : Name) → IfSome name (HoldsWritten (over means job) files files j)
+  one-same job files j None = tt
+  one-same job files j (Some name) = inl refl
+
   front-same : (job : Job) (files : Option Files) → HoldWritten (over means job) files files
   front-same job None = tt
-  front-same job (Some files) = λ j below. inl refl
+  front-same job (Some files) = λ j below. one-same job files j (name_at (over means job).outputs j)
 
   pub job-answered : (words : List (List ℕ)) (job : Job) (before after : Option Files) (ins outs : Counts) (answer : Status) → Ask words job → Ran means job before after ins outs answer
       → Answered means words before after ins outs answer

@@ -1,5 +1,5 @@
 -- How a job ends, as its status says, by how the work over its files ends.
-use Rattle.std.proofs.Common.{◌≡◌, ◌≢◌, ◌⊎◌, inl, inr, ℕ, zero, suc, ◌<◌, ◌≤◌, Bool, true, false, if◌then◌else◌, nat_lt, List, [], ◌∷◌, ◌++◌, length, Option, Some, None, IsSome, IfSome, IsTrue, refl, sym, ap, subst, ◌∙◌, arith}
+use Rattle.std.proofs.Common.{◌≡◌, ◌≢◌, ◌⊎◌, inl, inr, ℕ, zero, suc, ◌<◌, ◌≤◌, Bool, true, false, if◌then◌else◌, nat_lt, List, [], ◌∷◌, ◌++◌, length, map, Option, Some, None, IsSome, IfSome, IsTrue, refl, sym, ap, subst, ◌∙◌, arith}
 use Rattle.std.proofs.lemmas.Bool.Decides.{nat_tests}
 use Rattle.std.specs.Prelude.{option_to_list, unwrap_or}
 use Rattle.ff_frame.specs.declared.event.Event.{Event}
@@ -9,25 +9,24 @@ use Rattle.ff_host.specs.Files.{Files, KeepsFiles}
 use Rattle.ff_reader.specs.declared.fault.HeadFault.{HeadFault}
 use Rattle.ff_reader.specs.declared.fault.HeadFault.TheVariants as fault
 use Rattle.ff_words.specs.declared.job.InputJob.{InputJob}
-use Rattle.ff_words.specs.declared.job.OutputJob.{OutputJob}
 use Rattle.ff_words.specs.declared.job.Job.{Job}
 use Rattle.ff_input.specs.Formats.{InputHead}
 use Rattle.ff_plan_layout.specs.declared.error.PlanError.{PlanError}
 use Rattle.ff_plan_layout.specs.declared.error.PlanError.TheVariants as why
 use Rattle.ff_run_plan.specs.declared.fault.RunFault.{RunFault}
 use Rattle.ff_run_plan.specs.declared.fault.RunFault.TheVariants as run_fault
-use Rattle.ff_files.specs.Names.{name_at, names_of, KeepsAllBut}
-use Rattle.ff_files.specs.There.{AreFree, IsFirstThere}
-use Rattle.ff_files.specs.Counts.{Counts, Faulted, KeepsCounts}
+use Rattle.ff_files.specs.Names.{Name, name_at, names_of, KeepsAllBut}
+use Rattle.ff_files.specs.There.{AreFree, IsFreeOf, IsThere, IsFirstThere}
+use Rattle.ff_files.specs.Counts.{Counts, Faulted, KeepsCounts, RoseUnder}
 use Rattle.ff_input.specs.Formats.{input_head}
-use Rattle.ff_files.specs.Works.{Meaning, Command, HoldMeaning, HoldTrace, HoldWritten}
+use Rattle.ff_files.specs.Works.{Meaning, Command, HoldMeaning, HoldTrace, HoldsWritten, HoldWritten}
 use Rattle.ff_files.specs.Ends as ends
 use Rattle.ff_files.specs.Ends.{Ends, IsPlanned, IsFirstRefused, HasNoPlan, CanBeDone, refusal, sound_inputs, sound_outputs}
 use Rattle.ff_files.specs.declared.end.RunEnd.{RunEnd}
 use Rattle.ff_files.specs.declared.end.RunEnd.TheVariants as run_end
-use Rattle.ff_files.proofs.Lists.{names_len}
+use Rattle.ff_files.proofs.Lists.{names_len, files_len, if_is}
 use Rattle.ff_files.proofs.Steps.{files_same}
-use Rattle.ff_words.specs.Words.{written}
+use Rattle.ff_words.specs.Words.{output_file, written}
 use Rattle.ff_command.specs.declared.report.FileRef.{FileRef}
 use Rattle.ff_command.specs.declared.report.FileRef.TheVariants as FileRefs
 use Rattle.ff_command.specs.declared.report.FileRef.TheVariants.{Output, Trace}
@@ -78,13 +77,17 @@ by-file P o count f g = by-test (nat_lt o count) refl
     by-test true e = f (grind (arith, nat_tests, e))
     by-test false e = g (grind (arith, nat_tests, e))
 
-front-name : (names more : List (List ℕ)) (o : ℕ) → o < length names → name_at (names ++ more) o ≡ name_at names o
+front-name : (names more : List Name) (o : ℕ) → o < length names → name_at (names ++ more) o ≡ name_at names o
 front-name [] more o lt = absurd (omega (arith, lt))
 front-name (n ∷ ns) more zero lt = refl
 front-name (n ∷ ns) more (suc o) lt = front-name ns more o (omega (arith, lt))
 
+-- that of the trace, as one of what is written
+abbrev traced : Option (List ℕ) → List Name
+traced trace = map (λ (name : List ℕ). Some name) (option_to_list trace)
+
 -- the name behind those of the outputs is that of the trace
-trace-name : (names : List (List ℕ)) (trace : Option (List ℕ)) (o : ℕ) → length names ≤ o → o < length (names ++ option_to_list trace) → IsSome trace × (name_at (names ++ option_to_list trace) o ≡ unwrap_or trace [])
+trace-name : (names : List Name) (trace : Option (List ℕ)) (o : ℕ) → length names ≤ o → o < length (names ++ traced trace) → IsSome trace × (name_at (names ++ traced trace) o ≡ trace)
 trace-name [] None o le lt = absurd (omega (arith, lt))
 trace-name [] (Some t) zero le lt = (refl, refl)
 trace-name [] (Some t) (suc o) le lt = absurd (omega (arith, lt))
@@ -92,7 +95,7 @@ trace-name (n ∷ ns) trace zero le lt = absurd (omega (arith, le))
 trace-name (n ∷ ns) trace (suc o) le lt = trace-name ns trace o (omega (arith, le)) (omega (arith, lt))
 
 -- and the place of the trace is the one behind those of the outputs
-trace-place : (names : List (List ℕ)) (trace : Option (List ℕ)) (o : ℕ) → length names ≤ o → o < length (names ++ option_to_list trace) → o ≡ length names
+trace-place : (names : List Name) (trace : Option (List ℕ)) (o : ℕ) → length names ≤ o → o < length (names ++ traced trace) → o ≡ length names
 trace-place [] None o le lt = absurd (omega (arith, lt))
 trace-place [] (Some t) zero le lt = refl
 trace-place [] (Some t) (suc o) le lt = absurd (omega (arith, lt))
@@ -109,29 +112,33 @@ not-there : (file : Option (List ℕ)) → IsSome file → file ≡ None → ⊥
 not-there None there none = cc
 not-there (Some bytes) there none = cc
 
+not-free : (files : Files) (name : Name) → IsThere (Some files) name → IsFreeOf (Some files) name → ⊥
+not-free files None there free = there
+not-free files (Some n) there free = not-there (files n) there free
+
 -- a job without a file that it keeps keeps none
 not-kept : (job : Job) (files : Option Files) (file : FileRef) → IsFree job files → IsToldKept job files file → ⊥
 not-kept job None file free kept = kept
 not-kept job (Some files) (FileRefs.Input i) free kept = kept
 not-kept job (Some files) (Output o) (inl never) kept = not-both job.keeps kept.0 never
-not-kept job (Some files) (Output o) (inr free) kept = not-there (files (name_at (written job) o)) kept.2.there (free o kept.2.named)
+not-kept job (Some files) (Output o) (inr free) kept = not-free files (name_at (written job) o) kept.2.there (free o kept.2.named)
 not-kept job (Some files) Trace (inl never) kept = not-both job.keeps kept.0 never
 not-kept job (Some files) Trace (inr free) kept =
-    not-there (files (name_at (written job) (length job.outputs))) kept.1.there (free (length job.outputs) kept.1.named)
+    not-free files (name_at (written job) (length job.outputs)) kept.1.there (free (length job.outputs) kept.1.named)
 
 -- where it keeps one it may not write
 may-not : (job : Job) (files : Option Files) (k : ℕ) → IsTrue job.keeps → IsFirstThere files (written job) k → MayWrite job files → ⊥
 may-not job None k keeps first never = not-both job.keeps keeps never
 may-not job (Some files) k keeps first (inl never) = not-both job.keeps keeps never
-may-not job (Some files) k keeps first (inr free) = not-there (files (name_at (written job) k)) first.there (free k first.named)
+may-not job (Some files) k keeps first (inr free) = not-free files (name_at (written job) k) first.there (free k first.named)
 
 -- and there is one first
-first-one : (files : Files) (names : List (List ℕ)) (j k : ℕ) → IsFirstThere (Some files) names j → IsFirstThere (Some files) names k → j ≡ k
+first-one : (files : Files) (names : List Name) (j k : ℕ) → IsFirstThere (Some files) names j → IsFirstThere (Some files) names k → j ≡ k
 first-one files names j k a b = by-test (nat_lt j k) (nat_lt k j) refl refl
   where
     by-test : (less more : Bool) → nat_lt j k ≡ less → nat_lt k j ≡ more → j ≡ k
-    by-test true more e f = absurd (not-there (files (name_at names j)) a.there (b.before j (grind (arith, nat_tests, e))))
-    by-test false true e f = absurd (not-there (files (name_at names k)) b.there (a.before k (grind (arith, nat_tests, f))))
+    by-test true more e f = absurd (not-free files (name_at names j) a.there (b.before j (grind (arith, nat_tests, e))))
+    by-test false true e f = absurd (not-free files (name_at names k) b.there (a.before k (grind (arith, nat_tests, f))))
     by-test false false e f = grind (arith, nat_tests, e, f)
 
 is-output : (count o : ℕ) → o < count → written_file count o ≡ Output o
@@ -150,12 +157,12 @@ kept-one job (Some files) k Trace first kept =
     subst (λ n. written_file (length job.outputs) n ≡ Trace) (first-one files (written job) (length job.outputs) k kept.1 first) (is-trace (length job.outputs))
 
 module _ (means : Job → Meaning InputHead PlanError RunFault) (job : Job) (before after : Option Files) (ins outs : Counts) where
-  abbrev pub with : List InputJob → List (List ℕ) → ℕ → Command InputJob InputHead PlanError RunFault
+  abbrev pub with : List InputJob → List Name → ℕ → Command InputJob InputHead PlanError RunFault
   with inputs names count =
       record { name = λ (i : InputJob). i.name; head = λ (i : InputJob). input_head i.format; inputs = inputs; outputs = names; count = count; means = means job }
 
   -- how the work over these files ended
-  pub record EndedOver (inputs : List InputJob) (names : List (List ℕ)) (count : ℕ) (end : End) : Type 0 where
+  pub record EndedOver (inputs : List InputJob) (names : List Name) (count : ℕ) (end : End) : Type 0 where
     pub bytes : end ≡ run_end.Fine → HoldMeaning (with inputs names count) before after
     pub front : HoldWritten (with inputs names count) before after
     pub others : KeepsAllBut before after names (length names)
@@ -186,15 +193,19 @@ module _ (means : Job → Meaning InputHead PlanError RunFault) (job : Job) (bef
   abbrev count : ℕ
   count = length job.outputs
 
+  trace-rose : (trace : Option (List ℕ)) → RoseUnder outs.before outs.after trace → Rose (outs.before (unwrap_or trace [])) (outs.after (unwrap_or trace []))
+  trace-rose None r = absurd r
+  trace-rose (Some name) r = r
+
   -- a fault on one of the written files is that of an output or of the trace
   file-failed : (o : ℕ) → Faulted outs (written job) o → IsPlanned (over means job) before → HasFile job (written_file count o) × HasFailed means job before ins outs (written_file count o)
   file-failed o f planned = by-file (λ file. HasFile job file × HasFailed means job before ins outs file) o count
       (λ lt.
-      let own = front-name (output_names job) (option_to_list job.trace) o (subst (λ n. o < n) (sym (names_len (λ (x : OutputJob). x.name) job.outputs)) lt) in
-      (lt, inr ((subst (λ n. o < n) (sym (names_len (λ (x : OutputJob). x.name) job.outputs)) lt, subst (λ name. Rose (outs.before name) (outs.after name)) own f.1), planned)))
+      let own = front-name (output_names job) (traced job.trace) o (subst (λ n. o < n) (sym (files_len output_file job.outputs)) lt) in
+      (lt, inr ((subst (λ n. o < n) (sym (files_len output_file job.outputs)) lt, subst (λ name. RoseUnder outs.before outs.after name) own f.1), planned)))
       (λ le.
-      let last = trace-name (output_names job) job.trace o (subst (λ n. n ≤ o) (sym (names_len (λ (x : OutputJob). x.name) job.outputs)) le) f.0 in
-      (last.0, inr (subst (λ name. Rose (outs.before name) (outs.after name)) last.1 f.1, planned)))
+      let last = trace-name (output_names job) job.trace o (subst (λ n. n ≤ o) (sym (files_len output_file job.outputs)) le) f.0 in
+      (last.0, inr (trace-rose job.trace (subst (λ name. RoseUnder outs.before outs.after name) last.1 f.1), planned)))
 
   comes-plan : (w : PlanError) → ends.IsPlanRefused (over means job) before w → Comes means job before after ins outs (refused_plan w)
   comes-plan (why.NoStream output map) h = h
@@ -308,14 +319,14 @@ module _ (means : Job → Meaning InputHead PlanError RunFault) (job : Job) (bef
         out_counts = out-counts end e;
       }
 
-  pub ran : IsFree job before → (end : End) (answer : Status) (inputs : List InputJob) (names : List (List ℕ)) (n : ℕ) → answer ≡ status_of n end → inputs ≡ job.inputs → names ≡ written job → n ≡ length job.outputs
+  pub ran : IsFree job before → (end : End) (answer : Status) (inputs : List InputJob) (names : List Name) (n : ℕ) → answer ≡ status_of n end → inputs ≡ job.inputs → names ≡ written job → n ≡ length job.outputs
       → EndedOver inputs names n end → Ran means job before after ins outs answer
   ran free end answer inputs names n is these those many e =
       subst (Ran means job before after ins outs) (sym (is ∙ ap (λ m. status_of m end) many))
       (ran-as free end (subst (λ xs. EndedOver xs (written job) count end) these (subst (λ ys. EndedOver inputs ys count end) those (subst (λ m. EndedOver inputs names m end) many e))))
 
   -- what is so of the command over these files is so of the job's
-  pub over-same : (P : Command InputJob InputHead PlanError RunFault → Type 0) (inputs : List InputJob) (names : List (List ℕ)) (n : ℕ) → inputs ≡ job.inputs → names ≡ written job → n ≡ length job.outputs
+  pub over-same : (P : Command InputJob InputHead PlanError RunFault → Type 0) (inputs : List InputJob) (names : List Name) (n : ℕ) → inputs ≡ job.inputs → names ≡ written job → n ≡ length job.outputs
       → P (with inputs names n) → P (over means job)
   over-same P inputs names n these those many p =
       subst (λ xs. P (with xs (written job) count)) these (subst (λ ys. P (with inputs ys count)) those (subst (λ m. P (with inputs names m)) many p))
@@ -333,9 +344,9 @@ module _ (means : Job → Meaning InputHead PlanError RunFault) (job : Job) (bef
   fine-end (run_end.Broken (run_fault.TooLong node m)) n h = absurd cc
   fine-end (run_end.Broken (run_fault.TooLarge o)) n h = absurd cc
 
-  last-is : (names : List (List ℕ)) (trace : Option (List ℕ)) (name : List ℕ) → trace ≡ Some name → (length names < length (names ++ option_to_list trace)) × (name_at (names ++ option_to_list trace) (length names) ≡ name)
+  last-is : (names : List Name) (trace : Option (List ℕ)) (name : List ℕ) → trace ≡ Some name → (length names < length (names ++ traced trace)) × (name_at (names ++ traced trace) (length names) ≡ Some name)
   last-is names None name is = absurd cc
-  last-is [] (Some t) name is = (omega arith, (let same : Some t ≡ Some name = is in cc))
+  last-is [] (Some t) name is = (omega arith, is)
   last-is (n ∷ ns) (Some t) name is = (let rest = last-is ns (Some t) name is in (let lt = rest.0 in omega (arith, lt), rest.1))
 
   pub held-printed : (events : List Event) → HoldTrace (over means job) (printed events) before after → HoldsPrinted job before after events
@@ -345,8 +356,8 @@ module _ (means : Job → Meaning InputHead PlanError RunFault) (job : Job) (bef
       by-trace b a None is h = tt
       by-trace b a (Some name) is h =
           let last = last-is (output_names job) job.trace name is in
-          let many = names_len (λ (x : OutputJob). x.name) job.outputs in
-          subst (λ n. a n ≡ Some (printed events)) last.1 (h (length (output_names job)) (omega (arith, many)) last.0)
+          let many = files_len output_file job.outputs in
+          subst (λ (n : Name). IfSome n (λ m. a m ≡ Some (printed events))) last.1 (h (length (output_names job)) (omega (arith, many)) last.0)
 
       by-files : (b a : Option Files) → HoldTrace (over means job) (printed events) b a → HoldsPrinted job b a events
       by-files None a h = tt
@@ -360,7 +371,7 @@ same_counts counts = record { before = counts; after = counts }
 -- nothing was done
 front-same : (means : Job → Meaning InputHead PlanError RunFault) (job : Job) (files : Option Files) → HoldWritten (over means job) files files
 front-same means job None = tt
-front-same means job (Some files) = λ j lt. inl refl
+front-same means job (Some files) = λ j lt. if_is (HoldsWritten (over means job) files files j) (name_at (written job) j) (λ n is. inl refl)
 
 others-same : (job : Job) (files : Option Files) → KeepsAllBut files files (written job) (length (written job))
 others-same job None = tt
@@ -395,7 +406,7 @@ ran-kept means job files ins outs k keeps first = record {
   comes = by-file (λ file. HasFile job file × HasFailed means job files (same_counts ins) (same_counts outs) file) k (length job.outputs) (λ lt. (lt, inl (keeps, lt, first)))
       (λ le.
       let names = output_names job in
-      let many = names_len (λ (x : OutputJob). x.name) job.outputs in
+      let many = files_len output_file job.outputs in
       let below = subst (λ n. n ≤ k) (sym many) le in (
         (trace-name names job.trace k below first.named).0,
         inl (keeps, subst (IsFirstThere files (written job)) (trace-place names job.trace k below first.named ∙ many) first),

@@ -15,8 +15,8 @@ use Rattle.ff_words.proofs.Unique.{answer-one}
 use Rattle.ff_input.specs.Formats.{InputHead}
 use Rattle.ff_plan_layout.specs.declared.error.PlanError.{PlanError}
 use Rattle.ff_run_plan.specs.declared.fault.RunFault.{RunFault}
-use Rattle.ff_files.specs.Counts.{Counts}
-use Rattle.ff_files.specs.Names.{name_at}
+use Rattle.ff_files.specs.Counts.{Counts, RoseUnder}
+use Rattle.ff_files.specs.Names.{Name, name_at}
 use Rattle.ff_files.specs.Works.{Meaning, HasLog, meaning}
 use Rattle.ff_files.specs.Ends.{IsFirstRefused, HasNoPlan, CanBeDone}
 use Rattle.ff_selfrun.specs.SelfRun.{IsOwnJob, own_files, own_line, own_words}
@@ -44,6 +44,10 @@ not-kept false is e = cc
 never-rose : Rose 0 0 → ⊥
 never-rose h = omega (arith, h)
 
+never-under : (name : Name) → RoseUnder quiet.before quiet.after name → ⊥
+never-under None h = h
+never-under (Some name) h = never-rose h
+
 pub same_seconds : (n m : ℕ) → SelfRun n ≡ SelfRun m → n ≡ m
 same_seconds n m e = cc
 
@@ -58,10 +62,10 @@ module _ (means : Job → Meaning InputHead PlanError RunFault) where
   comes-of job files after status.Fine free bounded r = (r.bytes refl 0 (omega (arith, bounded.some_outputs))).0
   comes-of job files after (status.Words place kind) free bounded r = r.comes
   comes-of job files after (status.Plan why) free bounded r = (λ e. r.plan_memory (ap (λ w. status.Plan w) e), r.comes)
-  comes-of job files after (status.Device (Input i)) free bounded r = never-rose r.comes.1.0.1
+  comes-of job files after (status.Device (Input i)) free bounded r = never-under _ r.comes.1.0.1
   comes-of job files after (status.Device (Output o)) free bounded r = elim r.comes.1 [
     | inl kept ↦ not-kept job.keeps kept.0 free
-    | inr failed ↦ never-rose failed.0.1
+    | inr failed ↦ never-under _ failed.0.1
   ]
   comes-of job files after (status.Device Trace) free bounded r = elim r.comes.1 [
     | inl kept ↦ not-kept job.keeps kept.0 free
@@ -84,11 +88,11 @@ module _ (means : Job → Meaning InputHead PlanError RunFault) where
       record {
         comes = (job, own, comes-of job (own_files seconds) after answer free bounded r);
         refused = λ k why g.
-            r.no_head (inl free) k why (subst (λ j. IsFirstRefused (over means j) (Some (own_files seconds)) k why) (own-one g.0 job g.1 own) g.2) (λ i low failed. never-rose failed.1);
+            r.no_head (inl free) k why (subst (λ j. IsFirstRefused (over means j) (Some (own_files seconds)) k why) (own-one g.0 job g.1 own) g.2) (λ i low failed. never-under _ failed.1);
         no_plan = λ why g.
-            r.no_plan (inl free) why (subst (λ j. HasNoPlan (over means j) (Some (own_files seconds)) why) (own-one g.0 job g.1 own) g.2) (λ i failed. never-rose failed.1);
+            r.no_plan (inl free) why (subst (λ j. HasNoPlan (over means j) (Some (own_files seconds)) why) (own-one g.0 job g.1 own) g.2) (λ i failed. never-under _ failed.1);
         complete = λ g.
-            r.complete (inl free) (subst (λ j. CanBeDone (over means j) (Some (own_files seconds))) (own-one g.0 job g.1 own) g.2) (λ i failed. never-rose failed.1) (λ o failed. never-rose failed.1);
+            r.complete (inl free) (subst (λ j. CanBeDone (over means j) (Some (own_files seconds))) (own-one g.0 job g.1 own) g.2) (λ i failed. never-under _ failed.1) (λ o failed. never-under _ failed.1);
       }
 
   pub own_none : (seconds : ℕ) (answer : Status) → answer ≡ status.NoMemory → IsOwnAnswer means seconds answer
@@ -101,13 +105,13 @@ module _ (means : Job → Meaning InputHead PlanError RunFault) where
       }
 
   -- what its one output holds
-  pub own_bytes : (seconds : ℕ) (job : Job) (files after : Files) → IsBounded job → files ≡ own_files seconds → written job ≡ codes "out" ∷ []
+  pub own_bytes : (seconds : ℕ) (job : Job) (files after : Files) → IsBounded job → files ≡ own_files seconds → written job ≡ Some (codes "out") ∷ []
       → Ran means job (Some files) (Some after) quiet quiet status.Fine
       → IsSome (meaning (over means job) (own_files seconds) 0) × (after (codes "out") ≡ meaning (over means job) (own_files seconds) 0)
   own_bytes seconds job files after bounded is named ran =
       let r = subst (λ f. Ran means job (Some f) (Some after) quiet quiet status.Fine) is ran in
       let held = r.bytes refl 0 (omega (arith, bounded.some_outputs)) in
-      (held.0, subst (λ names. after (name_at names 0) ≡ meaning (over means job) (own_files seconds) 0) named held.1)
+      (held.0, subst (λ names. IfSome (name_at names 0) (λ n. after n ≡ meaning (over means job) (own_files seconds) 0)) named held.1)
 
   -- the words of the job are right, nothing fails, and want of memory is a status of its own
   pub no-words : (seconds : ℕ) (answer : Status) → IsOwnAnswer means seconds answer → (place : ℕ) (kind : WordKind) → answer ≢ status.Words place kind
@@ -127,14 +131,14 @@ module _ (means : Job → Meaning InputHead PlanError RunFault) where
   own_ended seconds job files after answer final own bounded is ran fine (inr none) = own_none seconds final none
 
   -- there is what its one output holds
-  pub own_there : (seconds : ℕ) (job : Job) (files after : Files) (answer : Status) → IsBounded job → files ≡ own_files seconds → written job ≡ codes "out" ∷ []
+  pub own_there : (seconds : ℕ) (job : Job) (files after : Files) (answer : Status) → IsBounded job → files ≡ own_files seconds → written job ≡ Some (codes "out") ∷ []
       → Ran means job (Some files) (Some after) quiet quiet answer → answer ≡ status.Fine → IsSome (after (codes "out"))
   own_there seconds job files after answer bounded is named ran fine =
       let held = own_bytes seconds job files after bounded is named (subst (λ s. Ran means job (Some files) (Some after) quiet quiet s) fine ran) in
       subst IsSome (sym held.1) held.0
 
   -- and its line tells of that
-  pub own_told : (seconds : ℕ) (job : Job) (files after : Files) (answer final : Status) → IsOwnJob job → IsBounded job → files ≡ own_files seconds → written job ≡ codes "out" ∷ []
+  pub own_told : (seconds : ℕ) (job : Job) (files after : Files) (answer final : Status) → IsOwnJob job → IsBounded job → files ≡ own_files seconds → written job ≡ Some (codes "out") ∷ []
       → Ran means job (Some files) (Some after) quiet quiet answer → answer ≡ status.Fine → (told : Option (Vec ℕ Global))
       → IfSome told (λ text. (final ≡ status.Fine) × ((bytes : List ℕ) × (after (codes "out") ≡ Some bytes) × (text.items ≡ own_line seconds bytes)))
       → IfSome told (λ text. IsGeneratedText means seconds text.items × (final ≡ status.Fine))

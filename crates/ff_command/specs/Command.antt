@@ -1,7 +1,7 @@
 -- What a command means, when each of its answers comes, and what stands then. `before` and `after` are the files that the host
 -- tells, before and after the call; `ins` and `outs` are its counts of faults of reading and of writing by name, at both moments.
 -- Where the files aren't told, a conclusion on them claims nothing, and a premise on them isn't met.
-use Rattle.std.specs.Prelude.{◌≡◌, ◌≢◌, ◌⊎◌, ⊤, ℕ, ◌<◌, ◌≤◌, false, IsTrue, List, [], length, Option, Some, None, IsSome, IfSome, unwrap_or, Ok, Err}
+use Rattle.std.specs.Prelude.{◌≡◌, ◌≢◌, ◌⊎◌, ⊤, ℕ, ◌<◌, ◌≤◌, false, IsTrue, List, [], length, map, slice_index_or, Option, Some, None, IsSome, IfSome, unwrap_or, Ok, Err}
 use Rattle.ff_host.specs.Causes.{Rose, SameCounts}
 use Rattle.ff_host.specs.Files.{Files, KeepsFiles}
 use Rattle.ff_reader.specs.declared.fault.HeadFault.{HeadFault}
@@ -15,13 +15,13 @@ use Rattle.ff_words.specs.declared.job.Command.TheVariants as asked
 use Rattle.ff_words.specs.declared.job.Solo.{Solo}
 use Rattle.ff_words.specs.declared.job.Solo.TheVariants.{Help, Version, SelfRun}
 use Rattle.ff_words.specs.declared.error.Fault.{Fault}
-use Rattle.ff_words.specs.Words.{IsAnswer, written}
+use Rattle.ff_words.specs.Words.{IsAnswer, output_file, written}
 use Rattle.ff_input.specs.Formats.{InputHead, input_head}
 use Rattle.ff_plan_layout.specs.declared.error.PlanError.{PlanError}
 use Rattle.ff_plan_layout.specs.declared.error.PlanError.TheVariants as why
 use Rattle.ff_run_plan.specs.declared.fault.RunFault.{RunFault}
 use Rattle.ff_run_plan.specs.declared.fault.RunFault.TheVariants as run_fault
-use Rattle.ff_files.specs.Names.{name_at, names_of, KeepsAllBut}
+use Rattle.ff_files.specs.Names.{Name, names_of, files_of, KeepsAllBut}
 use Rattle.ff_files.specs.There.{AreFree, IsFirstThere}
 use Rattle.ff_files.specs.Counts.{Counts, Faulted, KeepsCounts}
 use Rattle.ff_files.specs.Heads.{HaveHeads, IsRefused}
@@ -81,13 +81,14 @@ IfAsked words Is = (job : Job) → Ask words job → Is job
 abbrev pub AreWrong : List (List ℕ) → Fault → Type 0
 AreWrong words f = IsAnswer words (Err f)
 
--- ---- the files of a job, by number
+-- ---- the files of a job, by number: an output that goes nowhere has a number, and no file
 
-abbrev pub input_names : Job → List (List ℕ)
+abbrev pub input_names : Job → List Name
 input_names job = names_of (λ (i : InputJob). i.name) job.inputs
 
-abbrev pub output_names : Job → List (List ℕ)
-output_names job = names_of (λ (o : OutputJob). o.name) job.outputs
+-- an output that goes nowhere has none
+abbrev pub output_names : Job → List Name
+output_names job = files_of output_file job.outputs
 
 -- the job has such a file
 abbrev pub HasFile : Job → FileRef → Type 0
@@ -95,10 +96,10 @@ HasFile job (Input i) = i < length job.inputs
 HasFile job (Output o) = o < length job.outputs
 HasFile job Trace = IsSome job.trace
 
--- its name
+-- its name, as the words have it
 abbrev pub file_name : Job → FileRef → List ℕ
-file_name job (Input i) = name_at (input_names job) i
-file_name job (Output o) = name_at (output_names job) o
+file_name job (Input i) = slice_index_or (map (λ (input : InputJob). input.name) job.inputs) i []
+file_name job (Output o) = slice_index_or (map (λ (out : OutputJob). out.name) job.outputs) o []
 file_name job Trace = unwrap_or job.trace []
 
 -- where the status is a device's fault, this is the name of the file of the job that the words ask for
@@ -130,7 +131,7 @@ KeepsThere words before file = AskFor words (λ job. IsToldKept job before file)
 
 -- ---- what stands, whatever a job means
 
--- every file that is neither an output of the job nor its trace is as it was, and every file where the words ask for none
+-- every file that is neither that of an output of the job nor its trace is as it was, and every file where the words ask for none
 abbrev pub KeepsOtherFiles : List (List ℕ) → Option Files → Option Files → Type 0
 KeepsOtherFiles words before after = KeepsFiles before after ⊎ AskFor words (λ job. KeepsAllBut before after (written job) (length (written job)))
 
@@ -158,7 +159,7 @@ AreSoundTo ins job k = (i : ℕ) → i ≤ k → Faulted ins (input_names job) i
 abbrev pub InputsAreSound : Counts → Job → Type 0
 InputsAreSound ins job = (i : ℕ) → Faulted ins (input_names job) i → ⊥
 
--- no count of writing has risen under the name of an output or of the trace
+-- no count of writing has risen under the name of an output's file or of the trace
 abbrev pub OutputsAreSound : Counts → Job → Type 0
 OutputsAreSound outs job = (o : ℕ) → Faulted outs (written job) o → ⊥
 
@@ -219,11 +220,11 @@ module _ (means : Job → Meaning InputHead PlanError RunFault) where
 
   -- ---- what stands
 
-  -- the words ask for a job that means some bytes for each of its outputs, and each holds these
+  -- the words ask for a job that means some bytes for each of its outputs, and each that is a file holds these
   abbrev pub HoldsMeaning : List (List ℕ) → Option Files → Option Files → Type 0
   HoldsMeaning words before after = AskFor words (λ job. HoldMeaning (over job) before after)
 
-  -- each output is as it was, or holds a front of what is written to it, or all that it is meant to hold
+  -- each output that is a file is as it was, or holds a front of what is written to it, or all that it is meant to hold
   abbrev pub HoldsFront : List (List ℕ) → Option Files → Option Files → Type 0
   HoldsFront words before after = IfAsked words (λ job. HoldWritten (over job) before after)
 

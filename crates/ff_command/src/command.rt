@@ -26,6 +26,7 @@ use crate::report::{FileRef, Line, Report, Status};
 use crate::run::{JobRun, run_job};
 use crate::told::{Told, tell};
 use crate::worker::Worker;
+use ff_files::Target;
 use ff_host::{Begun, Host, QuietSink, QuietSource, Sink};
 use ff_plan_layout::PlanError;
 use ff_run_plan::RunLog;
@@ -67,13 +68,11 @@ struct Worked {
 }
 
 // Reads the arguments, and runs the job that they ask for.
-fn run_words<H: Host, P: Worker<Begun<H::Src>, H::Snk>, Q: Worker<Begun<QuietSource>, QuietSink>>(
-    alloc: Global,
-    worker: &P,
-    own: &Q,
-    words: &[String],
-    host: &mut H,
-) -> Worked
+fn run_words<
+    H: Host,
+    P: Worker<Begun<H::Src>, Target<H::Snk>>,
+    Q: Worker<Begun<QuietSource>, Target<QuietSink>>,
+>(alloc: Global, worker: &P, own: &Q, words: &[String], host: &mut H) -> Worked
     requires able { P.is_able worker.now }
     requires own { Q.is_able own.now }
     ensures answered { Answered (P.means worker.now) (texts words.now) (H.files host.old) (H.files host.new)
@@ -217,8 +216,8 @@ fn out_of_memory(alloc: Global) -> Report
 pub fn run_command<
     H: Host,
     E: Sink,
-    P: Worker<Begun<H::Src>, H::Snk>,
-    Q: Worker<Begun<QuietSource>, QuietSink>,
+    P: Worker<Begun<H::Src>, Target<H::Snk>>,
+    Q: Worker<Begun<QuietSource>, Target<QuietSink>>,
 >(alloc: Global, worker: &P, own: &Q, words: &[String], host: &mut H, log: &mut E) -> Report
     requires able { P.is_able worker.now }
     requires own { Q.is_able own.now }

@@ -1,8 +1,8 @@
 //! A job over its files.
-ghost use Rattle.std.specs.Prelude.{◌≡◌, ◌<◌, ◌^◌, ℕ, length, Some, None, Ok, IfSome, IsTrue};
+ghost use Rattle.std.specs.Prelude.{◌≡◌, ◌<◌, ◌^◌, ℕ, length, Some, None, Ok, IfSome, IsTrue, option_copied};
 ghost use Rattle.ff_words.specs.Bounds.{IsBounded};
 ghost use Rattle.ff_words.specs.Words.{written};
-ghost use Rattle.ff_files.specs.Names.{names_of};
+ghost use Rattle.ff_files.specs.Names.{files_of};
 ghost use Rattle.ff_files.specs.There.{IsFirstThere};
 ghost use Rattle.ff_files.specs.Counts.{counted};
 ghost use Rattle.ff_files.specs.Works.{HasLog};
@@ -13,7 +13,7 @@ ghost use Rattle.ff_command.specs.Steps.{broken_run, written_file, status_of, Cr
 use crate::report::{FileRef, Status};
 use crate::worker::{JobWork, Worker};
 use crate::written::{Written, written_files};
-use ff_files::{Outcome, RunEnd, first_there, over_files};
+use ff_files::{Outcome, RunEnd, Target, first_there, over_files};
 use ff_host::{Begun, Host};
 use ff_plan_layout::PlanError;
 use ff_run_plan::{RunFault, RunLog};
@@ -92,7 +92,7 @@ pub(crate) struct JobRun {
 
 // The number of the first of the files that the job writes that is there, where the job keeps such.
 fn first_kept<H: Host>(job: &Job, files: &[Written], host: &H) -> Result<Option<u32>, AllocError>
-    requires named { names_of (λ file. file.name.now) files.now ≡ written job.now }
+    requires named { files_of (λ file. option_copied file.file) files.now ≡ written job.now }
     requires few { length files.now < 2 ^ 32 }
     ensures kept { (k : ℕ) → result ≡ Ok (Some k) → IsTrue job.now.keeps × IsFirstThere (H.files host.now) (written job.now) k }
     ensures free { result ≡ Ok None → IsFree job.now (H.files host.now) }
@@ -112,7 +112,7 @@ fn not_run(status: Status) -> JobRun
 }
 
 // Runs a job over its files, none of which it keeps.
-fn run_free<H: Host, P: Worker<Begun<H::Src>, H::Snk>>(
+fn run_free<H: Host, P: Worker<Begun<H::Src>, Target<H::Snk>>>(
     alloc: Global,
     worker: &P,
     job: &Job,
@@ -121,7 +121,7 @@ fn run_free<H: Host, P: Worker<Begun<H::Src>, H::Snk>>(
 ) -> JobRun
     requires able { P.is_able worker.now }
     requires bounded { IsBounded job.now }
-    requires named { names_of (λ file. file.name.now) files.now ≡ written job.now }
+    requires named { files_of (λ file. option_copied file.file) files.now ≡ written job.now }
     requires free { IsFree job.now (H.files host.old) }
     ensures ran { Ran (P.means worker.now) job.now (H.files host.old) (H.files host.new)
         (counted H.in_faults host.old host.new) (counted H.out_faults host.old host.new) result.status }
@@ -144,7 +144,7 @@ fn run_free<H: Host, P: Worker<Begun<H::Src>, H::Snk>>(
 }
 
 /// Runs a job over its files. Where it keeps what is there, and a file that it writes is, nothing is run.
-pub(crate) fn run_job<H: Host, P: Worker<Begun<H::Src>, H::Snk>>(
+pub(crate) fn run_job<H: Host, P: Worker<Begun<H::Src>, Target<H::Snk>>>(
     alloc: Global,
     worker: &P,
     job: &Job,

@@ -11,6 +11,7 @@ use crate::help::{help, version};
 use crate::report::Status;
 use crate::run::{JobRun, run_job};
 use crate::worker::Worker;
+use ff_files::Target;
 use ff_host::{Begun, QuietHost, QuietSink, QuietSource};
 use ff_run_plan::RunLog;
 use ff_selfrun::{own_host, own_job, own_line};
@@ -78,7 +79,7 @@ fn untold() -> Told
 
 // Runs the one job over generated input, in a host of its own.
 #[tactic(auto, using(crate::proofs::Generated::own_none))]
-fn run_generated<Q: Worker<Begun<QuietSource>, QuietSink>>(
+fn run_generated<Q: Worker<Begun<QuietSource>, Target<QuietSink>>>(
     alloc: Global,
     own: &Q,
     seconds: u32,
@@ -109,7 +110,7 @@ fn run_generated<Q: Worker<Begun<QuietSource>, QuietSink>>(
 }
 
 /// What an option asks for that stands alone.
-pub(crate) fn tell<Q: Worker<Begun<QuietSource>, QuietSink>>(
+pub(crate) fn tell<Q: Worker<Begun<QuietSource>, Target<QuietSink>>>(
     alloc: Global,
     own: &Q,
     solo: Solo,

@@ -6,13 +6,13 @@ use Rattle.ff_host.specs.declared.host.HostError.{HostError}
 use Rattle.ff_host.specs.declared.host.HostError.TheVariants as host_error
 use Rattle.ff_reader.specs.declared.fault.HeadFault.{HeadFault}
 use Rattle.ff_reader.specs.declared.fault.HeadFault.TheVariants as fault
-use Rattle.ff_files.specs.Names.{names_of, name_at}
+use Rattle.ff_files.specs.Names.{Name, names_of, name_at}
 use Rattle.ff_files.specs.Counts.{Counts, Faulted, KeepsCounts, CountsFaults}
 use Rattle.ff_files.specs.Heads.{Refusal, HaveHeads}
 use Rattle.ff_files.specs.Hosts.{IsLater}
 use Rattle.ff_files.specs.Inputs.{AreBegun, EndsInputs, sound_before}
 use Rattle.ff_files.specs.Outputs.{EndsOutputs, FailsAt, AreClosed}
-use Rattle.ff_files.specs.Works.{Command, FailNoMore, EndsWork, sound_sources, sound_sinks, all_heads, all_bytes, HoldWritten}
+use Rattle.ff_files.specs.Works.{Command, FailNoMore, EndsWork, sound_sources, sound_sinks, all_heads, all_bytes, HoldsWritten, HoldWritten}
 use Rattle.ff_files.specs.Ends.{Ends, IsPlanned, IsPlanRefused, IsBroken, end_of_input, end_of_plan, end_of_output, end_after, refusal, sound_inputs, sound_outputs, IsFirstRefused, HasNoPlan, CanBeDone}
 use Rattle.ff_files.specs.declared.head.InputEnd.{InputEnd}
 use Rattle.ff_files.specs.declared.head.InputEnd.TheVariants as input_end
@@ -22,8 +22,8 @@ use Rattle.ff_files.specs.declared.work.PlanEnd.{PlanEnd}
 use Rattle.ff_files.specs.declared.work.PlanEnd.TheVariants as plan_end
 use Rattle.ff_files.specs.declared.end.RunEnd.{RunEnd}
 use Rattle.ff_files.specs.declared.end.RunEnd.TheVariants as run_end
-use Rattle.ff_files.proofs.Lists.{some_of, names_len}
-use Rattle.ff_files.proofs.Steps.{rose_on}
+use Rattle.ff_files.proofs.Lists.{some_of, names_len, if_is}
+use Rattle.ff_files.proofs.Steps.{under_on, later_now}
 use Rattle.ff_files.proofs.Wholes.{counts_all}
 use Rattle.ff_files.proofs.Heads.{front_have, refused_after, not_both, same_heads, same_refusal}
 
@@ -41,8 +41,8 @@ module _ {I H R F : Type 0} (command : Command I H R F) (before : Option Files) 
         (
           (let lt = e.0 in omega (arith, lt, len)),
           elim e.1 [
-            | inl rose ↦ rose_on (ins.before name) (ins.before name) (in_mid name) (ins.after name) (omega arith) (li name) rose
-            | inr there ↦ rose_on (ins.before name) (in_mid name) (ins.after name) (ins.after name) (lo name) (omega arith) (let d = some_of srcs k there.0 in c k d there.0 (there.1 d))
+            | inl rose ↦ under_on ins.before ins.before in_mid ins.after name (later_now ins.before) li rose
+            | inr there ↦ under_on ins.before in_mid ins.after ins.after name lo (later_now ins.after) (let d = some_of srcs k there.0 in c k d there.0 (there.1 d))
           ],
         ),
         e.2,
@@ -73,7 +73,7 @@ module _ {I H R F E : Type 0} (command : Command I H R F) (left : E → Option (
   ends_uncreated out_mid k host_error.NoMemory e l begun n = tt
   ends_uncreated out_mid k host_error.Failed e l begun n =
       let name = name_at command.outputs k in
-      ((e.0, rose_on (outs.before name) (outs.before name) (out_mid name) (outs.after name) (omega arith) (l name) e.1), planned begun n)
+      ((e.0, under_on outs.before outs.before out_mid outs.after name (later_now outs.before) l e.1), planned begun n)
 
   -- how a command ends, once all was closed
   pub ends_closed : {K : Type 0} (in_faults : E → ℕ) (out_faults : K → ℕ) (in_mid out_mid : List ℕ → ℕ) (told : List (List ℕ) → Type 0) (end : WorkEnd F) (unclosed : Option ℕ) (srcs' : List E) (snks snks' : List K)
@@ -85,13 +85,13 @@ module _ {I H R F E : Type 0} (command : Command I H R F) (left : E → Option (
   ends_closed in_faults out_faults in_mid out_mid told work_end.Fine None srcs' snks snks' e m n p q len ci co f li lo begun pl t = planned begun pl
   ends_closed in_faults out_faults in_mid out_mid told work_end.Fine (Some k) srcs' snks snks' e m n p q len ci co f li lo begun pl t =
       let name = name_at command.outputs k in
-      (((let below : k < length snks' = f.0 in omega (arith, below, n, q)), rose_on (outs.before name) (out_mid name) (outs.after name) (outs.after name) (lo name) (omega arith) f.1), planned begun pl)
+      (((let below : k < length snks' = f.0 in omega (arith, below, n, q)), under_on outs.before out_mid outs.after outs.after name lo (later_now outs.after) f.1), planned begun pl)
   ends_closed in_faults out_faults in_mid out_mid told (work_end.Input k) unclosed srcs' snks snks' e m n p q len ci co f li lo begun pl t =
       let name = name_at (names_of command.name command.inputs) k in
       let below : k < length srcs = e.0 in
       let there : k < length srcs' = omega (arith, below, m) in
       let d = some_of srcs' k there in (
-        (omega (arith, below, p, len), rose_on (ins.before name) (in_mid name) (ins.after name) (ins.after name) (li name) (omega arith) (ci k d there (failed_some (in_faults (get_or srcs k d)) (in_faults (get_or srcs' k d)) (e.1 d)))),
+        (omega (arith, below, p, len), under_on ins.before in_mid ins.after ins.after name li (later_now ins.after) (ci k d there (failed_some (in_faults (get_or srcs k d)) (in_faults (get_or srcs' k d)) (e.1 d)))),
         by_files before begun.told_heads k,
       )
     where
@@ -103,7 +103,7 @@ module _ {I H R F E : Type 0} (command : Command I H R F) (left : E → Option (
       let below : k < length snks = e.0 in
       let there : k < length snks' = omega (arith, below, n) in
       let d = some_of snks' k there in
-      ((omega (arith, below, q), rose_on (outs.before name) (out_mid name) (outs.after name) (outs.after name) (lo name) (omega arith) (co k d there (failed_some (out_faults (get_or snks k d)) (out_faults (get_or snks' k d)) (e.1 d)))), planned begun pl)
+      ((omega (arith, below, q), under_on outs.before out_mid outs.after outs.after name lo (later_now outs.after) (co k d there (failed_some (out_faults (get_or snks k d)) (out_faults (get_or snks' k d)) (e.1 d)))), planned begun pl)
   ends_closed in_faults out_faults in_mid out_mid told (work_end.Broken why) unclosed srcs' snks snks' e m n p q len ci co f li lo begun pl t = by_files before begun.told_heads t
     where
       by_files : (files : Option Files) → ((a : Files) → files ≡ Some a → all_heads command a ≡ Ok heads) → ((a : Files) → files ≡ Some a → told (all_bytes command a)) → IsBroken command files why
@@ -201,7 +201,7 @@ module _ {I H R F : Type 0} (command : Command I H R F) where
   uncreated_sound k host_error.NoMemory = refl
   uncreated_sound k host_error.Failed = refl
 
-  pub headless_sound : (before now : List ℕ → ℕ) (names : List (List ℕ)) (k : ℕ) (end : InputEnd) → length names ≤ length command.inputs → KeepsCounts before now names (sound_before end k (length command.inputs))
+  pub headless_sound : (before now : List ℕ → ℕ) (names : List Name) (k : ℕ) (end : InputEnd) → length names ≤ length command.inputs → KeepsCounts before now names (sound_before end k (length command.inputs))
       → KeepsCounts before now names (sound_inputs command (end_of_input k end))
   headless_sound before now names k input_end.NoMemory le c = counts_all before now names (length command.inputs) 1 le c
   headless_sound before now names k input_end.Failed le c = c
@@ -213,7 +213,7 @@ closed_none None = tt
 closed_none (Some k) = omega arith
 
 -- what is counted of no name is counted below no number
-pub counts_zero : (before now : List ℕ → ℕ) (names : List (List ℕ)) (count : ℕ) → KeepsCounts before now names count → KeepsCounts before now names 0
+pub counts_zero : (before now : List ℕ → ℕ) (names : List Name) (count : ℕ) → KeepsCounts before now names count → KeepsCounts before now names 0
 counts_zero before now names count c = λ name below. c name (λ k lt same. absurd (let none = below k lt same in omega (arith, none)))
 
 -- the ends that are not Fine
@@ -229,7 +229,7 @@ pub unwritten : {I H R F : Type 0} (command : Command I H R F) (a b c : Option F
 unwritten command None b c p q = tt
 unwritten command (Some f) None c p q = absurd p
 unwritten command (Some f) (Some e) None p q = absurd q
-unwritten command (Some f) (Some e) (Some d) p q = λ j lt. inl (q (name_at command.outputs j) ∙ p (name_at command.outputs j))
+unwritten command (Some f) (Some e) (Some d) p q = λ j lt. if_is (HoldsWritten command f d j) (name_at command.outputs j) (λ name is. inl (q name ∙ p name))
 
 -- counts that rose since a later moment rose since an earlier one
 pub ends_earlier : {I H R F : Type 0} (command : Command I H R F) (before : Option Files) (a b u v m n : List ℕ → ℕ) (e : RunEnd R F) → ((name : List ℕ) → IsLater (a name) (m name)) → ((name : List ℕ) → IsLater (u name) (n name))
@@ -238,10 +238,10 @@ ends_earlier command before a b u v m n run_end.Fine li lo h = h
 ends_earlier command before a b u v m n run_end.NoMemory li lo h = tt
 ends_earlier command before a b u v m n (run_end.InputFailed k) li lo h =
     let name = name_at (names_of command.name command.inputs) k in
-    ((h.0.0, rose_on (a name) (m name) (b name) (b name) (li name) (omega arith) h.0.1), h.1)
+    ((h.0.0, under_on a m b b name li (later_now b) h.0.1), h.1)
 ends_earlier command before a b u v m n (run_end.OutputFailed k) li lo h =
     let name = name_at command.outputs k in
-    ((h.0.0, rose_on (u name) (n name) (v name) (v name) (lo name) (omega arith) h.0.1), h.1)
+    ((h.0.0, under_on u n v v name lo (later_now v) h.0.1), h.1)
 ends_earlier command before a b u v m n (run_end.Damaged k offset) li lo h = h
 ends_earlier command before a b u v m n (run_end.Unsupported k offset) li lo h = h
 ends_earlier command before a b u v m n (run_end.Refused why) li lo h = h

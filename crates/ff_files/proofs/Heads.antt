@@ -6,14 +6,14 @@ use Rattle.ff_host.specs.Files.{Files, bytes_at, KeepsFiles, GivesFile}
 use Rattle.ff_reader.specs.declared.fault.HeadFault.{HeadFault}
 use Rattle.ff_reader.specs.declared.fault.HeadFault.TheVariants as fault
 use Rattle.ff_reader.specs.Heads.{Found}
-use Rattle.ff_files.specs.Names.{name_at}
-use Rattle.ff_files.specs.Counts.{KeepsCounts, AreUnfailed}
+use Rattle.ff_files.specs.Names.{Name, name_at}
+use Rattle.ff_files.specs.Counts.{KeepsCounts, AreUnfailed, RoseUnder}
 use Rattle.ff_files.specs.Heads.{Heads, Refusal, with_heads, next_head, head_in, heads_from, heads_of, HaveHeads, IsRefused}
 use Rattle.ff_files.specs.Inputs.{IsFound, IsHeadless, IsUnopened, EndsInputs, sound_before}
 use Rattle.ff_files.specs.declared.head.InputEnd.{InputEnd}
 use Rattle.ff_files.specs.declared.head.InputEnd.TheVariants as input_end
 use Rattle.ff_files.proofs.Lists.{each_pushed, pushed_len}
-use Rattle.ff_files.proofs.Steps.{counts_on}
+use Rattle.ff_files.proofs.Steps.{counts_named}
 
 -- the files that are told now, of which these were told before
 told_on : (a b : Option Files) (told : Files) → KeepsFiles a b → a ≡ Some told → (now : Files) × (b ≡ Some now) × ((name : List ℕ) → now name ≡ told name)
@@ -175,7 +175,7 @@ module _ {I H : Type 0} (name : I → List ℕ) (head : I → List ℕ → Found
   refusal_on (Some told) mid inputs k input front f lt at keeps so h = heads_refused told inputs k input front f lt at (so told refl) (found_on (head input) (Some told) mid told (name input) (Err f) keeps refl h)
 
   -- an input that was opened without a head is why not all have one
-  pub ends_read : {E : Type 0} (faults : E → ℕ) (files mid : Option Files) (before now : List ℕ → ℕ) (names : List (List ℕ)) (inputs : List I) (srcs : List E) (front : List H) (k : ℕ) (input : I) (src : E) (end : InputEnd) → k < length inputs → get_or inputs k input ≡ input
+  pub ends_read : {E : Type 0} (faults : E → ℕ) (files mid : Option Files) (before now : List ℕ → ℕ) (names : List Name) (inputs : List I) (srcs : List E) (front : List H) (k : ℕ) (input : I) (src : E) (end : InputEnd) → k < length inputs → get_or inputs k input ≡ input
       → KeepsFiles files mid → FoundSoFar files inputs k front → k < length srcs → ((d : E) → get_or srcs k d ≡ src) → IsHeadless (head input) end (faults src) mid (name input) → EndsInputs name head faults files before now names inputs srcs k end
   ends_read faults files mid before now names inputs srcs front k input src input_end.NoMemory lt is keeps so there at h = lt
   ends_read faults files mid before now names inputs srcs front k input src input_end.Failed lt is keeps so there at h = (lt, inr (there, λ d. subst (λ (x : _). 1 ≤ faults x) (sym (at d)) h), have_heads files inputs k front so)
@@ -183,12 +183,12 @@ module _ {I H : Type 0} (name : I → List ℕ) (head : I → List ℕ → Found
   ends_read faults files mid before now names inputs srcs front k input src (input_end.Unsupported offset) lt is keeps so there at h = (lt, refusal_on files mid inputs k input front (fault.Unsupported offset) lt is keeps so h.1)
 
   -- and so is one that wasn't opened
-  pub ends_unopened : {E : Type 0} (faults : E → ℕ) (files : Option Files) (before now : List ℕ → ℕ) (names : List (List ℕ)) (inputs : List I) (srcs : List E) (front : List H) (k : ℕ) (end : InputEnd) → k < length inputs
-      → FoundSoFar files inputs k front → IsUnopened end (before (name_at names k)) (now (name_at names k)) → EndsInputs name head faults files before now names inputs srcs k end
-  ends_unopened faults files before now names inputs srcs front k input_end.NoMemory lt so h = lt
-  ends_unopened faults files before now names inputs srcs front k input_end.Failed lt so h = (lt, inl h, have_heads files inputs k front so)
-  ends_unopened faults files before now names inputs srcs front k (input_end.Damaged offset) lt so h = absurd h
-  ends_unopened faults files before now names inputs srcs front k (input_end.Unsupported offset) lt so h = absurd h
+  pub ends_unopened : {E : Type 0} (faults : E → ℕ) (files : Option Files) (before now : List ℕ → ℕ) (names : List Name) (inputs : List I) (srcs : List E) (front : List H) (k : ℕ) (end : InputEnd) → k < length inputs
+      → FoundSoFar files inputs k front → (n : List ℕ) → name_at names k ≡ Some n → IsUnopened end (before n) (now n) → EndsInputs name head faults files before now names inputs srcs k end
+  ends_unopened faults files before now names inputs srcs front k input_end.NoMemory lt so n is h = lt
+  ends_unopened faults files before now names inputs srcs front k input_end.Failed lt so n is h = (lt, inl (subst (λ (m : Name). RoseUnder before now m) (sym is) h), have_heads files inputs k front so)
+  ends_unopened faults files before now names inputs srcs front k (input_end.Damaged offset) lt so n is h = absurd h
+  ends_unopened faults files before now names inputs srcs front k (input_end.Unsupported offset) lt so n is h = absurd h
 
 -- of those that haven't failed, with one more: where that has, those before it
 pub unfailed_all : {E : Type 0} (faults : E → ℕ) (ends : List E) (all count : ℕ) → length ends ≤ all → AreUnfailed faults ends all → AreUnfailed faults ends count
@@ -207,11 +207,11 @@ unfailed_read {E} head faults xs ys src k all end files name is long lt u h = λ
     here (input_end.Unsupported offset) h b = h.0
 
 -- the counts after an opening that was refused
-pub counts_unopened : (before mid now : List ℕ → ℕ) (names : List (List ℕ)) (k all : ℕ) (end : InputEnd) → k < length names → SameCounts before mid → SameElsewhere (name_at names k) mid now
-    → IsUnopened end (mid (name_at names k)) (now (name_at names k)) → KeepsCounts before now names (sound_before end k all)
-counts_unopened before mid now names k all end lt was others h = counts_on before mid now names k (sound_before end k all) lt (λ name below. was name) others (here end h)
+pub counts_unopened : (before mid now : List ℕ → ℕ) (names : List Name) (k all : ℕ) (n : List ℕ) (end : InputEnd) → name_at names k ≡ Some n → k < length names → SameCounts before mid → SameElsewhere n mid now
+    → IsUnopened end (mid n) (now n) → KeepsCounts before now names (sound_before end k all)
+counts_unopened before mid now names k all n end is lt was others h = counts_named before mid now names k (sound_before end k all) (Some n) is lt (λ name below. was name) others (here end h)
   where
-    here : (end : InputEnd) → IsUnopened end (mid (name_at names k)) (now (name_at names k)) → k < sound_before end k all → now (name_at names k) ≡ mid (name_at names k)
+    here : (end : InputEnd) → IsUnopened end (mid n) (now n) → k < sound_before end k all → now n ≡ mid n
     here input_end.NoMemory h b = h
     here input_end.Failed h b = absurd (omega (arith, b))
     here (input_end.Damaged offset) h b = absurd h

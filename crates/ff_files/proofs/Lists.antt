@@ -1,10 +1,11 @@
 -- Lists that grow by one, and what an iterator has left.
-use Rattle.std.proofs.Common.{◌≡◌, ◌≢◌, ◌⊎◌, inl, inr, ℕ, zero, suc, ◌+◌, ◌<◌, List, [], ◌∷◌, ◌++◌, length, get_or, Bool, true, false, refl, sym, ap, ◌∙◌, subst, arith}
+use Rattle.std.proofs.Common.{◌≡◌, ◌≢◌, ◌⊎◌, inl, inr, ℕ, zero, suc, ◌+◌, ◌<◌, List, [], ◌∷◌, ◌++◌, length, get_or, Bool, true, false, Option, Some, None, refl, sym, ap, ◌∙◌, subst, arith}
 use Rattle.std.proofs.lemmas.List.{length-map}
+use Rattle.std.specs.Prelude.{IfSome}
 use Rattle.std.specs.Bool.{Decides}
 use Rattle.std.specs.Str.{bytes_eq}
 use Rattle.std.proofs.lemmas.Slice.Eq.{bytes_eq-Decides}
-use Rattle.ff_files.specs.Names.{names_of, name_at}
+use Rattle.ff_files.specs.Names.{Name, names_of, files_of, name_at}
 
 -- what holds of each element, and of one more
 pub each_snoc : {A : Type 0} (P : ℕ → A → Type 0) (xs : List A) (y d : A) → ((k : ℕ) → k < length xs → P k (get_or xs k d)) → P (length xs) y → (k : ℕ) → k < length xs + 1 → P k (get_or (xs ++ y ∷ []) k d)
@@ -59,10 +60,14 @@ first_next xs ys items x d n e h =
 
 -- there are as many names as files
 pub names_len : {N : Type 0} (name : N → List ℕ) (files : List N) → length (names_of name files) ≡ length files
-names_len name files = length-map files name
+names_len {N} name files = length-map files (λ (file : N). Some (name file))
+
+-- there are as many of outputs
+pub files_len : {N : Type 0} (file : N → Name) (outputs : List N) → length (files_of file outputs) ≡ length outputs
+files_len file outputs = length-map outputs file
 
 -- the name of a file that is there
-pub name_here : {N : Type 0} (name : N → List ℕ) (files : List N) (k : ℕ) (d : N) → k < length files → name_at (names_of name files) k ≡ name (get_or files k d)
+pub name_here : {N : Type 0} (name : N → List ℕ) (files : List N) (k : ℕ) (d : N) → k < length files → name_at (names_of name files) k ≡ Some (name (get_or files k d))
 name_here name [] k d lt = absurd (omega (arith, lt))
 name_here name (f ∷ fs) zero d lt = refl
 name_here name (f ∷ fs) (suc k) d lt = name_here name fs k d (omega (arith, lt))
@@ -74,3 +79,23 @@ same_or_not a b = by_test (bytes_eq a b) (bytes_eq-Decides a b)
     by_test : (t : Bool) → Decides t (a ≡ b) → (a ≡ b) ⊎ (a ≢ b)
     by_test true same = inl (same.0 refl)
     by_test false same = inr (λ e. let no : false ≡ true = same.1 e in cc (no))
+
+-- so are two where there may be none
+pub name_or_not : (a b : Name) → (a ≡ b) ⊎ (a ≢ b)
+name_or_not None None = inl refl
+name_or_not None (Some b) = inr (λ e. cc)
+name_or_not (Some a) None = inr (λ e. cc)
+name_or_not (Some a) (Some b) = elim (same_or_not a b) [ inl same ↦ inl (ap (λ (n : List ℕ). Some n) same) | inr other ↦ inr (λ e. other (some_same a b e)) ]
+  where
+    some_same : (x y : List ℕ) → Some x ≡ Some y → x ≡ y
+    some_same x y e = cc
+
+-- what is so of the name that there is
+pub if_is : (P : List ℕ → Type 0) (name : Name) → ((n : List ℕ) → name ≡ Some n → P n) → IfSome name P
+if_is P None f = tt
+if_is P (Some n) f = f n refl
+
+-- and in other words
+pub if_named : (P Q : List ℕ → Type 0) (name : Name) → ((n : List ℕ) → P n → Q n) → IfSome name P → IfSome name Q
+if_named P Q None f p = tt
+if_named P Q (Some n) f p = f n p

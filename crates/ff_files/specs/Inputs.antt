@@ -7,7 +7,8 @@ use Rattle.ff_host.specs.Files.{Files, bytes_at, GivesFile}
 use Rattle.ff_host.specs.declared.begun.Begun.{Begun}
 use Rattle.ff_reader.specs.declared.fault.HeadFault.TheVariants as fault
 use Rattle.ff_reader.specs.Heads.{Found}
-use Rattle.ff_files.specs.Names.{name_at}
+use Rattle.ff_files.specs.Names.{Name, name_at}
+use Rattle.ff_files.specs.Counts.{RoseUnder}
 use Rattle.ff_files.specs.Heads.{IsRefused, heads_of, HaveHeads}
 use Rattle.ff_files.specs.declared.head.InputEnd.{InputEnd}
 use Rattle.ff_files.specs.declared.head.InputEnd.TheVariants as input_end
@@ -66,9 +67,9 @@ sound_inputs (Ok done) all = all
 sound_inputs (Err refusal) all = sound_before refusal.end refusal.input all
 
 -- the fault of an input was counted under its name, or will be with that of its source
-abbrev pub HasFailed : {E : Type 0} → (E → ℕ) → (List ℕ → ℕ) → (List ℕ → ℕ) → List (List ℕ) → List E → ℕ → Type 0
+abbrev pub HasFailed : {E : Type 0} → (E → ℕ) → (List ℕ → ℕ) → (List ℕ → ℕ) → List Name → List E → ℕ → Type 0
 HasFailed {E} faults before now names srcs k =
-    Rose (before (name_at names k)) (now (name_at names k)) ⊎ ((k < length srcs) × ((d : E) → 1 ≤ faults (slice_index_or srcs k d)))
+    RoseUnder before now (name_at names k) ⊎ ((k < length srcs) × ((d : E) → 1 ≤ faults (slice_index_or srcs k d)))
 
 module _ {I H : Type 0} (name : I → List ℕ) (head : I → List ℕ → Found H) where
   -- each input was opened and has its head
@@ -79,7 +80,7 @@ module _ {I H : Type 0} (name : I → List ℕ) (head : I → List ℕ → Found
         → (k : ℕ) (i : I) (d : E) → k < length srcs → left (slice_index_or srcs k d) ≡ Some (bytes_at told (name (slice_index_or inputs k i)))
 
   -- why not all inputs have heads
-  abbrev pub EndsInputs : {E : Type 0} → (E → ℕ) → Option Files → (List ℕ → ℕ) → (List ℕ → ℕ) → List (List ℕ) → List I → List E → ℕ → InputEnd → Type 0
+  abbrev pub EndsInputs : {E : Type 0} → (E → ℕ) → Option Files → (List ℕ → ℕ) → (List ℕ → ℕ) → List Name → List I → List E → ℕ → InputEnd → Type 0
   EndsInputs faults files before now names inputs srcs k input_end.NoMemory = k < length inputs
   EndsInputs faults files before now names inputs srcs k input_end.Failed =
       (k < length inputs) × HasFailed faults before now names srcs k × HaveHeads name head files inputs k

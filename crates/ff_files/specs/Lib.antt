@@ -1,4 +1,5 @@
 pub mod Names
+pub mod Targets
 pub mod There
 pub mod Counts
 pub mod Hosts

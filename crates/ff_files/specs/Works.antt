@@ -1,10 +1,10 @@
 -- What is done between the opening and the closing, and what an output holds by it.
-use Rattle.std.specs.Prelude.{◌≡◌, ◌⊎◌, ⊤, ℕ, ◌<◌, ◌≤◌, List, [], ◌++◌, length, map, slice_index_or, Option, Some, None, IsSome, Ok, Err}
+use Rattle.std.specs.Prelude.{◌≡◌, ◌⊎◌, ⊤, ℕ, ◌<◌, ◌≤◌, List, [], ◌++◌, length, map, slice_index_or, Option, Some, None, IsSome, IfSome, Ok, Err}
 use Rattle.std.specs.Io.KnownBytes.{Appends}
 use Rattle.ff_host.specs.Causes.{Rose}
 use Rattle.ff_host.specs.Files.{Files, bytes_at}
 use Rattle.ff_reader.specs.Heads.{Found}
-use Rattle.ff_files.specs.Names.{name_at, names_of}
+use Rattle.ff_files.specs.Names.{Name, name_at, files_of}
 use Rattle.ff_files.specs.Heads.{Heads, heads_of}
 use Rattle.ff_files.specs.declared.work.WorkEnd.{WorkEnd}
 use Rattle.ff_files.specs.declared.work.WorkEnd.TheVariants as work_end
@@ -23,20 +23,20 @@ pub record Meaning (H R F : Type 0) : Type 1 where
   -- inputs below this number come before the fault: a failure of theirs is the end, and not this
   pub comes_after : F → ℕ
 
--- a command over files: its inputs, each with its name and what its head is, the names of the files that it writes, of which the
--- first so many are its outputs and one more may be its trace, and the work between
+-- a command over files: its inputs, each with its name and what its head is, the names of what it writes, of which the first so many
+-- are its outputs, where these are files, and one more may be its trace, and the work between
 pub record Command (I H R F : Type 0) : Type 1 where
   pub name : I → List ℕ
   pub head : I → List ℕ → Found H
   pub inputs : List I
-  pub outputs : List (List ℕ)
+  pub outputs : List Name
   pub count : ℕ
   pub means : Meaning H R F
 
 -- the command over these inputs and these files to write
-abbrev pub command_of : {I N H R F : Type 0} → (I → List ℕ) → (I → List ℕ → Found H) → (N → List ℕ) → List I → List N → ℕ → Meaning H R F → Command I H R F
+abbrev pub command_of : {I N H R F : Type 0} → (I → List ℕ) → (I → List ℕ → Found H) → (N → Name) → List I → List N → ℕ → Meaning H R F → Command I H R F
 command_of name head name_out inputs outputs count means =
-    record { name = name; head = head; inputs = inputs; outputs = names_of name_out outputs; count = count; means = means }
+    record { name = name; head = head; inputs = inputs; outputs = files_of name_out outputs; count = count; means = means }
 
 -- each source tells that these bytes are left, and each sink that it holds nothing
 pub record AreTold {S K : Type 0} (left : S → Option (List ℕ)) (holds : K → Option (List ℕ)) (srcs : List S) (snks : List K) (bytes : List (List ℕ)) : Type 0 where
@@ -142,7 +142,7 @@ module _ {I H R F : Type 0} (command : Command I H R F) where
 
   -- the bytes of the inputs, by number; a name that isn't there stands for an empty file
   abbrev pub all_bytes : Files → List (List ℕ)
-  all_bytes files = map (bytes_at files) (names_of command.name command.inputs)
+  all_bytes files = map (λ (input : I). bytes_at files (command.name input)) command.inputs
 
   -- the bytes of an output, by its number; None where an input has no head, there is no plan, or the run breaks off
   abbrev pub meaning : Files → ℕ → Option (List ℕ)
@@ -152,18 +152,22 @@ module _ {I H R F : Type 0} (command : Command I H R F) where
   abbrev pub written : Files → ℕ → Option (List ℕ)
   written files j = text_of command.means (all_heads files) (all_bytes files) j
 
-  -- each output holds its bytes, and there are some
+  -- each output has its bytes, and where it is a file it holds these
   abbrev pub HoldMeaning : Option Files → Option Files → Type 0
   HoldMeaning (Some before) (Some after) = (j : ℕ) → j < command.count
-      → IsSome (meaning before j) × (after (name_at command.outputs j) ≡ meaning before j)
+      → IsSome (meaning before j) × IfSome (name_at command.outputs j) (λ name. after name ≡ meaning before j)
   HoldMeaning before after = ⊤
 
-  -- each output is as it was, or holds a front of what is written to it, or its bytes
+  -- this file, of this output, is as it was, or holds a front of what is written to it, or its bytes
+  abbrev pub HoldsWritten : Files → Files → ℕ → List ℕ → Type 0
+  HoldsWritten before after j name =
+      (after name ≡ before name)
+      ⊎ ((front rest : List ℕ) × (after name ≡ Some front) × (written before j ≡ Some (front ++ rest)))
+      ⊎ (IsSome (meaning before j) × (after name ≡ meaning before j))
+
+  -- each output that is a file does so
   abbrev pub HoldWritten : Option Files → Option Files → Type 0
-  HoldWritten (Some before) (Some after) = (j : ℕ) → j < command.count
-      → (after (name_at command.outputs j) ≡ before (name_at command.outputs j))
-      ⊎ ((front rest : List ℕ) × (after (name_at command.outputs j) ≡ Some front) × (written before j ≡ Some (front ++ rest)))
-      ⊎ (IsSome (meaning before j) × (after (name_at command.outputs j) ≡ meaning before j))
+  HoldWritten (Some before) (Some after) = (j : ℕ) → j < command.count → IfSome (name_at command.outputs j) (HoldsWritten before after j)
   HoldWritten before after = ⊤
 
   -- these are the heads of all inputs, where the files are told
@@ -178,5 +182,6 @@ module _ {I H R F : Type 0} (command : Command I H R F) where
 
   -- each file behind the outputs holds this text
   abbrev pub HoldTrace : List ℕ → Option Files → Option Files → Type 0
-  HoldTrace text (Some before) (Some after) = (j : ℕ) → command.count ≤ j → j < length command.outputs → after (name_at command.outputs j) ≡ Some text
+  HoldTrace text (Some before) (Some after) = (j : ℕ) → command.count ≤ j → j < length command.outputs
+      → IfSome (name_at command.outputs j) (λ name. after name ≡ Some text)
   HoldTrace text before after = ⊤

@@ -1,9 +1,10 @@
 //! The inputs and the outputs of a job: their names, and how the heads of the inputs are read.
+ghost use Rattle.ff_words.specs.Words.{output_file};
 ghost use Rattle.ff_input.specs.Formats.{IsHead, input_head};
 ghost use Rattle.ff_input.specs.Places.{Reached};
 
 use crate::head::InputFile;
-use crate::named::Named;
+use crate::named::{Named, OutputFile};
 use ff_frame::HeadEnd;
 use ff_input::{InputHead, InputWalk};
 use ff_words::{InputJob, OutputJob};
@@ -16,11 +17,15 @@ impl Named for InputJob {
     }
 }
 
-impl Named for OutputJob {
-    ghost name_text = { λ job. job.name };
+impl OutputFile for OutputJob {
+    ghost file_name = { output_file };
 
-    fn name(&self) -> &str {
-        self.name.as_str()
+    fn file(&self) -> Option<&str> {
+        if self.format.has_file() {
+            Some(self.name.as_str())
+        } else {
+            None
+        }
     }
 }
 

@@ -1,21 +1,33 @@
 //! Which outputs are there already.
-ghost use Rattle.std.specs.Prelude.{◌≡◌, ◌<◌, ◌^◌, ℕ, length, Some, None, Ok};
-ghost use Rattle.ff_files.specs.Names.{names_of};
-ghost use Rattle.ff_files.specs.There.{AreFree, IsFirstThere};
+ghost use Rattle.std.specs.Prelude.{◌≡◌, ◌<◌, ◌^◌, ℕ, length, Some, None, Ok, true, false, option_copied};
+ghost use Rattle.ff_files.specs.Names.{files_of};
+ghost use Rattle.ff_files.specs.There.{AreFree, IsFirstThere, IsFreeOf, IsThere};
 
-use crate::named::{Named, name_at};
+use crate::named::{OutputFile, file_at};
 use ff_host::Host;
 use std::alloc::AllocError;
 
-/// The number of the first of these files that is there, or None where none is. Refused for want of memory alone.
-#[tactic(auto, using(crate::proofs::Free::free_next, crate::proofs::Free::there_now))]
-pub fn first_there<H: Host, N: Named>(host: &H, files: &[N]) -> Result<Option<u32>, AllocError>
+// Whether a file of this name is there; without a name there is none.
+#[tactic(auto, using(crate::proofs::Free::there_told, crate::proofs::Free::free_told))]
+fn is_there<H: Host>(host: &H, name: Option<&str>) -> Result<bool, AllocError>
+    ensures there { result ≡ Ok true → IsThere (H.files host.now) (option_copied name.entry) }
+    ensures free { result ≡ Ok false → IsFreeOf (H.files host.now) (option_copied name.entry) }
+{
+    match name {
+        None => Ok(false),
+        Some(name) => host.exists(name),
+    }
+}
+
+/// The number of the first of these outputs whose file is there, or None where none is. Refused for want of memory alone.
+#[tactic(auto, using(crate::proofs::Free::free_next))]
+pub fn first_there<H: Host, N: OutputFile>(host: &H, files: &[N]) -> Result<Option<u32>, AllocError>
     requires few { length files.now < 2 ^ 32 }
-    ensures first { (k : ℕ) → result ≡ Ok (Some k) → IsFirstThere (H.files host.now) (names_of N.name_text files.now) k }
-    ensures free { result ≡ Ok None → AreFree (H.files host.now) (names_of N.name_text files.now) (length files.now) }
+    ensures first { (k : ℕ) → result ≡ Ok (Some k) → IsFirstThere (H.files host.now) (files_of N.file_name files.now) k }
+    ensures free { result ≡ Ok None → AreFree (H.files host.now) (files_of N.file_name files.now) (length files.now) }
 {
     for k in 0..files.len() {
-        if host.exists(name_at(files, k))? {
+        if is_there(host, file_at(files, k))? {
             return Ok(Some(k as u32));
         }
     }

@@ -3,7 +3,7 @@ ghost use Rattle.std.specs.Prelude.{◌≡◌, ◌⊎◌, Option, Some, None, �
 ghost use Rattle.std.specs.List.{All};
 ghost use Rattle.ff_host.specs.Files.{Files, KeepsFiles};
 ghost use Rattle.ff_reader.specs.declared.fault.HeadFault.{HeadFault};
-ghost use Rattle.ff_files.specs.Names.{names_of, AreApart, KeepsAllBut};
+ghost use Rattle.ff_files.specs.Names.{names_of, files_of, AreApart, KeepsAllBut};
 ghost use Rattle.ff_files.specs.Counts.{counted, Faulted, KeepsCounts, AreUnfailed};
 ghost use Rattle.ff_files.specs.Hosts.{AreOpen};
 ghost use Rattle.ff_files.specs.Inputs.{AreBegun};
@@ -15,8 +15,9 @@ use crate::closing::{close_all, close_sources};
 use crate::end::{Outcome, RunEnd, end_of, end_of_output, end_of_plan, end_with};
 use crate::head::InputFile;
 use crate::inputs::{InputRefusal, open_inputs};
-use crate::named::Named;
+use crate::named::OutputFile;
 use crate::outputs::{OutputRefusal, create_outputs};
+use crate::target::Target;
 use crate::trace::run_traced;
 use crate::work::{Done, Work};
 use ff_host::{Begun, Host, Source};
@@ -43,7 +44,12 @@ fn out_of_memory<R: Drop, F: Copy, L: Drop>() -> Outcome<R, F, L>
 }
 
 // Creates the outputs, runs the plan, and closes all, over inputs that have their heads.
-fn write_outputs<H: Host, I: InputFile, N: Named, W: Work<I::Head, Begun<H::Src>, H::Snk>>(
+fn write_outputs<
+    H: Host,
+    I: InputFile,
+    N: OutputFile,
+    W: Work<I::Head, Begun<H::Src>, Target<H::Snk>>,
+>(
     alloc: Global,
     host: &mut H,
     inputs: &[I],
@@ -53,12 +59,12 @@ fn write_outputs<H: Host, I: InputFile, N: Named, W: Work<I::Head, Begun<H::Src>
     plan: W::Plan,
     heads: &[I::Head],
     srcs: Vec<Begun<H::Src>>,
-    mut snks: Vec<H::Snk>,
-    room: Vec<H::Snk>,
+    mut snks: Vec<Target<H::Snk>>,
+    room: Vec<Target<H::Snk>>,
 ) -> Outcome<W::Refusal, W::Fault, W::Log>
     requires few { length outputs.now < 2 ^ 32 }
     requires count { (count ≤ length outputs.now) × (length outputs.now ≤ count + 1) }
-    requires apart { AreApart (names_of N.name_text outputs.now) }
+    requires apart { AreApart (files_of N.file_name outputs.now) }
     requires plan { W.is_plan work.now heads.now plan }
     requires planned { (W.means work.now).refusal heads.now ≡ None }
     requires own { AreOpen H.opened ⟦<Begun<H::Src> as Source>⟧.name host.old (names_of I.name_text inputs.now) srcs.items }
@@ -68,31 +74,31 @@ fn write_outputs<H: Host, I: InputFile, N: Named, W: Work<I::Head, Begun<H::Src>
     requires room { (room.items ≡ []) × (length outputs.now ≤ vec_capacity room) }
     ensures bytes { result.end ≡ RunEnd.Fine → (before : Option Files) → KeepsFiles before (H.files host.old)
         → AreBegun I.name_text I.head ⟦<Begun<H::Src> as Source>⟧.left before inputs.now srcs.items heads.now
-        → HoldMeaning (command_of I.name_text I.head N.name_text inputs.now outputs.now count (W.means work.now)) before (H.files host.new) }
+        → HoldMeaning (command_of I.name_text I.head N.file_name inputs.now outputs.now count (W.means work.now)) before (H.files host.new) }
     ensures front { (before : Option Files) → KeepsFiles before (H.files host.old)
         → AreBegun I.name_text I.head ⟦<Begun<H::Src> as Source>⟧.left before inputs.now srcs.items heads.now
-        → HoldWritten (command_of I.name_text I.head N.name_text inputs.now outputs.now count (W.means work.now)) before (H.files host.new) }
-    ensures others { KeepsAllBut (H.files host.old) (H.files host.new) (names_of N.name_text outputs.now) (length outputs.now) }
+        → HoldWritten (command_of I.name_text I.head N.file_name inputs.now outputs.now count (W.means work.now)) before (H.files host.new) }
+    ensures others { KeepsAllBut (H.files host.old) (H.files host.new) (files_of N.file_name outputs.now) (length outputs.now) }
     ensures ends { (before : Option Files) → KeepsFiles before (H.files host.old)
         → AreBegun I.name_text I.head ⟦<Begun<H::Src> as Source>⟧.left before inputs.now srcs.items heads.now
-        → Ends (command_of I.name_text I.head N.name_text inputs.now outputs.now count (W.means work.now)) before
+        → Ends (command_of I.name_text I.head N.file_name inputs.now outputs.now count (W.means work.now)) before
         (counted H.in_faults host.old host.new) (counted H.out_faults host.old host.new) result.end }
     ensures not_before { ComesBeforeOutputs result.end → ⊥ }
     ensures in_counts { KeepsCounts (H.in_faults host.old) (H.in_faults host.new) (names_of I.name_text inputs.now)
-        (sound_inputs (command_of I.name_text I.head N.name_text inputs.now outputs.now count (W.means work.now)) result.end) }
-    ensures out_counts { KeepsCounts (H.out_faults host.old) (H.out_faults host.new) (names_of N.name_text outputs.now)
-        (sound_outputs (command_of I.name_text I.head N.name_text inputs.now outputs.now count (W.means work.now)) result.end) }
+        (sound_inputs (command_of I.name_text I.head N.file_name inputs.now outputs.now count (W.means work.now)) result.end) }
+    ensures out_counts { KeepsCounts (H.out_faults host.old) (H.out_faults host.new) (files_of N.file_name outputs.now)
+        (sound_outputs (command_of I.name_text I.head N.file_name inputs.now outputs.now count (W.means work.now)) result.end) }
     ensures logged { result.end ≡ RunEnd.Fine → (before : Option Files) → KeepsFiles before (H.files host.old)
         → AreBegun I.name_text I.head ⟦<Begun<H::Src> as Source>⟧.left before inputs.now srcs.items heads.now
-        → HasLog (W.tells work.now heads.now (told_bytes (command_of I.name_text I.head N.name_text inputs.now outputs.now count (W.means work.now)) before)) result.log }
+        → HasLog (W.tells work.now heads.now (told_bytes (command_of I.name_text I.head N.file_name inputs.now outputs.now count (W.means work.now)) before)) result.log }
     ensures traced { result.end ≡ RunEnd.Fine → (before : Option Files) → KeepsFiles before (H.files host.old) → IfSome result.log (λ log. HoldTrace
-        (command_of I.name_text I.head N.name_text inputs.now outputs.now count (W.means work.now)) (W.printed log) before (H.files host.new)) }
+        (command_of I.name_text I.head N.file_name inputs.now outputs.now count (W.means work.now)) (W.printed log) before (H.files host.new)) }
     ensures created { CreatesOutputs (H.created host.new) (H.files host.old) (H.files host.new)
-        (counted H.out_faults host.old host.new) (names_of N.name_text outputs.now) (λ k why. result.end ≡ end_by_output k why) }
+        (counted H.out_faults host.old host.new) (files_of N.file_name outputs.now) (λ k why. result.end ≡ end_by_output k why) }
     ensures open_sources { H.open_sources host.new ≡ H.open_sources host.old - vec_len srcs }
     ensures open_sinks { H.open_sinks host.new ≡ H.open_sinks host.old }
 {
-    match create_outputs(host, outputs, &mut snks) {
+    match create_outputs(alloc, host, outputs, &mut snks) {
         Err(OutputRefusal { output, end }) => {
             close_all(host, inputs, outputs, srcs, snks);
             Outcome {
@@ -117,7 +123,12 @@ fn write_outputs<H: Host, I: InputFile, N: Named, W: Work<I::Head, Begun<H::Src>
 }
 
 // Plans by the heads, and goes on with the outputs, over inputs that have their heads.
-fn plan_outputs<H: Host, I: InputFile, N: Named, W: Work<I::Head, Begun<H::Src>, H::Snk>>(
+fn plan_outputs<
+    H: Host,
+    I: InputFile,
+    N: OutputFile,
+    W: Work<I::Head, Begun<H::Src>, Target<H::Snk>>,
+>(
     alloc: Global,
     host: &mut H,
     inputs: &[I],
@@ -126,12 +137,12 @@ fn plan_outputs<H: Host, I: InputFile, N: Named, W: Work<I::Head, Begun<H::Src>,
     work: &W,
     heads: &[I::Head],
     srcs: Vec<Begun<H::Src>>,
-    snks: Vec<H::Snk>,
-    room: Vec<H::Snk>,
+    snks: Vec<Target<H::Snk>>,
+    room: Vec<Target<H::Snk>>,
 ) -> Outcome<W::Refusal, W::Fault, W::Log>
     requires few { length outputs.now < 2 ^ 32 }
     requires count { (count ≤ length outputs.now) × (length outputs.now ≤ count + 1) }
-    requires apart { AreApart (names_of N.name_text outputs.now) }
+    requires apart { AreApart (files_of N.file_name outputs.now) }
     requires heads { W.accepts work.now heads.now }
     requires own { AreOpen H.opened ⟦<Begun<H::Src> as Source>⟧.name host.old (names_of I.name_text inputs.now) srcs.items }
     requires many { length srcs.items ≡ length inputs.now }
@@ -140,27 +151,27 @@ fn plan_outputs<H: Host, I: InputFile, N: Named, W: Work<I::Head, Begun<H::Src>,
     requires room { (room.items ≡ []) × (length outputs.now ≤ vec_capacity room) }
     ensures bytes { result.end ≡ RunEnd.Fine → (before : Option Files) → KeepsFiles before (H.files host.old)
         → AreBegun I.name_text I.head ⟦<Begun<H::Src> as Source>⟧.left before inputs.now srcs.items heads.now
-        → HoldMeaning (command_of I.name_text I.head N.name_text inputs.now outputs.now count (W.means work.now)) before (H.files host.new) }
+        → HoldMeaning (command_of I.name_text I.head N.file_name inputs.now outputs.now count (W.means work.now)) before (H.files host.new) }
     ensures front { (before : Option Files) → KeepsFiles before (H.files host.old)
         → AreBegun I.name_text I.head ⟦<Begun<H::Src> as Source>⟧.left before inputs.now srcs.items heads.now
-        → HoldWritten (command_of I.name_text I.head N.name_text inputs.now outputs.now count (W.means work.now)) before (H.files host.new) }
-    ensures others { KeepsAllBut (H.files host.old) (H.files host.new) (names_of N.name_text outputs.now) (length outputs.now) }
+        → HoldWritten (command_of I.name_text I.head N.file_name inputs.now outputs.now count (W.means work.now)) before (H.files host.new) }
+    ensures others { KeepsAllBut (H.files host.old) (H.files host.new) (files_of N.file_name outputs.now) (length outputs.now) }
     ensures untouched { ComesBeforeOutputs result.end → KeepsFiles (H.files host.old) (H.files host.new) }
     ensures ends { (before : Option Files) → KeepsFiles before (H.files host.old)
         → AreBegun I.name_text I.head ⟦<Begun<H::Src> as Source>⟧.left before inputs.now srcs.items heads.now
-        → Ends (command_of I.name_text I.head N.name_text inputs.now outputs.now count (W.means work.now)) before
+        → Ends (command_of I.name_text I.head N.file_name inputs.now outputs.now count (W.means work.now)) before
         (counted H.in_faults host.old host.new) (counted H.out_faults host.old host.new) result.end }
     ensures in_counts { KeepsCounts (H.in_faults host.old) (H.in_faults host.new) (names_of I.name_text inputs.now)
-        (sound_inputs (command_of I.name_text I.head N.name_text inputs.now outputs.now count (W.means work.now)) result.end) }
-    ensures out_counts { KeepsCounts (H.out_faults host.old) (H.out_faults host.new) (names_of N.name_text outputs.now)
-        (sound_outputs (command_of I.name_text I.head N.name_text inputs.now outputs.now count (W.means work.now)) result.end) }
+        (sound_inputs (command_of I.name_text I.head N.file_name inputs.now outputs.now count (W.means work.now)) result.end) }
+    ensures out_counts { KeepsCounts (H.out_faults host.old) (H.out_faults host.new) (files_of N.file_name outputs.now)
+        (sound_outputs (command_of I.name_text I.head N.file_name inputs.now outputs.now count (W.means work.now)) result.end) }
     ensures logged { result.end ≡ RunEnd.Fine → (before : Option Files) → KeepsFiles before (H.files host.old)
         → AreBegun I.name_text I.head ⟦<Begun<H::Src> as Source>⟧.left before inputs.now srcs.items heads.now
-        → HasLog (W.tells work.now heads.now (told_bytes (command_of I.name_text I.head N.name_text inputs.now outputs.now count (W.means work.now)) before)) result.log }
+        → HasLog (W.tells work.now heads.now (told_bytes (command_of I.name_text I.head N.file_name inputs.now outputs.now count (W.means work.now)) before)) result.log }
     ensures traced { result.end ≡ RunEnd.Fine → (before : Option Files) → KeepsFiles before (H.files host.old) → IfSome result.log (λ log. HoldTrace
-        (command_of I.name_text I.head N.name_text inputs.now outputs.now count (W.means work.now)) (W.printed log) before (H.files host.new)) }
+        (command_of I.name_text I.head N.file_name inputs.now outputs.now count (W.means work.now)) (W.printed log) before (H.files host.new)) }
     ensures created { CreatesOutputs (H.created host.new) (H.files host.old) (H.files host.new)
-        (counted H.out_faults host.old host.new) (names_of N.name_text outputs.now) (λ k why. result.end ≡ end_by_output k why) }
+        (counted H.out_faults host.old host.new) (files_of N.file_name outputs.now) (λ k why. result.end ≡ end_by_output k why) }
     ensures open_sources { H.open_sources host.new ≡ H.open_sources host.old - vec_len srcs }
     ensures open_sinks { H.open_sinks host.new ≡ H.open_sinks host.old }
 {
@@ -179,7 +190,7 @@ fn plan_outputs<H: Host, I: InputFile, N: Named, W: Work<I::Head, Begun<H::Src>,
 }
 
 // The same from the names on, without what follows of how it ends.
-fn run_files<H: Host, I: InputFile, N: Named, W: Work<I::Head, Begun<H::Src>, H::Snk>>(
+fn run_files<H: Host, I: InputFile, N: OutputFile, W: Work<I::Head, Begun<H::Src>, Target<H::Snk>>>(
     alloc: Global,
     host: &mut H,
     inputs: &[I],
@@ -190,26 +201,26 @@ fn run_files<H: Host, I: InputFile, N: Named, W: Work<I::Head, Begun<H::Src>, H:
     requires few_inputs { length inputs.now < 2 ^ 32 }
     requires few_outputs { length outputs.now < 2 ^ 32 }
     requires count { (count ≤ length outputs.now) × (length outputs.now ≤ count + 1) }
-    requires apart { AreApart (names_of N.name_text outputs.now) }
+    requires apart { AreApart (files_of N.file_name outputs.now) }
     requires accepts { (heads : List I.Head) → length heads ≡ length inputs.now → All I.is_sound heads → W.accepts work.now heads }
     ensures bytes { result.end ≡ RunEnd.Fine
-        → HoldMeaning (command_of I.name_text I.head N.name_text inputs.now outputs.now count (W.means work.now)) (H.files host.old) (H.files host.new) }
-    ensures front { HoldWritten (command_of I.name_text I.head N.name_text inputs.now outputs.now count (W.means work.now)) (H.files host.old) (H.files host.new) }
-    ensures others { KeepsAllBut (H.files host.old) (H.files host.new) (names_of N.name_text outputs.now) (length outputs.now) }
+        → HoldMeaning (command_of I.name_text I.head N.file_name inputs.now outputs.now count (W.means work.now)) (H.files host.old) (H.files host.new) }
+    ensures front { HoldWritten (command_of I.name_text I.head N.file_name inputs.now outputs.now count (W.means work.now)) (H.files host.old) (H.files host.new) }
+    ensures others { KeepsAllBut (H.files host.old) (H.files host.new) (files_of N.file_name outputs.now) (length outputs.now) }
     ensures untouched { ComesBeforeOutputs result.end → KeepsFiles (H.files host.old) (H.files host.new) }
-    ensures ends { Ends (command_of I.name_text I.head N.name_text inputs.now outputs.now count (W.means work.now)) (H.files host.old)
+    ensures ends { Ends (command_of I.name_text I.head N.file_name inputs.now outputs.now count (W.means work.now)) (H.files host.old)
         (counted H.in_faults host.old host.new) (counted H.out_faults host.old host.new) result.end }
     ensures in_counts { KeepsCounts (H.in_faults host.old) (H.in_faults host.new) (names_of I.name_text inputs.now)
-        (sound_inputs (command_of I.name_text I.head N.name_text inputs.now outputs.now count (W.means work.now)) result.end) }
-    ensures out_counts { KeepsCounts (H.out_faults host.old) (H.out_faults host.new) (names_of N.name_text outputs.now)
-        (sound_outputs (command_of I.name_text I.head N.name_text inputs.now outputs.now count (W.means work.now)) result.end) }
+        (sound_inputs (command_of I.name_text I.head N.file_name inputs.now outputs.now count (W.means work.now)) result.end) }
+    ensures out_counts { KeepsCounts (H.out_faults host.old) (H.out_faults host.new) (files_of N.file_name outputs.now)
+        (sound_outputs (command_of I.name_text I.head N.file_name inputs.now outputs.now count (W.means work.now)) result.end) }
     ensures logged { result.end ≡ RunEnd.Fine → HasLog (λ log. (heads : List I.Head)
-        × AreHeadsIn (command_of I.name_text I.head N.name_text inputs.now outputs.now count (W.means work.now)) (H.files host.old) heads
-        × W.tells work.now heads (told_bytes (command_of I.name_text I.head N.name_text inputs.now outputs.now count (W.means work.now)) (H.files host.old)) log) result.log }
+        × AreHeadsIn (command_of I.name_text I.head N.file_name inputs.now outputs.now count (W.means work.now)) (H.files host.old) heads
+        × W.tells work.now heads (told_bytes (command_of I.name_text I.head N.file_name inputs.now outputs.now count (W.means work.now)) (H.files host.old)) log) result.log }
     ensures traced { result.end ≡ RunEnd.Fine → IfSome result.log (λ log. HoldTrace
-        (command_of I.name_text I.head N.name_text inputs.now outputs.now count (W.means work.now)) (W.printed log) (H.files host.old) (H.files host.new)) }
+        (command_of I.name_text I.head N.file_name inputs.now outputs.now count (W.means work.now)) (W.printed log) (H.files host.old) (H.files host.new)) }
     ensures created { CreatesOutputs (H.created host.new) (H.files host.old) (H.files host.new)
-        (counted H.out_faults host.old host.new) (names_of N.name_text outputs.now) (λ k why. result.end ≡ end_by_output k why) }
+        (counted H.out_faults host.old host.new) (files_of N.file_name outputs.now) (λ k why. result.end ≡ end_by_output k why) }
     ensures closed { (H.open_sources host.new ≡ H.open_sources host.old) × (H.open_sinks host.new ≡ H.open_sinks host.old) }
 {
     let Ok(mut srcs) = room_for(alloc, inputs.len()) else {
@@ -247,7 +258,12 @@ fn run_files<H: Host, I: InputFile, N: Named, W: Work<I::Head, Begun<H::Src>, H:
 ///
 /// So many of the outputs are the work's. One more may stand after them, the trace. It is created last, gets what the
 /// run has logged in one append where all was done, and is closed last.
-pub fn over_files<H: Host, I: InputFile, N: Named, W: Work<I::Head, Begun<H::Src>, H::Snk>>(
+pub fn over_files<
+    H: Host,
+    I: InputFile,
+    N: OutputFile,
+    W: Work<I::Head, Begun<H::Src>, Target<H::Snk>>,
+>(
     alloc: Global,
     host: &mut H,
     inputs: &[I],
@@ -258,42 +274,42 @@ pub fn over_files<H: Host, I: InputFile, N: Named, W: Work<I::Head, Begun<H::Src
     requires few_inputs { length inputs.now < 2 ^ 32 }
     requires few_outputs { length outputs.now < 2 ^ 32 }
     requires count { (count ≤ length outputs.now) × (length outputs.now ≤ count + 1) }
-    requires apart { AreApart (names_of N.name_text outputs.now) }
+    requires apart { AreApart (files_of N.file_name outputs.now) }
     requires accepts { (heads : List I.Head) → length heads ≡ length inputs.now → All I.is_sound heads → W.accepts work.now heads }
     ensures bytes { result.end ≡ RunEnd.Fine
-        → HoldMeaning (command_of I.name_text I.head N.name_text inputs.now outputs.now count (W.means work.now)) (H.files host.old) (H.files host.new) }
-    ensures front { HoldWritten (command_of I.name_text I.head N.name_text inputs.now outputs.now count (W.means work.now)) (H.files host.old) (H.files host.new) }
-    ensures others { KeepsAllBut (H.files host.old) (H.files host.new) (names_of N.name_text outputs.now) (length outputs.now) }
+        → HoldMeaning (command_of I.name_text I.head N.file_name inputs.now outputs.now count (W.means work.now)) (H.files host.old) (H.files host.new) }
+    ensures front { HoldWritten (command_of I.name_text I.head N.file_name inputs.now outputs.now count (W.means work.now)) (H.files host.old) (H.files host.new) }
+    ensures others { KeepsAllBut (H.files host.old) (H.files host.new) (files_of N.file_name outputs.now) (length outputs.now) }
     ensures untouched { ComesBeforeOutputs result.end → KeepsFiles (H.files host.old) (H.files host.new) }
-    ensures ends { Ends (command_of I.name_text I.head N.name_text inputs.now outputs.now count (W.means work.now)) (H.files host.old)
+    ensures ends { Ends (command_of I.name_text I.head N.file_name inputs.now outputs.now count (W.means work.now)) (H.files host.old)
         (counted H.in_faults host.old host.new) (counted H.out_faults host.old host.new) result.end }
     ensures in_counts { KeepsCounts (H.in_faults host.old) (H.in_faults host.new) (names_of I.name_text inputs.now)
-        (sound_inputs (command_of I.name_text I.head N.name_text inputs.now outputs.now count (W.means work.now)) result.end) }
-    ensures out_counts { KeepsCounts (H.out_faults host.old) (H.out_faults host.new) (names_of N.name_text outputs.now)
-        (sound_outputs (command_of I.name_text I.head N.name_text inputs.now outputs.now count (W.means work.now)) result.end) }
+        (sound_inputs (command_of I.name_text I.head N.file_name inputs.now outputs.now count (W.means work.now)) result.end) }
+    ensures out_counts { KeepsCounts (H.out_faults host.old) (H.out_faults host.new) (files_of N.file_name outputs.now)
+        (sound_outputs (command_of I.name_text I.head N.file_name inputs.now outputs.now count (W.means work.now)) result.end) }
     ensures logged { result.end ≡ RunEnd.Fine → HasLog (λ log. (heads : List I.Head)
-        × AreHeadsIn (command_of I.name_text I.head N.name_text inputs.now outputs.now count (W.means work.now)) (H.files host.old) heads
-        × W.tells work.now heads (told_bytes (command_of I.name_text I.head N.name_text inputs.now outputs.now count (W.means work.now)) (H.files host.old)) log) result.log }
+        × AreHeadsIn (command_of I.name_text I.head N.file_name inputs.now outputs.now count (W.means work.now)) (H.files host.old) heads
+        × W.tells work.now heads (told_bytes (command_of I.name_text I.head N.file_name inputs.now outputs.now count (W.means work.now)) (H.files host.old)) log) result.log }
     ensures traced { result.end ≡ RunEnd.Fine → IfSome result.log (λ log. HoldTrace
-        (command_of I.name_text I.head N.name_text inputs.now outputs.now count (W.means work.now)) (W.printed log) (H.files host.old) (H.files host.new)) }
+        (command_of I.name_text I.head N.file_name inputs.now outputs.now count (W.means work.now)) (W.printed log) (H.files host.old) (H.files host.new)) }
     // No output is created before all inputs have heads and a plan. Where one can't be, that is the end, whatever a closing does.
     ensures created { CreatesOutputs (H.created host.new) (H.files host.old) (H.files host.new)
-        (counted H.out_faults host.old host.new) (names_of N.name_text outputs.now) (λ k why. result.end ≡ end_by_output k why) }
+        (counted H.out_faults host.old host.new) (files_of N.file_name outputs.now) (λ k why. result.end ≡ end_by_output k why) }
     ensures closed { (H.open_sources host.new ≡ H.open_sources host.old) × (H.open_sinks host.new ≡ H.open_sinks host.old) }
     // An input is refused exactly where it is the first whose head is, unless it or one before it couldn't be opened or read.
     ensures refused { (k : ℕ) (why : HeadFault)
-        → IsFirstRefused (command_of I.name_text I.head N.name_text inputs.now outputs.now count (W.means work.now)) (H.files host.old) k why
+        → IsFirstRefused (command_of I.name_text I.head N.file_name inputs.now outputs.now count (W.means work.now)) (H.files host.old) k why
         → ((i : ℕ) → i ≤ k → Faulted (counted H.in_faults host.old host.new) (names_of I.name_text inputs.now) i → ⊥)
         → (result.end ≡ refusal k why) ⊎ (result.end ≡ RunEnd.NoMemory) }
     // The plan is refused exactly where the heads give none, unless an input couldn't be opened or read.
     ensures no_plan { (why : W.Refusal)
-        → HasNoPlan (command_of I.name_text I.head N.name_text inputs.now outputs.now count (W.means work.now)) (H.files host.old) why
+        → HasNoPlan (command_of I.name_text I.head N.file_name inputs.now outputs.now count (W.means work.now)) (H.files host.old) why
         → ((i : ℕ) → Faulted (counted H.in_faults host.old host.new) (names_of I.name_text inputs.now) i → ⊥)
         → (result.end ≡ RunEnd.Refused why) ⊎ (result.end ≡ RunEnd.NoMemory) }
     // Nothing else keeps it from being done.
-    ensures complete { CanBeDone (command_of I.name_text I.head N.name_text inputs.now outputs.now count (W.means work.now)) (H.files host.old)
+    ensures complete { CanBeDone (command_of I.name_text I.head N.file_name inputs.now outputs.now count (W.means work.now)) (H.files host.old)
         → ((i : ℕ) → Faulted (counted H.in_faults host.old host.new) (names_of I.name_text inputs.now) i → ⊥)
-        → ((j : ℕ) → Faulted (counted H.out_faults host.old host.new) (names_of N.name_text outputs.now) j → ⊥)
+        → ((j : ℕ) → Faulted (counted H.out_faults host.old host.new) (files_of N.file_name outputs.now) j → ⊥)
         → (result.end ≡ RunEnd.Fine) ⊎ (result.end ≡ RunEnd.NoMemory) }
 {
     run_files(alloc, host, inputs, outputs, count, work)

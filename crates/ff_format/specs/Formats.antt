@@ -31,6 +31,7 @@ format_name format.Hash = codes "hash"
 format_name format.Md5 = codes "md5"
 format_name format.StreamHash = codes "streamhash"
 format_name format.Crc = codes "crc"
+format_name format.Null = codes "null"
 
 -- whether an input may have it
 abbrev pub is_read : FileFormat → Bool
@@ -45,6 +46,7 @@ is_read format.Hash = false
 is_read format.Md5 = false
 is_read format.StreamHash = false
 is_read format.Crc = false
+is_read format.Null = false
 
 -- each format with its name, how the names of its files end (empty where no ending tells it), and whether an input and an
 -- output may have it
@@ -61,6 +63,7 @@ file_formats =
     (format_name format.Md5, [], format.Md5, is_read format.Md5, true) ∷
     (format_name format.StreamHash, [], format.StreamHash, is_read format.StreamHash, true) ∷
     (format_name format.Crc, [], format.Crc, is_read format.Crc, true) ∷
+    (format_name format.Null, [], format.Null, is_read format.Null, true) ∷
     []
 
 -- the first line of this name
@@ -81,6 +84,7 @@ found format.Hash = ([], refl)
 found format.Md5 = ([], refl)
 found format.StreamHash = ([], refl)
 found format.Crc = ([], refl)
+found format.Null = ([], refl)
 
 pub short_name : (f : FileFormat) → length (format_name f) ≤ 32
 short_name format.Wav = omega arith
@@ -94,10 +98,11 @@ short_name format.Hash = omega arith
 short_name format.Md5 = omega arith
 short_name format.StreamHash = omega arith
 short_name format.Crc = omega arith
+short_name format.Null = omega arith
 
 -- ---- what an output takes: WAV linear PCM with the lowest byte first, unsigned where a sample has one byte and signed else, AU signed
 -- linear PCM with the highest byte first, FLAC what is coded so, YUV4MPEG2 pictures, each of one stream; digests any linear PCM and
--- pictures, of up to 16 streams
+-- pictures, of up to 16 streams, and so does null
 
 abbrev pub taken_by : FileFormat → Taken
 taken_by format.Wav = record { sound = PcmIn LittleEndian false; pictures = false; codec = codec.PcmS16le; streams = 1 }
@@ -111,6 +116,12 @@ taken_by format.Hash = record { sound = Pcm; pictures = true; codec = codec.PcmS
 taken_by format.Md5 = record { sound = Pcm; pictures = true; codec = codec.PcmS16le; streams = 16 }
 taken_by format.StreamHash = record { sound = Pcm; pictures = true; codec = codec.PcmS16le; streams = 16 }
 taken_by format.Crc = record { sound = Pcm; pictures = true; codec = codec.PcmS16le; streams = 16 }
+taken_by format.Null = record { sound = Pcm; pictures = true; codec = codec.PcmS16le; streams = 16 }
+
+-- whether an output of it is a file; what null takes goes nowhere
+abbrev pub has_file : FileFormat → Bool
+has_file format.Null = false
+has_file _ = true
 
 -- the digest where none is asked for, of a format that has one
 abbrev pub default_hash : FileFormat → HashKind

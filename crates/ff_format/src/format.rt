@@ -29,11 +29,13 @@ pub enum FileFormat {
     StreamHash,
     /// One Adler-32 sum of the bytes of all packets, for outputs alone.
     Crc,
+    /// Nothing: packets that are made and go nowhere, for outputs alone. It has no file.
+    Null,
 }
 
 /// The values of `-f`, each with how the names of such files end (empty where no ending tells). Beside them stands
 /// whether an input and an output may have it.
-pub static FORMATS: [(&'static str, &'static str, FileFormat, bool, bool); 11] = [
+pub static FORMATS: [(&'static str, &'static str, FileFormat, bool, bool); 12] = [
     ("wav", ".wav", FileFormat::Wav, true, true),
     ("au", ".au", FileFormat::Au, true, true),
     ("flac", ".flac", FileFormat::Flac, true, true),
@@ -45,6 +47,7 @@ pub static FORMATS: [(&'static str, &'static str, FileFormat, bool, bool); 11] =
     ("md5", "", FileFormat::Md5, false, true),
     ("streamhash", "", FileFormat::StreamHash, false, true),
     ("crc", "", FileFormat::Crc, false, true),
+    ("null", "", FileFormat::Null, false, true),
 ];
 
 /// Which audio an output takes, by how it is coded.
@@ -135,11 +138,11 @@ pub struct Taken {
 }
 
 impl FileFormat {
-    ghost use Rattle.ff_format.specs.Formats.{taken_by, default_hash};
+    ghost use Rattle.ff_format.specs.Formats.{taken_by, default_hash, has_file};
 
     /// What an output of it takes: WAV takes linear PCM with the lowest byte first, unsigned where a sample has one
     /// byte and signed else. AU takes signed linear PCM with the highest byte first. FLAC takes what is coded so,
-    /// YUV4MPEG2 video, each of one stream. Digests take any linear PCM and video, of up to 16 streams.
+    /// YUV4MPEG2 video, each of one stream. Digests and `Null` take any linear PCM and video, of up to 16 streams.
     pub fn taken(self) -> Taken
         ensures row { result ≡ taken_by self }
         ensures few { result.streams ≤ 16 }
@@ -181,12 +184,23 @@ impl FileFormat {
             | FileFormat::Hash
             | FileFormat::Md5
             | FileFormat::StreamHash
-            | FileFormat::Crc => Taken {
+            | FileFormat::Crc
+            | FileFormat::Null => Taken {
                 sound: SoundTaken::Pcm,
                 pictures: true,
                 codec: Codec::PcmS16le,
                 streams: 16,
             },
+        }
+    }
+
+    /// Whether an output of it is a file.
+    pub fn has_file(self) -> bool
+        ensures { result ≡ has_file self }
+    {
+        match self {
+            FileFormat::Null => false,
+            _ => true,
         }
     }
 

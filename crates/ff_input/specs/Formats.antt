@@ -65,6 +65,7 @@ head_in format.Hash bs = Err (Unsupported 0)
 head_in format.Md5 bs = Err (Unsupported 0)
 head_in format.StreamHash bs = Err (Unsupported 0)
 head_in format.Crc bs = Err (Unsupported 0)
+head_in format.Null bs = Err (Unsupported 0)
 
 -- what its inputs begin with: `RIFF` or `RF64`, any four bytes and `WAVE`; `YUV4MPEG2` and a space or a line feed; `fLaC`; `.snd`
 abbrev pub first_words : List Word

@@ -84,7 +84,8 @@ pub(crate) fn start_of(format: FileFormat) -> InputWalk
         | FileFormat::Hash
         | FileFormat::Md5
         | FileFormat::StreamHash
-        | FileFormat::Crc => InputWalk::Other,
+        | FileFormat::Crc
+        | FileFormat::Null => InputWalk::Other,
     }
 }
 

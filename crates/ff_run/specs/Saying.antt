@@ -3,6 +3,9 @@ use Rattle.std.specs.Prelude.{◌≡◌, ℕ, List, Option, None, Some, Result, 
 use Rattle.std.specs.Io.KnownBytes.{prepend_known}
 use Rattle.ff_host.specs.Begun.{still_in}
 use Rattle.ff_host.specs.declared.begun.Begun.{Begun}
+use Rattle.ff_host.specs.declared.sink.Sink.{Ghosts as SinkGhosts}
+use Rattle.ff_files.specs.Targets.{target_holds, target_name, target_faults}
+use Rattle.ff_files.specs.declared.target.Target.{Target}
 use Rattle.ff_host.specs.memory.QuietEnds.{QuietReading, QuietWriting}
 use Rattle.ff_words.specs.declared.job.Job.{Job}
 use Rattle.ff_plan.specs.declared.planned.Plan.{Plan}
@@ -37,9 +40,9 @@ BegunSays {H} {S} {K} is left named failed holds called faulted job heads srcs s
     JobSays is (λ (b : Begun S). prepend_known (still_in b.bytes.items b.at) (left b.src)) (λ (b : Begun S). named b.src) (λ (b : Begun S). failed b.src) holds called faulted
     job heads srcs snks end log srcs' snks'
 
--- over sources and sinks in memory
-abbrev pub QuietSays : {H : Type 0} → KindsOf H → Job → List H → List (Begun QuietReading) → List QuietWriting → WorkEnd RunFault → Option RunLog
-    → List (Begun QuietReading) → List QuietWriting → Type 0
+-- over sources in memory, and where outputs go there
+abbrev pub QuietSays : {H : Type 0} {G : SinkGhosts QuietWriting} → KindsOf H → Job → List H → List (Begun QuietReading) → List (Target QuietWriting G)
+    → WorkEnd RunFault → Option RunLog → List (Begun QuietReading) → List (Target QuietWriting G) → Type 0
 QuietSays is job heads srcs snks end log srcs' snks' =
     BegunSays is (λ (s : QuietReading). Some s.left) (λ (s : QuietReading). Some s.name) (λ (s : QuietReading). 0)
-    (λ (k : QuietWriting). Some k.holds) (λ (k : QuietWriting). Some k.name) (λ (k : QuietWriting). 0) job heads srcs snks end log srcs' snks'
+    target_holds target_name target_faults job heads srcs snks end log srcs' snks'

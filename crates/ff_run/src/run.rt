@@ -10,6 +10,7 @@ ghost use Rattle.ff_reader.specs.declared.fault.HeadFault.TheVariants as head_fa
 ghost use Rattle.ff_words.specs.Words.{texts, fault};
 ghost use Rattle.ff_words.specs.declared.error.Fault.{Fault};
 ghost use Rattle.ff_run_plan.specs.declared.fault.RunFault.TheVariants as run_fault;
+ghost use Rattle.ff_files.specs.Targets.{target_holds, target_name, target_faults};
 ghost use Rattle.ff_files.specs.Counts.{counted};
 ghost use Rattle.ff_files.specs.Ends.{IsPlanRefused, IsBroken};
 ghost use Rattle.ff_command.specs.Command.{AsksAlone, AsksText, AskGenerated, AsksGenerated, IsDue, IsOwnAnswer, ReportsOwn, ReportsOwnReads};
@@ -26,7 +27,7 @@ ghost use Rattle.ff_run.specs.Saying.{BegunSays, JobSays, PlanSays, QuietSays};
 use crate::build::{Part, Parts};
 use crate::worker::Threaded;
 use ff_command::{Line, Report, Status, run_command};
-use ff_files::{Done, PlanEnd};
+use ff_files::{Done, PlanEnd, Target};
 use ff_host::{Begun, Host, QuietSink, QuietSource, Sink, Source};
 use ff_input::InputHead;
 use ff_plan::Plan;
@@ -180,30 +181,46 @@ pub fn ffmpeg<R: Threads + Wait + Sync, H: Host, E: Sink>(
     let plan = |job: &Job, heads: &[InputHead]| -> Result<Plan, PlanEnd<PlanError>>
         requires { IsAccepted all_kinds job.now heads.now }
         ensures { PlanSays all_kinds job.now heads.now result }
-    { make_plan::<Parts, Begun<H::Src>, H::Snk, Part<Begun<H::Src>, H::Snk>>(alloc, job, heads) };
+    {
+        make_plan::<Parts, Begun<H::Src>, Target<H::Snk>, Part<Begun<H::Src>, Target<H::Snk>>>(
+            alloc, job, heads,
+        )
+    };
     let run = |job: &Job, plan: Plan, heads: &[InputHead], srcs: Vec<Begun<H::Src>>, snks: Vec<
-        H::Snk,
-    >| -> Done<RunFault, Begun<H::Src>, H::Snk, RunLog>
+        Target<H::Snk>,
+    >| -> Done<RunFault, Begun<H::Src>, Target<H::Snk>, RunLog>
         requires sync { IsSync R.row }
         requires plan { IsPlanFor all_kinds job.now heads.now plan }
-        ensures { BegunSays all_kinds H.Src.left H.Src.name H.Src.faults H.Snk.holds H.Snk.name H.Snk.faults
+        ensures { BegunSays all_kinds H.Src.left H.Src.name H.Src.faults target_holds target_name target_faults
             job.now heads.now srcs.items snks.items result.end result.log result.srcs.items result.snks.items }
-    { run_parts::<R, Begun<H::Src>, H::Snk>(rt, alloc, job, plan, heads, srcs, snks) };
+    { run_parts::<R, Begun<H::Src>, Target<H::Snk>>(rt, alloc, job, plan, heads, srcs, snks) };
     let own_plan = |job: &Job, heads: &[InputHead]| -> Result<Plan, PlanEnd<PlanError>>
         requires { IsAccepted all_kinds job.now heads.now }
         ensures { PlanSays all_kinds job.now heads.now result }
     {
-        make_plan::<Parts, Begun<QuietSource>, QuietSink, Part<Begun<QuietSource>, QuietSink>>(
-            alloc, job, heads,
-        )
+        make_plan::<
+            Parts,
+            Begun<QuietSource>,
+            Target<QuietSink>,
+            Part<Begun<QuietSource>, Target<QuietSink>>,
+        >(alloc, job, heads)
     };
     let own_run = |job: &Job, plan: Plan, heads: &[InputHead], srcs: Vec<
         Begun<QuietSource>,
-    >, snks: Vec<QuietSink>| -> Done<RunFault, Begun<QuietSource>, QuietSink, RunLog>
+    >, snks: Vec<Target<QuietSink>>| -> Done<
+        RunFault,
+        Begun<QuietSource>,
+        Target<QuietSink>,
+        RunLog,
+    >
         requires sync { IsSync R.row }
         requires plan { IsPlanFor all_kinds job.now heads.now plan }
         ensures { QuietSays all_kinds job.now heads.now srcs.items snks.items result.end result.log result.srcs.items result.snks.items }
-    { run_parts::<R, Begun<QuietSource>, QuietSink>(rt, alloc, job, plan, heads, srcs, snks) };
+    {
+        run_parts::<R, Begun<QuietSource>, Target<QuietSink>>(
+            rt, alloc, job, plan, heads, srcs, snks,
+        )
+    };
     let worker = Threaded { plan, run };
     let own = Threaded {
         plan: own_plan,

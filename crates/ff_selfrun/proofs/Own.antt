@@ -1,5 +1,5 @@
 -- The words of the run over generated input ask for a job.
-use Rattle.std.proofs.Common.{zero, suc, ◌≡◌, ℕ, ◌≤◌, true, false, Result, Ok, Err, List, [], ◌∷◌, ◌++◌, length, refl, ap, subst, arith}
+use Rattle.std.proofs.Common.{zero, suc, ◌≡◌, ℕ, ◌≤◌, true, false, Result, Ok, Err, List, [], ◌∷◌, ◌++◌, length, refl, ap, subst, arith, sym, Some}
 use Rattle.std.specs.Prelude.{drop, map, codes}
 use Rattle.std.proofs.lemmas.Fmt.{decimal_digit}
 use Rattle.ff_lang.specs.declared.graph.Chain.{Chain}
@@ -149,7 +149,7 @@ made =
     goes-option ws few (codes "-f") (codes "framehash") (drop 13 ws) r6 File kind.Format (value.Format FrameHash (is_read FrameHash) true) g6 refl line-format refl (omega arith) (omega arith) refl refl
     (reads-format FrameHash) in
     let r8 = with_output (codes "out") FrameHash r7 in
-    let g8 = goes-output ws few (codes "out") [] r7 FrameHash g7 refl (omega arith) (λ ending. refl) refl in
+    let g8 = goes-output ws few (codes "out") [] r7 FrameHash g7 refl (λ e. sym e) (omega arith) (λ ending. refl) refl in
     let job : Job = record { queue = r8.queue; trace = r8.trace; keeps = r8.keeps; graphs = r8.graphs; inputs = r8.inputs; outputs = r8.outputs } in
     (job, ended ws g8.at r8 g8.stands (Ok (Run job)) (none_left ws g8.at g8.behind) (refl, refl))
 
@@ -176,16 +176,16 @@ pub own-replaces : own_job.keeps ≡ false
 unfolding own_job made
 own-replaces = refl
 
-out-there : written own_job ≡ codes "out" ∷ []
+out-there : written own_job ≡ Some (codes "out") ∷ []
 unfolding own_job made
 out-there = refl
 
 -- it writes one file
-pub out-written : (job : Job) → IsOwnJob job → written job ≡ codes "out" ∷ []
+pub out-written : (job : Job) → IsOwnJob job → written job ≡ Some (codes "out") ∷ []
 out-written job h =
     let same : (let x : Result Command Fault = Ok (Run own_job) in x) ≡ Ok (Run job) = own-one (Ok (Run own_job)) (Ok (Run job)) own-read h in
     let is : own_job ≡ job = cc in
-    subst (λ j. written j ≡ codes "out" ∷ []) is out-there
+    subst (λ j. written j ≡ Some (codes "out") ∷ []) is out-there
 
 -- the words of the code are these
 pub words-are : map (λ l. l.now) WORDS ≡ own_words

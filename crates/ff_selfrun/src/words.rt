@@ -1,5 +1,5 @@
 //! The command line of the run over generated input, and the job that it asks for.
-ghost use Rattle.std.specs.Prelude.{◌≡◌, ◌∷◌, [], IfOk, codes};
+ghost use Rattle.std.specs.Prelude.{◌≡◌, ◌∷◌, [], Some, IfOk, codes};
 ghost use Rattle.ff_words.specs.Bounds.{IsBounded};
 ghost use Rattle.ff_words.specs.Table.{names};
 ghost use Rattle.ff_words.specs.Words.{texts, written};
@@ -41,7 +41,7 @@ fn words_from(alloc: Global, list: &[&'static str]) -> Result<Vec<String>, Alloc
 pub fn own_job(alloc: Global) -> Result<Job, AllocError>
     ensures job { IfOk result (λ job. IsOwnJob job) }
     ensures bounded { IfOk result (λ job. IsBounded job) }
-    ensures output { IfOk result (λ job. written job ≡ codes "out" ∷ []) }
+    ensures output { IfOk result (λ job. written job ≡ Some (codes "out") ∷ []) }
 {
     let words = words_from(alloc, &WORDS)?;
     match read_words(alloc, &words) {

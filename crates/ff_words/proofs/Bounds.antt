@@ -35,7 +35,7 @@ use Rattle.ff_words.specs.Numbers.{size_of}
 use Rattle.ff_words.specs.declared.job.Size.{Size}
 use Rattle.ff_frame.specs.declared.video.Format.TheVariants.{C420, C422, C444, Mono}
 use Rattle.ff_words.specs.Table.{format_ending}
-use Rattle.ff_words.specs.Words.{Token, Entry, fault, early, option_fault, given_fault, is_full, is_too_much, is_dashed, is_file, is_output, late, misplaced, bad_at, own_early, or_else, takes, placed, IsOption, IsNamed, IsToken, TokenReads, IsEntry, AreRead, IsAnswer, tokens, command, job, last, as_solo, end_fault, end_by, stands_alone, run_fault, groups, inputs, outputs, same_name, output_format, command_by, first_place, not_before_input, not_before_output, not_at_end, unreadable, unwritable}
+use Rattle.ff_words.specs.Words.{Token, Entry, fault, early, option_fault, name_fault, given_fault, is_full, is_too_much, is_dashed, is_file, is_output, late, misplaced, bad_at, own_early, or_else, takes, placed, IsOption, IsNamed, IsToken, TokenReads, IsEntry, AreRead, IsAnswer, tokens, command, job, last, as_solo, end_fault, end_by, stands_alone, run_fault, groups, inputs, outputs, same_name, output_format, command_by, first_place, not_before_input, not_before_output, not_at_end, unreadable, unwritable}
 use Rattle.ff_words.specs.Reading.{reader, optioned, with_input, with_output}
 use Rattle.ff_words.proofs.Snoc.{entry, filed-is, output-filed, reader-snoc, reader-input}
 use Rattle.ff_words.proofs.Steps.{early-option}
@@ -225,7 +225,7 @@ given-room es at k (Some v) e = (none-of (is_full es k) (fault at TooMany) (if i
 has-room : (es : List Entry) (token : Token) (rule : Rule) → early es token ≡ None → is_dashed token.word ≡ true → option_named token.word ≡ Some rule → takes (Some rule) ≡ true
     → is_full es rule.kind ≡ false
 has-room es token rule fine dashed named valued =
-    let short : is_too_much token.at token.word ≡ false = (none-of (is_too_much token.at token.word) (fault token.at TooMany) (if is_dashed token.word then option_fault es token (option_named token.word) else None) fine).0 in
+    let short : is_too_much token.at token.word ≡ false = (none-of (is_too_much token.at token.word) (fault token.at TooMany) (if is_dashed token.word then option_fault es token (option_named token.word) else name_fault es token) fine).0 in
     let given : given_fault es token.at rule.kind token.value ≡ None =
     ap (λ b. if b then given_fault es token.at rule.kind token.value else None) (sym valued) ∙ (sym (early-option es token rule short dashed named) ∙ fine) in
     given-room es token.at rule.kind token.value given

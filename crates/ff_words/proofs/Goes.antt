@@ -1,5 +1,5 @@
 -- Reading goes on over an option and over a file.
-use Rattle.std.proofs.Common.{zero, suc, ◌≡◌, ℕ, ◌+◌, ◌<◌, ◌≤◌, Bool, true, false, ◌||◌, Option, Some, None, Ok, List, [], ◌∷◌, length, refl, sym, ap, subst, ◌∙◌, arith}
+use Rattle.std.proofs.Common.{zero, suc, ◌≡◌, ℕ, ◌+◌, ◌<◌, ◌≤◌, Bool, true, false, ◌||◌, ◌&&◌, not, Option, Some, None, Ok, List, [], ◌∷◌, length, refl, sym, ap, subst, ◌∙◌, arith}
 use Rattle.std.specs.Prelude.{if◌then◌else◌, drop, slice_get, nat_le, nat_lt}
 use Rattle.std.proofs.lemmas.Bool.{lt-leb}
 use Rattle.ff_words.specs.declared.table.Concern.{Concern}
@@ -11,9 +11,10 @@ use Rattle.ff_words.specs.declared.value.Value.{Value}
 use Rattle.ff_words.specs.declared.value.Value.TheVariants as value
 use Rattle.ff_words.specs.declared.reader.Reader.{Reader}
 use Rattle.ff_format.specs.declared.format.FileFormat.{FileFormat}
+use Rattle.ff_format.specs.Formats.{has_file}
 use Rattle.ff_words.specs.Table.{option_named, format_ending}
 use Rattle.ff_words.specs.Values.{Reads, switched}
-use Rattle.ff_words.specs.Words.{Entry, takes, takes_value, is_too_much, is_dashed, is_file, or_else}
+use Rattle.ff_words.specs.Words.{Entry, takes, takes_value, is_too_much, is_dashed, is_lone, is_no_name, goes_nowhere, groups, last, as_format, is_file, or_else}
 use Rattle.ff_words.specs.Reading.{reader, Stands, Taken, Steps, full, word_at, token_at, width, optioned, with_input, with_output, input_wrong, output_wrong, pending_format}
 use Rattle.ff_words.proofs.Known.{rule, no-option}
 use Rattle.ff_words.proofs.Snoc.{taken-option, taken-input, taken-output}
@@ -135,9 +136,19 @@ goes-switch ws few w rest r c k x g dashed named valued no_value short plain =
     (token-switch g.stands.es ws g.at (rule c k) x (Ok tt) (optioned (entry g.at c x) r) (ap (is_too_much g.at) is ∙ fits g.at w (omega (arith, there, few)) short)
     (ap is_dashed is ∙ dashed) (ap option_named is ∙ named) valued (taken-option g.stands.es g.at c x r (optioned (entry g.at c x) r) plain g.stands.kept refl))
 
-pub goes-output : (ws : List Text) (few : length ws ≤ 1024) (name : Text) (rest : List Text) (r : Reader) (f : FileFormat) (g : Goes ws (name ∷ rest) r) → is_dashed name ≡ false → length name ≤ 65536
+-- `-` alone is a name of what goes nowhere
+can-name : (name : Text) (f : FileFormat) (lone : Bool) → is_lone name ≡ lone → (is_lone name ≡ true → has_file f ≡ false) → is_no_name name (Some f) ≡ false
+can-name name f false e h = ap (λ b. b && not (goes_nowhere (Some f))) e
+can-name name f true e h = ap (λ b. is_lone name && not (not b)) (h e) ∙ both-false (is_lone name)
+  where
+    both-false : (b : Bool) → (b && false) ≡ false
+    both-false true = refl
+    both-false false = refl
+
+pub goes-output : (ws : List Text) (few : length ws ≤ 1024) (name : Text) (rest : List Text) (r : Reader) (f : FileFormat) (g : Goes ws (name ∷ rest) r) → is_dashed name ≡ false
+    → (is_lone name ≡ true → has_file f ≡ false) → length name ≤ 65536
     → ((ending : Option FileFormat) → None ≡ output_wrong g.at name ending r) → r.pending.format ≡ Some f → Goes ws rest (with_output name f r)
-goes-output ws few name rest r f g plain short fine told =
+goes-output ws few name rest r f g plain lone short fine told =
     let there : g.at < length ws = some-there ws g.at name rest g.behind in
     let is : word_at ws g.at ≡ name = word-is ws g.at name rest g.behind in
     let ending : Option FileFormat = format_ending (word_at ws g.at) in
@@ -145,4 +156,7 @@ goes-output ws few name rest r f g plain short fine told =
     let has : Some f ≡ pending_format r.pending ending = ap (λ o. or_else o ending) (sym told) in
     one-step ws few g.at name rest r (with_output name f r) g.stands g.behind (ap takes (no-option name plain))
     (token-output g.stands.es ws g.at (Ok tt) (with_output name f r) (ap (is_too_much g.at) is ∙ fits g.at name (omega (arith, there, few)) short)
-    (ap is_dashed is ∙ plain) (taken-output g.stands.es g.at Itself (value.Output (word_at ws g.at) ending) name ending f r (with_output name f r) same g.stands.kept (fine ending) has refl))
+    (ap is_dashed is ∙ plain)
+    (ap (λ n. is_no_name n (last as_format (groups g.stands.es).behind)) is
+    ∙ (ap (λ (x : Reader). is_no_name name x.pending.format) (sym g.stands.kept) ∙ (ap (is_no_name name) told ∙ can-name name f (is_lone name) refl lone)))
+    (taken-output g.stands.es g.at Itself (value.Output (word_at ws g.at) ending) name ending f r (with_output name f r) same g.stands.kept (fine ending) has refl))

@@ -498,7 +498,7 @@ output-read ws few rest r o fine room g =
     let early : ends_early o.cut.start l None ≡ None = never_early o.cut.start l in
     subst (λ x. Goes ws rest (record r { outputs = r.outputs ++ x ∷ []; pending = pending [] }))
     (output-same o (cut_of (Some (start_in o.cut)) (micros_in o.cut.length o.cut.length_bound) None) (unwrap_or (mode_in o.rf64) Never) (cut-same o.cut) (mode-is o.rf64))
-    (goes-output ws few o.name rest old o.format h.3 fine.plain_name fine.name (λ ending. in_bounds (nat_le 16 (length r.outputs)) (length o.name == 0) h.3.at (ends_early o.cut.start l None) full empty early) refl)
+    (goes-output ws few o.name rest old o.format h.3 fine.plain_name fine.lone_name fine.name (λ ending. in_bounds (nat_le 16 (length r.outputs)) (length o.name == 0) h.3.at (ends_early o.cut.start l None) full empty early) refl)
 
 outputs-read : (ws : List Text) (few : length ws ≤ 1024) (rest : List Text) (os : List OutputJob) (r : Reader) → AllByRecursion IsFineOutput os → length r.outputs + length os ≤ 16
     → Goes ws (flat_map output_words os ++ rest) (in_hand r (pending [])) → Goes ws rest (record r { outputs = r.outputs ++ os; pending = pending [] })

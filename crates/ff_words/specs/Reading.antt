@@ -7,7 +7,10 @@ use Rattle.ff_words.specs.declared.value.Value.TheVariants as value
 use Rattle.ff_words.specs.declared.reader.Pending.{Pending}
 use Rattle.ff_words.specs.declared.reader.Reader.{Reader}
 use Rattle.std.specs.Prelude.{drop, slice_get, ◌≤◌, nat_le, length, Result, Ok, Err}
-use Rattle.std.specs.Prelude.{map, option_to_list}
+use Rattle.std.specs.Prelude.{map, option_to_list, ◌||◌}
+use Rattle.std.specs.List.{list_any}
+use Rattle.std.specs.Str.{bytes_eq}
+use Rattle.ff_words.specs.declared.job.InputJob.{InputJob}
 use Rattle.ff_words.specs.declared.job.OutputJob.{OutputJob}
 use Rattle.ff_time.specs.declared.cut.TimeCut.{TimeCut}
 use Rattle.ff_words.specs.declared.job.Command.{Command}
@@ -25,7 +28,7 @@ use Rattle.ff_words.specs.declared.table.Rule.{Rule}
 use Rattle.ff_words.specs.declared.table.Kind.{Kind}
 use Rattle.ff_words.specs.declared.table.Kind.TheVariants as kind
 use Rattle.ff_words.specs.Words.{AreRead, is_too_much, is_dashed}
-use Rattle.ff_words.specs.Words.{IsAnswer, end_by, is_output, takes_value, tokens, Token, written, fault, misplaced, bad_at, late, unwritable, cut_of, start_of, ends_early, last_place}
+use Rattle.ff_words.specs.Words.{IsAnswer, end_by, file_names, is_output, takes_value, tokens, Token, written, fault, misplaced, bad_at, late, unwritable, cut_of, start_of, ends_early, last_place}
 use Rattle.ff_words.specs.Words.{IsEntry, IsFaultAt, Entry, groups, last, each, first_place, not_before_input, not_before_output, not_at_end, or_else}
 use Rattle.ff_words.specs.Words.{unreadable, as_format, as_start, as_length, as_end, as_map, as_audio, as_video, as_vf, as_af, as_no_audio, as_no_video}
 use Rattle.ff_words.specs.Words.{own_asked, as_shortest, as_frames, as_hash, as_rf64, as_queue, as_trace, as_keeps, as_graph, as_solo, stands_alone, inputs, outputs}
@@ -253,4 +256,10 @@ abbrev pub as_error : Fault → WordError
 as_error f = At f.word f.kind
 
 abbrev pub written_names : Reader → List (List ℕ)
-written_names r = map (λ (o : OutputJob). o.name) r.outputs ++ option_to_list r.trace
+written_names r = file_names r.outputs ++ option_to_list r.trace
+
+-- a file of the outputs from a place on, the trace or an input has this name
+abbrev pub repeats_from : Reader → ℕ → List ℕ → Bool
+repeats_from r from name =
+    (list_any (λ m. bytes_eq m name) (file_names (drop from r.outputs)) || list_any (λ m. bytes_eq m name) (option_to_list r.trace))
+    || list_any (λ m. bytes_eq m name) (map (λ (i : InputJob). i.name) r.inputs)

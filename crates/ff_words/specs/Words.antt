@@ -18,7 +18,7 @@ use Rattle.ff_format.specs.declared.format.FileFormat.{FileFormat}
 use Rattle.ff_format.specs.declared.format.FileFormat.TheVariants.{FrameHash}
 use Rattle.ff_format.specs.declared.format.Rf64.{Rf64}
 use Rattle.ff_format.specs.declared.format.Rf64.TheVariants.{Never}
-use Rattle.ff_format.specs.Formats.{default_hash}
+use Rattle.ff_format.specs.Formats.{default_hash, has_file}
 use Rattle.ff_words.specs.declared.job.InputJob.{InputJob}
 use Rattle.ff_words.specs.declared.job.OutputJob.{OutputJob}
 use Rattle.ff_words.specs.declared.job.Asked.{Asked}
@@ -58,10 +58,17 @@ pub record Token : Type 0 where
   pub word : List ℕ
   pub value : Option (List ℕ)
 
--- it begins with `-`
+-- it begins with `-`, and goes on
 abbrev pub is_dashed : List ℕ → Bool
 is_dashed [] = false
-is_dashed (b ∷ bs) = b == 45
+is_dashed (b ∷ []) = false
+is_dashed (b ∷ c ∷ bs) = b == 45
+
+-- it is `-` alone
+abbrev pub is_lone : List ℕ → Bool
+is_lone [] = false
+is_lone (b ∷ []) = b == 45
+is_lone (b ∷ c ∷ bs) = false
 
 abbrev pub takes : Option Rule → Bool
 takes None = false
@@ -377,12 +384,24 @@ abbrev pub option_fault : List Entry → Token → Option Rule → Option Fault
 option_fault es t None = Some (fault t.at UnknownOption)
 option_fault es t (Some rule) = if takes (Some rule) then given_fault es t.at rule.kind t.value else None
 
+-- the format is given, and what it takes goes nowhere
+abbrev pub goes_nowhere : Option FileFormat → Bool
+goes_nowhere None = false
+goes_nowhere (Some f) = not (has_file f)
+
+-- `-` alone names nothing but an output that goes nowhere
+abbrev pub is_no_name : List ℕ → Option FileFormat → Bool
+is_no_name word format = is_lone word && not (goes_nowhere format)
+
+abbrev pub name_fault : List Entry → Token → Option Fault
+name_fault es t = if is_no_name t.word (last as_format (groups es).behind) then Some (fault t.at UnknownOption) else None
+
 -- What is wrong with a token behind those that were read, before its value is looked at: the word is too much, it is no
--- option, its value is missing, it is one too many, or its value is too much.
+-- option, its value is missing, it is one too many, or its value is too much; or it is `-` alone and can't be a name.
 abbrev pub early : List Entry → Token → Option Fault
 early es t =
     if is_too_much t.at t.word then Some (fault t.at TooMany) else
-    (if is_dashed t.word then option_fault es t (option_named t.word) else None)
+    (if is_dashed t.word then option_fault es t (option_named t.word) else name_fault es t)
 
 abbrev pub placed : ℕ → Result Value WordKind → Result Value Fault
 placed at (Ok v) = Ok v
@@ -399,7 +418,7 @@ abbrev pub IsNamed : Token → Option Rule → Concern → Result Value Fault �
 IsNamed t None concern r = ⊥
 IsNamed t (Some rule) concern r = IsOption t.at rule (switched rule.kind) t.value concern r
 
--- The token concerns so, and reads as this value or is this fault. A word without a dash is an output.
+-- The token concerns so, and reads as this value or is this fault. A word that isn't dashed is an output.
 abbrev pub IsToken : Token → Bool → Concern → Result Value Fault → Type 0
 IsToken t false concern r = (concern ≡ Itself) × (r ≡ Ok (value.Output t.word (format_ending t.word)))
 IsToken t true concern r = IsNamed t (option_named t.word) concern r
@@ -501,8 +520,17 @@ abbrev pub AreRead : List Entry → List Token → List Entry → Type 0
 AreRead es [] all = es ≡ all
 AreRead es (t ∷ ts) all = (e : Entry) × IsEntry es t e × AreRead (es ++ e ∷ []) ts all
 
-abbrev pub written : Job → List (List ℕ)
-written j = map (λ (o : OutputJob). o.name) j.outputs ++ option_to_list j.trace
+-- the name of an output's file; what goes nowhere has none
+abbrev pub output_file : OutputJob → Option (List ℕ)
+output_file o = if has_file o.format then Some o.name else None
+
+-- the files that are written, by number: those of the outputs, and then the trace
+abbrev pub written : Job → List (Option (List ℕ))
+written j = map output_file j.outputs ++ map (λ (name : List ℕ). Some name) (option_to_list j.trace)
+
+-- the names of those of outputs
+abbrev pub file_names : List OutputJob → List (List ℕ)
+file_names outputs = flat_map (λ (o : OutputJob). option_to_list (output_file o)) outputs
 
 abbrev pub read_names : Job → List (List ℕ)
 read_names j = map (λ (i : InputJob). i.name) j.inputs
@@ -513,7 +541,7 @@ repeats [] others = false
 repeats (n ∷ ns) others = list_any (λ m. bytes_eq m n) (ns ++ others) || repeats ns others
 
 abbrev pub same_name : Job → Bool
-same_name j = repeats (written j) (read_names j)
+same_name j = repeats (file_names j.outputs ++ option_to_list j.trace) (read_names j)
 
 abbrev pub run_fault : ℕ → Job → Option Fault
 run_fault count j =

@@ -27,9 +27,9 @@ use Rattle.ff_words.specs.declared.job.Command.{Command}
 use Rattle.ff_words.specs.declared.job.Command.TheVariants as asked
 use Rattle.ff_words.specs.declared.job.Solo.{Solo}
 use Rattle.ff_words.specs.declared.job.Solo.TheVariants.{Help, Version, SelfRun}
-use Rattle.ff_format.specs.Formats.{format_name, is_read}
+use Rattle.ff_format.specs.Formats.{format_name, is_read, has_file}
 use Rattle.ff_words.specs.Options.{hash_name, rf64_name, pixels_name}
-use Rattle.ff_words.specs.Words.{is_dashed, same_name, none_asked}
+use Rattle.ff_words.specs.Words.{is_dashed, is_lone, same_name, none_asked}
 use Rattle.ff_words.specs.declared.job.Asked.{Asked}
 use Rattle.ff_words.specs.declared.job.Size.{Size}
 use Rattle.ff_time.specs.Fraction.{Fraction, IsBase}
@@ -247,6 +247,7 @@ pub record IsFineOutput (o : OutputJob) : Type 0 where
   pub name : IsFineText o.name
   pub some_name : 0 < length o.name
   pub plain_name : is_dashed o.name ≡ false
+  pub lone_name : is_lone o.name ≡ true → has_file o.format ≡ false
   pub few_maps : length o.maps ≤ 16
   pub maps : AllByRecursion IsFineMap o.maps
   pub audio : WhereSome IsSoundCodec o.audio

@@ -43,7 +43,7 @@ pub struct Asked {
 /// An output with its options.
 #[derive(Debug, Drop)]
 pub struct OutputJob {
-    /// The name of its file.
+    /// The name of its file; of a format that has no file any word that stands in its place.
     pub name: Text,
     /// Its format, by `-f` or by the ending of its name.
     pub format: FileFormat,

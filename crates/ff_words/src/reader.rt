@@ -1,12 +1,13 @@
 //! The state of the one pass over the arguments.
 ghost use Rattle.std.specs.Prelude.{◌≡◌, ◌<◌, ◌≤◌, ◌+◌, OnOk, None, [], List, length};
-ghost use Rattle.ff_words.specs.Reading.{Ended, written_names, word_at, Steps, token_at, width, full, Given, pending_format, with_output};
+ghost use Rattle.ff_words.specs.Reading.{Ended, written_names, word_at, Steps, token_at, width, full, Given, pending_format, with_output, repeats_from};
 ghost use Rattle.ff_words.specs.Reading.{output_wrong as wrong_output, input_wrong as wrong_input, with_input, Taken, pending, reader, noted, valued};
 ghost use Rattle.ff_words.specs.Reading.{optioned, place_unless, early_in};
-ghost use Rattle.ff_words.specs.Words.{none_asked, repeats, texts, is_too_much as never_too_much, is_dashed as dashed, Entry};
+ghost use Rattle.ff_words.specs.Words.{none_asked, repeats, texts, is_too_much as never_too_much, is_dashed as dashed, is_lone as lone, goes_nowhere, is_no_name as no_name, file_names, output_file, Entry};
 ghost use Rattle.ff_words.specs.Words.{not_before_input as never_before_input, not_before_output as never_before_output, not_at_end as never_at_end, word_count};
 ghost use Rattle.ff_words.specs.Values.{switched};
-ghost use Rattle.std.specs.Prelude.{map, drop, option_to_list, ◌||◌};
+ghost use Rattle.std.specs.Prelude.{map, option_to_list, ◌&&◌};
+ghost use Rattle.ff_format.specs.Formats.{has_file};
 ghost use Rattle.std.specs.List.{list_any};
 ghost use Rattle.std.specs.Str.{bytes_eq};
 ghost use Rattle.ff_words.specs.declared.job.InputJob.{InputJob};
@@ -296,6 +297,23 @@ impl Reader {
         }
     }
 
+    // Whether the output that waits for its name goes nowhere.
+    fn goes_nowhere(&self) -> bool
+        ensures { result ≡ goes_nowhere self.now.pending.format }
+    {
+        match self.pending.format {
+            Some(format) => !format.has_file(),
+            None => false,
+        }
+    }
+
+    // Whether an argument that isn't dashed can't be the name of the output that waits for it.
+    fn is_no_name(&self, word: &str) -> bool
+        ensures { result ≡ no_name word.now self.now.pending.format }
+    {
+        is_lone(word) && !self.goes_nowhere()
+    }
+
     // What is wrong with an output here.
     fn output_wrong(&self, at: u32, name: &str, ending: Option<FileFormat>) -> Option<Fault>
         ensures { result ≡ wrong_output at name.now ending self.now }
@@ -453,6 +471,12 @@ impl Reader {
             });
         }
         if !is_dashed(word) {
+            if self.is_no_name(word) {
+                return Err(WordError::At {
+                    word: at as u32,
+                    kind: WordKind::UnknownOption,
+                });
+            }
             let ending = format_ending(word);
             let name = text_of(alloc, word)?;
             return self.take(
@@ -491,8 +515,8 @@ impl Reader {
         let outputs = self.outputs.as_slice();
         let mut at = 0;
         'outputs: while at < outputs.len() {
-            let name = outputs[at].name.as_str();
-            if self.is_repeated(at + 1, name) {
+            let output = &outputs[at];
+            if self.is_file_repeated(at + 1, output) {
                 return true;
             }
             at += 1;
@@ -509,12 +533,18 @@ impl Reader {
         }
     }
 
-    // Whether one of the outputs from a place on, the trace or an input has this name.
+    // Whether an output is a file whose name one of the outputs from a place on, the trace or an input has.
+    fn is_file_repeated(&self, from: usize, output: &OutputJob) -> bool
+        requires { from ≤ length self.now.outputs }
+        ensures { result ≡ (has_file output.now.format && repeats_from self.now from output.now.name) }
+    {
+        output.format.has_file() && self.is_repeated(from, output.name.as_str())
+    }
+
+    // Whether one of the files of the outputs from a place on, the trace or an input has this name.
     fn is_repeated(&self, from: usize, name: &str) -> bool
         requires { from ≤ length self.now.outputs }
-        ensures { result ≡ ((list_any (λ m. bytes_eq m name.now) (map (λ (o : OutputJob). o.name) (drop from self.now.outputs))
-            || list_any (λ m. bytes_eq m name.now) (option_to_list self.now.trace))
-            || list_any (λ m. bytes_eq m name.now) (map (λ (i : InputJob). i.name) self.now.inputs)) }
+        ensures { result ≡ repeats_from self.now from name.now }
     {
         is_output_name(&self.outputs.as_slice()[from..], name)
             || self.is_trace(name)
@@ -588,11 +618,18 @@ fn word_count_of(solo: Solo) -> usize
     }
 }
 
+// Whether an output is a file of this name.
+fn is_file_of(output: &OutputJob, name: &str) -> bool
+    ensures { result ≡ list_any (λ m. bytes_eq m name.now) (option_to_list (output_file output.now)) }
+{
+    output.format.has_file() && output.name.as_str() == name
+}
+
 fn is_output_name(outputs: &[OutputJob], name: &str) -> bool
-    ensures { result ≡ list_any (λ m. bytes_eq m name.now) (map (λ (o : OutputJob). o.name) outputs.now) }
+    ensures { result ≡ list_any (λ m. bytes_eq m name.now) (file_names outputs.now) }
 {
     for output in outputs.iter() {
-        if output.name.as_str() == name {
+        if is_file_of(output, name) {
             return true;
         }
     }
@@ -642,13 +679,24 @@ fn is_too_much(at: usize, word: &str) -> bool
     at >= 1024 || word.len() > 65536
 }
 
-// Whether an argument begins with `-`.
+// Whether an argument begins with `-`, and goes on.
 fn is_dashed(word: &str) -> bool
     ensures { result ≡ dashed word.now }
 {
     match word.as_bytes() {
         [] => false,
+        [_] => false,
         [first, ..] => *first == b'-',
+    }
+}
+
+// Whether an argument is `-` alone.
+fn is_lone(word: &str) -> bool
+    ensures { result ≡ lone word.now }
+{
+    match word.as_bytes() {
+        [first] => *first == b'-',
+        _ => false,
     }
 }
 

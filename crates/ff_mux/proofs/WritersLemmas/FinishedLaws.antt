@@ -11,6 +11,7 @@ use Rattle.ff_mux.specs.writers.CrcFile.{CrcsAreTexts}
 use Rattle.ff_mux.specs.writers.DigestFiles.{at_end, DigestsAreTexts}
 use Rattle.ff_mux.specs.writers.FlacFile.{as_long, FlacsAreStreams}
 use Rattle.ff_mux.specs.writers.HashFile.{HashesAreTexts}
+use Rattle.ff_mux.specs.writers.NullFile.{NullWritesNothing}
 
 eight : (n : ℕ) → 8 + n ≡ suc (suc (suc (suc (suc (suc (suc (suc n)))))))
 eight n = omega arith
@@ -44,3 +45,6 @@ digests_are_texts text totals packets = (
   ap (λ (xs : List ℕ). Some (xs ++ text packets)) (none_before text packets),
   none_before text packets,
 )
+
+pub null_nothing : NullWritesNothing
+null_nothing totals packets = digests_are_texts (λ ps. []) totals packets

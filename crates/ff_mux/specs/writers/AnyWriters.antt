@@ -2,7 +2,7 @@
 use Rattle.std.specs.Prelude.{◌≡◌, ⊤, ℕ, List, length, Option}
 use Rattle.ff_format.specs.Formats.{taken_by}
 use Rattle.ff_format.specs.Layouts.{Layout, bytes_in}
-use Rattle.ff_format.specs.Outputs.{OutputFormat, WritesTaken}
+use Rattle.ff_format.specs.Outputs.{OutputFormat, WritesTaken, no_layout}
 use Rattle.ff_format.specs.Patches.{IsInside}
 use Rattle.ff_format.specs.declared.format.FileFormat.{FileFormat}
 use Rattle.ff_format.specs.declared.format.FileFormat.TheVariants as format
@@ -11,11 +11,12 @@ use Rattle.ff_frame.specs.declared.head.StreamHead.{StreamHead}
 use Rattle.ff_frame.specs.declared.packet.Pkt.{Pkt}
 use Rattle.ff_frame.specs.declared.totals.Totals.{Totals}
 use Rattle.ff_mux.specs.declared.writers.any.AnyWriter.{AnyWriter}
-use Rattle.ff_mux.specs.declared.writers.any.AnyWriter.TheVariants.{Wav, Flac, Y4m, Hash, Crc, Au, Joined, Streams, Sum}
+use Rattle.ff_mux.specs.declared.writers.any.AnyWriter.TheVariants.{Wav, Flac, Y4m, Hash, Crc, Au, Joined, Streams, Sum, Null}
 use Rattle.ff_mux.specs.writers.CrcFile.{crc_format, crc_layout, crc_writes}
 use Rattle.ff_mux.specs.writers.DigestFiles.{joined_format, joined_layout, joined_writes, joined_writes_md5}
 use Rattle.ff_mux.specs.writers.DigestFiles.{streams_format, streams_layout, streams_writes, sum_format, sum_layout, sum_writes}
 use Rattle.ff_mux.specs.writers.FlacFile.{flac_format, flac_inside, flac_layout, flac_writes}
+use Rattle.ff_mux.specs.writers.NullFile.{null_format, null_writes}
 use Rattle.ff_mux.specs.writers.HashFile.{hash_format, hash_layout, hash_writes, md5_writes}
 use Rattle.ff_mux.specs.writers.Writers.{flac_head, hash_kind, hash_heads, crc_heads, joined_kind, HasJoined, HasSummed, streams_kind, streams_heads, HasStreams}
 use Rattle.ff_au.specs.Header as au
@@ -37,6 +38,7 @@ format_of format.Hash = joined_format
 format_of format.Md5 = joined_format
 format_of format.StreamHash = streams_format
 format_of format.Crc = sum_format
+format_of format.Null = null_format
 
 -- the format takes packets of streams of these heads
 abbrev pub CanWrite : FileFormat → List StreamHead → Type 0
@@ -59,6 +61,7 @@ writes_taken format.Hash = joined_writes
 writes_taken format.Md5 = joined_writes_md5
 writes_taken format.StreamHash = streams_writes
 writes_taken format.Crc = sum_writes
+writes_taken format.Null = null_writes
 
 -- ---- a writer of any
 
@@ -72,6 +75,7 @@ any_layout (Crc w) = crc_layout (crc_heads w)
 any_layout (Joined w) = joined_layout (joined_kind w)
 any_layout (Streams w) = streams_layout (streams_kind w) (streams_heads w)
 any_layout (Sum w) = sum_layout
+any_layout (Null w) = no_layout
 
 abbrev pub any_counts : AnyWriter → List (ℕ × Pkt) → Type 0
 any_counts (Wav put) packets = body_size put ≡ length (bytes_in packets)
@@ -83,6 +87,7 @@ any_counts (Crc w) packets = ⊤
 any_counts (Joined w) packets = HasJoined w packets
 any_counts (Streams w) packets = HasStreams w packets
 any_counts (Sum w) packets = HasSummed w packets
+any_counts (Null w) packets = ⊤
 
 pub any_inside : (w : AnyWriter) (n : ℕ) (totals : Option Totals) → IsInside (any_layout w) n totals
 any_inside (Wav put) n totals = wav_inside (written_mode put) (written_head put) n
@@ -94,3 +99,4 @@ any_inside (Crc w) n totals = tt
 any_inside (Joined w) n totals = tt
 any_inside (Streams w) n totals = tt
 any_inside (Sum w) n totals = tt
+any_inside (Null w) n totals = tt

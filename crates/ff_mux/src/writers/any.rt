@@ -6,6 +6,7 @@ use crate::writers::digests::{JoinedWriter, StreamsWriter, SumWriter};
 use crate::writers::flac::FlacWriter;
 use crate::writers::frame_crc::CrcWriter;
 use crate::writers::frame_hash::HashWriter;
+use crate::writers::null::NullWriter;
 use ff_au::AuPut;
 use ff_format::{FileFormat, OutputOptions, Patch, TooLarge, Writer};
 use ff_frame::{Pkt, StreamHead, Totals};
@@ -34,6 +35,8 @@ pub enum AnyWriter {
     Streams(StreamsWriter),
     /// One Adler-32 sum of all packets.
     Sum(SumWriter),
+    /// Nothing.
+    Null(NullWriter),
 }
 
 /// The writer of a format for the packets of streams of these heads, by what an output's options say. No packet was counted.
@@ -70,6 +73,7 @@ pub fn writer_of(
             Ok(AnyWriter::Streams(writer))
         }
         FileFormat::Crc => Ok(AnyWriter::Sum(SumWriter::new(alloc))),
+        FileFormat::Null => Ok(AnyWriter::Null(NullWriter::new(alloc))),
     }
 }
 
@@ -89,6 +93,7 @@ impl Writer for AnyWriter {
             AnyWriter::Joined(writer) => writer.first(),
             AnyWriter::Streams(writer) => writer.first(),
             AnyWriter::Sum(writer) => writer.first(),
+            AnyWriter::Null(writer) => writer.first(),
         }
     }
 
@@ -103,6 +108,7 @@ impl Writer for AnyWriter {
             AnyWriter::Joined(writer) => writer.text(stream, packet),
             AnyWriter::Streams(writer) => writer.text(stream, packet),
             AnyWriter::Sum(writer) => writer.text(stream, packet),
+            AnyWriter::Null(writer) => writer.text(stream, packet),
         }
     }
 
@@ -117,6 +123,7 @@ impl Writer for AnyWriter {
             AnyWriter::Joined(writer) => writer.add(stream, packet),
             AnyWriter::Streams(writer) => writer.add(stream, packet),
             AnyWriter::Sum(writer) => writer.add(stream, packet),
+            AnyWriter::Null(writer) => writer.add(stream, packet),
         }
     }
 
@@ -131,6 +138,7 @@ impl Writer for AnyWriter {
             AnyWriter::Joined(writer) => writer.tail(alloc),
             AnyWriter::Streams(writer) => writer.tail(alloc),
             AnyWriter::Sum(writer) => writer.tail(alloc),
+            AnyWriter::Null(writer) => writer.tail(alloc),
         }
     }
 
@@ -145,6 +153,7 @@ impl Writer for AnyWriter {
             AnyWriter::Joined(writer) => writer.last(totals),
             AnyWriter::Streams(writer) => writer.last(totals),
             AnyWriter::Sum(writer) => writer.last(totals),
+            AnyWriter::Null(writer) => writer.last(totals),
         }
     }
 

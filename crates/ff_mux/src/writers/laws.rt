@@ -4,6 +4,7 @@ ghost use Rattle.ff_mux.specs.writers.DigestFiles.{DigestsAreTexts};
 ghost use Rattle.ff_mux.specs.writers.FlacFile.{FlacsAreStreams};
 ghost use Rattle.ff_mux.specs.writers.FlacWritten.{FieldsAreRead, FilesAreRead, HeadersAreRead};
 ghost use Rattle.ff_mux.specs.writers.HashFile.{HashesAreTexts};
+ghost use Rattle.ff_mux.specs.writers.NullFile.{NullWritesNothing};
 
 /// The finished file of a FLAC stream is the mark, STREAMINFO with the totals, where they were told, and the packets' bytes.
 pub fn finished_flacs_are_streams()
@@ -32,4 +33,9 @@ pub fn finished_crcs_are_texts()
 /// whole nothing is written.
 pub fn finished_digests_are_texts()
     ensures { DigestsAreTexts }
+{}
+
+/// Of no packets is anything written in the format null.
+pub fn null_writes_nothing()
+    ensures { NullWritesNothing }
 {}

@@ -1,5 +1,6 @@
 //! A command line, word by word.
 use crate::explain::roles::{Role, role_behind};
+use ff_format::FORMATS;
 use ff_words::Kind;
 use std::alloc::{AllocError, Global};
 
@@ -17,6 +18,16 @@ pub(crate) struct FilePlace {
     pub(crate) first: usize,
     /// The place of its name.
     pub(crate) name: usize,
+}
+
+// Whether an output of the format of this name is a file.
+fn is_file_format(name: &str) -> bool {
+    for (own, _ending, format, _read, _written) in FORMATS.iter() {
+        if *own == name {
+            return format.has_file();
+        }
+    }
+    true
 }
 
 impl<'a> CommandLine<'a> {
@@ -112,11 +123,31 @@ impl<'a> CommandLine<'a> {
     pub(crate) fn repeated(&self) -> Option<&'a str> {
         for (place, role) in self.roles.iter().enumerate() {
             let is_written = *role == Role::Output || *role == Role::Value(Kind::Trace);
-            if is_written && self.is_named_elsewhere(place) {
+            if is_written && !self.goes_nowhere(place) && self.is_named_elsewhere(place) {
                 return Some(self.word(place));
             }
         }
         None
+    }
+
+    // Whether a word is the name of an output that goes nowhere: the last format before it says so.
+    fn goes_nowhere(&self, place: usize) -> bool {
+        if self.role(place) != Some(Role::Output) {
+            return false;
+        }
+        let mut has_file = true;
+        for (at, role) in self.roles.iter().enumerate() {
+            if at >= place {
+                return !has_file;
+            }
+            if *role == Role::Output || *role == Role::Value(Kind::Input) {
+                has_file = true;
+            }
+            if *role == Role::Value(Kind::Format) {
+                has_file = is_file_format(self.word(at));
+            }
+        }
+        !has_file
     }
 
     // Whether another word is the name of a file, and the same.
@@ -126,7 +157,11 @@ impl<'a> CommandLine<'a> {
                 Role::Output | Role::Value(Kind::Input) | Role::Value(Kind::Trace) => true,
                 _ => false,
             };
-            if is_name && other != place && self.word(other) == self.word(place) {
+            if is_name
+                && other != place
+                && !self.goes_nowhere(other)
+                && self.word(other) == self.word(place)
+            {
                 return true;
             }
         }

@@ -10,7 +10,7 @@ pub(crate) enum Role {
     Value(Kind),
     /// The name of an output.
     Output,
-    /// It begins with `-` and is no option.
+    /// It begins with `-`, goes on, and is no option.
     Unknown,
 }
 
@@ -48,6 +48,7 @@ pub(crate) fn role_behind(before: Option<Role>, word: &str) -> Role {
         return Role::Value(kind);
     }
     match word.as_bytes() {
+        [b'-'] => Role::Output,
         [b'-', ..] => option_of(word),
         _ => Role::Output,
     }

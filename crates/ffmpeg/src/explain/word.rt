@@ -17,6 +17,9 @@ fn option_names(told: &mut Told) -> Vec<&'static str> {
 }
 
 fn tell_unknown(told: &mut Told, word: &str) {
+    if word == "-" {
+        return told.text("- alone names no file: only an output with -f null has such a name");
+    }
     let names = option_names(told);
     tell_clipped(told, word);
     told.text(" isn't an option");

@@ -1,10 +1,11 @@
 use Rattle.std.proofs.Common.{◌≡◌, length, sym, ap, ◌∙◌, subst}
+use Rattle.std.specs.Prelude.{option_copied}
 use Rattle.ff_files.specs.Counts.{counted}
-use Rattle.ff_files.specs.Names.{names_of, AreApart, KeepsAllBut}
+use Rattle.ff_files.specs.Names.{files_of, AreApart, KeepsAllBut}
 use Rattle.ff_files.specs.Works.{HoldTrace, AreHeadsIn, told_bytes}
 use Rattle.ff_files.specs.Outputs.{CreatesOutputs}
 use Rattle.ff_files.specs.Ends.{end_of_output}
-use Rattle.ff_files.proofs.Lists.{names_len}
+use Rattle.ff_files.proofs.Lists.{files_len}
 use Rattle.ff_files.proofs.Creations.{creates_as}
 use Rattle.ff_words.specs.Words.{written}
 use Rattle.ff_command.specs.declared.written.Written.{Written}
@@ -27,14 +28,14 @@ returns-clause-ran g c =
     let job = c.args.job.now in
     let ins = counted H.in_faults c.args.host.now c.over_files-end.new.host in
     let outs = counted H.out_faults c.args.host.now c.over_files-end.new.host in
-    let names = names_of (λ (w : Written). w.name.now) c.args.files.now in
+    let names = files_of (λ (w : Written). option_copied w.file) c.args.files.now in
     let same : names ≡ written job = c.requires.named in
     let e = c.over_files-end.ensures in
     ran (g.P.Worker.means c.args.worker.now) job (H.files c.args.host.now) (H.files c.over_files-end.new.host) ins outs c.requires.free c.over_files-end.result.end c.status_of_end.result
     c.as_slice-inputs.result.now names (length c.as_slice-count.result.now) c.status_of_end.ensures c.as_slice-inputs.ensures same (ap length c.as_slice-count.ensures) (record {
       bytes = e.bytes;
       front = e.front;
-      others = subst (λ n. KeepsAllBut (H.files c.args.host.now) (H.files c.over_files-end.new.host) names n) (sym (names_len (λ (w : Written). w.name.now) c.args.files.now)) e.others;
+      others = subst (λ n. KeepsAllBut (H.files c.args.host.now) (H.files c.over_files-end.new.host) names n) (sym (files_len (λ (w : Written). option_copied w.file) c.args.files.now)) e.others;
       untouched = e.untouched;
       ends = e.ends;
       in_counts = e.in_counts;
@@ -53,7 +54,7 @@ returns-clause-logged g c = λ fine.
     let after = H.files c.over_files-end.new.host in
     let ins = counted H.in_faults c.args.host.now c.over_files-end.new.host in
     let outs = counted H.out_faults c.args.host.now c.over_files-end.new.host in
-    let names = names_of (λ (w : Written). w.name.now) c.args.files.now in
+    let names = files_of (λ (w : Written). option_copied w.file) c.args.files.now in
     let same : names ≡ written job = c.requires.named in
     let n = length c.as_slice-count.result.now in
     let P = g.P.Worker in
@@ -75,7 +76,7 @@ returns-clause-traced g c = λ fine.
     let after = H.files c.over_files-end.new.host in
     let ins = counted H.in_faults c.args.host.now c.over_files-end.new.host in
     let outs = counted H.out_faults c.args.host.now c.over_files-end.new.host in
-    let names = names_of (λ (w : Written). w.name.now) c.args.files.now in
+    let names = files_of (λ (w : Written). option_copied w.file) c.args.files.now in
     let same : names ≡ written job = c.requires.named in
     let n = length c.as_slice-count.result.now in
     if_some_more _ (λ log. HoldsPrinted job before after log.history) c.over_files-end.result.log
@@ -91,7 +92,7 @@ returns-clause-created g c =
     let after = H.files c.over_files-end.new.host in
     let made = H.created c.over_files-end.new.host in
     let outs = counted H.out_faults c.args.host.now c.over_files-end.new.host in
-    let names = names_of (λ (w : Written). w.name.now) c.args.files.now in
+    let names = files_of (λ (w : Written). option_copied w.file) c.args.files.now in
     let same : names ≡ written job = c.requires.named in
     let end = c.over_files-end.result.end in
     creates_as (written job) made (λ k why. end ≡ end_of_output k why) (λ k why. c.status_of_end.result ≡ status_of (length job.outputs) (end_of_output k why)) before after outs

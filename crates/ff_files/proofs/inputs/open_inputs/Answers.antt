@@ -1,9 +1,9 @@
-use Rattle.std.proofs.Common.{◌≡◌, ◌<◌, ℕ, List, length, get_or, Some, Ok, Result, arith, sym, ap, ◌∙◌, subst}
+use Rattle.std.proofs.Common.{◌≡◌, ◌<◌, ℕ, List, [], length, get_or, Some, Ok, Result, arith, sym, ap, ◌∙◌, subst}
 use Rattle.std.proofs.lemmas.Grind.{common_steps}
-use Rattle.ff_host.specs.Causes.{SameElsewhere}
 use Rattle.ff_host.specs.Files.{bytes_at}
-use Rattle.ff_files.specs.Names.{names_of, name_at}
-use Rattle.ff_files.specs.Inputs.{IsRead, IsUnopened, begun_left, begun_name, begun_faults}
+use Rattle.ff_files.specs.Names.{Name, names_of, name_at}
+use Rattle.std.specs.Prelude.{IfSome, unwrap_or}
+use Rattle.ff_files.specs.Inputs.{IsRead, begun_left, begun_name, begun_faults}
 use Rattle.ff_files.specs.declared.head.InputEnd.{InputEnd}
 use Rattle.ff_files.proofs.Lists.{names_len, name_here, each_pushed, at_pushed, pushed_len}
 use Rattle.ff_files.proofs.Steps.{files_on, later_on, open_more}
@@ -19,13 +19,12 @@ returns-in-Err-clause-counts g c =
     let k = c.loop-k.k in
     let input = c.index-inputs-k.result in
     let lt : k < length c.args.inputs.now = let test = c.loop-k-test.true in omega (arith, test) in
-    let named : name input ≡ name_at names k = sym (name_here name c.args.inputs.now k input lt ∙ ap name (sym c.index-inputs-k.is)) in
+    let named : name_at names k ≡ Some (name input) = name_here name c.args.inputs.now k input lt ∙ ap (λ (i : _). Some (name i)) (sym c.index-inputs-k.is) in
     let old = H.in_faults c.args.host.now in
     let mid = H.in_faults c.loop-k.host in
     let new = H.in_faults c.open_input.new.host in
-    counts_unopened old mid new names k (length c.args.inputs.now) c.in-Err.end (let len = names_len name c.args.inputs.now in omega (arith, lt, len)) was.ins
-    (subst (λ (n : List ℕ). SameElsewhere n mid new) named c.open_input.ensures.in_others)
-    (subst (λ (n : List ℕ). IsUnopened c.in-Err.end (mid n) (new n)) named c.in-Err.ensures.unopened)
+    counts_unopened old mid new names k (length c.args.inputs.now) (name input) c.in-Err.end named (let len = names_len name c.args.inputs.now in omega (arith, lt, len)) was.ins
+    c.open_input.ensures.in_others c.in-Err.ensures.unopened
 
 pub returns-in-Err-clause-refused : goal.returns-in-Err-clause-refused
 returns-in-Err-clause-refused g c =
@@ -36,13 +35,12 @@ returns-in-Err-clause-refused g c =
     let k = c.loop-k.k in
     let input = c.index-inputs-k.result in
     let lt : k < length c.args.inputs.now = let test = c.loop-k-test.true in omega (arith, test) in
-    let named : name input ≡ name_at names k = sym (name_here name c.args.inputs.now k input lt ∙ ap name (sym c.index-inputs-k.is)) in
+    let named : name_at names k ≡ Some (name input) = name_here name c.args.inputs.now k input lt ∙ ap (λ (i : _). Some (name i)) (sym c.index-inputs-k.is) in
     let old = H.in_faults c.args.host.now in
     let mid = H.in_faults c.loop-k.host in
     let new = H.in_faults c.open_input.new.host in
     ends_unopened name g.I.InputFile.head (begun_faults g.H.Src.Source.faults) (H.files c.args.host.now) old new names c.args.inputs.now c.loop-k.srcs.items c.loop-k.heads.items k c.in-Err.end lt was.told_heads
-    (unopened_since c.in-Err.end (old (name_at names k)) (mid (name_at names k)) (new (name_at names k)) (was.ins (name_at names k))
-    (subst (λ (n : List ℕ). IsUnopened c.in-Err.end (mid n) (new n)) named c.in-Err.ensures.unopened))
+    (name input) named (unopened_since c.in-Err.end (old (name input)) (mid (name input)) (new (name input)) (was.ins (name input)) c.in-Err.ensures.unopened)
 
 pub returns-in-Err-head-clause-files : goal.returns-in-Err-head-clause-files
 returns-in-Err-head-clause-files g c = (let H = g.H.Host in files_on (H.files c.args.host.now) (H.files c.loop-k.host) (H.files c.open_input.new.host) c.loop-k.invariant.files c.open_input.ensures.files)
@@ -56,11 +54,11 @@ returns-in-Err-head-clause-own g c =
     let k = c.loop-k.k in
     let input = c.index-inputs-k.result in
     let lt : k < length c.args.inputs.now = let test = c.loop-k-test.true in omega (arith, test) in
-    let named : name input ≡ name_at names k = sym (name_here name c.args.inputs.now k input lt ∙ ap name (sym c.index-inputs-k.is)) in
+    let named : name_at names k ≡ Some (name input) = name_here name c.args.inputs.now k input lt ∙ ap (λ (i : _). Some (name i)) (sym c.index-inputs-k.is) in
     let long : length c.loop-k.srcs.items ≡ k = (let count = was.count in let ok = c.loop-k.srcs.ok.0 in omega arith) in
     open_more H.opened (begun_name g.H.Src.Source.name) c.loop-k.host c.open_input.new.host names c.loop-k.srcs.items c.push_reserved.new.self.items c.in-Ok.field-0.src k
     (λ n may. c.open_input.ensures.later.still_opened n may) was.own c.push_reserved.ensures.items long (let len = names_len name c.args.inputs.now in omega (arith, lt, len))
-    (c.in-Ok.ensures.name ∙ ap (λ (n : List ℕ). Some n) named) (subst (λ (n : List ℕ). H.opened c.open_input.new.host n) named c.in-Ok.ensures.opened)
+    (c.in-Ok.ensures.name ∙ sym named) (subst (λ (n : Name). IfSome n (H.opened c.open_input.new.host)) (sym named) c.in-Ok.ensures.opened)
 
 pub returns-in-Err-head-clause-refused : goal.returns-in-Err-head-clause-refused
 returns-in-Err-head-clause-refused g c =
@@ -102,7 +100,7 @@ loop-k-preserved g c =
     let h = c.in-Ok-head.head in
     let lt : k < length inputs = let test = c.loop-k-test.true in omega (arith, test) in
     let below : k < length names = let len = names_len name inputs in omega (arith, lt, len) in
-    let named : name input ≡ name_at names k = sym (name_here name inputs k input lt ∙ ap name (sym c.index-inputs-k.is)) in
+    let named : name_at names k ≡ Some (name input) = name_here name inputs k input lt ∙ ap (λ (i : _). Some (name i)) (sym c.index-inputs-k.is) in
     let read = subst (λ (r : Result g.row.I-Head.Denot InputEnd). IsRead (I.head input) I.is_sound r (begun_faults S.faults src) (begun_left S.left src) (H.files mid) (name input)) c.in-Ok-head.is made.read in
     let long : length c.loop-k.srcs.items ≡ k = (let count = was.count in let ok = c.loop-k.srcs.ok.0 in omega arith) in
     let long_heads : length c.loop-k.heads.items ≡ k = (let count = was.count_heads in let ok = c.loop-k.heads.ok.0 in omega arith) in
@@ -116,7 +114,7 @@ loop-k-preserved g c =
       later = later_on H.in_faults H.out_faults H.opened H.created old mid new was.later c.open_input.ensures.later;
       files = files_on (H.files old) (H.files mid) (H.files new) was.files c.open_input.ensures.files;
       own = open_more H.opened (begun_name S.name) mid new names c.loop-k.srcs.items srcs src k (λ n may. c.open_input.ensures.later.still_opened n may) was.own c.push_reserved.ensures.items long below
-          (made.name ∙ ap (λ (n : List ℕ). Some n) named) (subst (λ (n : List ℕ). H.opened new n) named made.opened);
+          (made.name ∙ sym named) (subst (λ (n : Name). IfSome n (H.opened new)) (sym named) made.opened);
       ins = λ n. made.ok_counts n ∙ was.ins n;
       outs = λ n. c.open_input.ensures.outs n ∙ was.outs n;
       sources = (let before = was.sources in let one = made.open_sources in omega (arith, before, one));
@@ -129,7 +127,7 @@ loop-k-preserved g c =
           ∙ ap (λ (hs : List g.row.I-Head.Denot). Ok hs) (sym c.push_reserved-in-Ok-head.ensures.items);
       told_bytes = λ told e j i d there. each_pushed (λ n x. begun_left S.left x ≡ Some (bytes_at told (name (get_or inputs n i)))) c.loop-k.srcs.items srcs src k c.push_reserved.ensures.items long (λ n f l. was.told_bytes told e n i f l)
           (gives_on (H.files old) (H.files mid) told (name input) (begun_left S.left src) was.files e read.3
-          ∙ ap (λ (n : List ℕ). Some (bytes_at told n)) (named ∙ name_here name inputs k i lt)) j d there;
+          ∙ ap (λ (n : Name). Some (bytes_at told (unwrap_or n []))) (sym named ∙ name_here name inputs k i lt)) j d there;
     }
 
 pub returns-clause-begun : goal.returns-clause-begun

@@ -1,10 +1,11 @@
 use Rattle.std.proofs.Common.{◌≡◌, inl, List, length, arith, sym, ◌∙◌, subst}
-use Rattle.ff_files.specs.Names.{names_of}
+use Rattle.ff_files.specs.Targets.{target_name, target_faults}
+use Rattle.ff_files.specs.Names.{names_of, files_of}
 use Rattle.ff_files.specs.Counts.{counted, KeepsCounts}
 use Rattle.ff_files.specs.Inputs.{AreBegun, begun_left, begun_faults, sound_before}
 use Rattle.ff_files.specs.Works.{command_of, told_bytes, HasLog, HoldMeaning, HoldWritten}
 use Rattle.ff_files.specs.Ends.{Ends, end_of_output, sound_inputs}
-use Rattle.ff_files.proofs.Lists.{names_len}
+use Rattle.ff_files.proofs.Lists.{names_len, files_len}
 use Rattle.ff_files.proofs.Wholes.{counts_all, counts_twice, has_more, heads_in}
 use Rattle.ff_files.proofs.EndLaws.{ends_headless, ends_earlier, headless_sound}
 use Rattle.ff_files.proofs.Steps.{files_on}
@@ -14,7 +15,7 @@ use Rattle.ff_files.proofs.whole.run_files.Goals as goal
 pub returns-in-Err-clause-ends : goal.returns-in-Err-clause-ends
 returns-in-Err-clause-ends g c =
     let H = g.H.Host in
-    let cmd = command_of g.I.Named.name_text g.I.InputFile.head g.N.Named.name_text c.args.inputs.now c.args.outputs.now c.args.count (g.W.Work.means c.args.work.now) in
+    let cmd = command_of g.I.Named.name_text g.I.InputFile.head g.N.OutputFile.file_name c.args.inputs.now c.args.outputs.now c.args.count (g.W.Work.means c.args.work.now) in
     let ins = counted H.in_faults c.args.host.now c.close_sources.new.host in
     let outs = counted H.out_faults c.args.host.now c.close_sources.new.host in
     subst (λ (e : _). Ends cmd (H.files c.args.host.now) ins outs e) (sym c.end_of.ensures)
@@ -24,7 +25,7 @@ returns-in-Err-clause-ends g c =
 pub returns-in-Err-clause-in_counts : goal.returns-in-Err-clause-in_counts
 returns-in-Err-clause-in_counts g c =
     let H = g.H.Host in
-    let cmd = command_of g.I.Named.name_text g.I.InputFile.head g.N.Named.name_text c.args.inputs.now c.args.outputs.now c.args.count (g.W.Work.means c.args.work.now) in
+    let cmd = command_of g.I.Named.name_text g.I.InputFile.head g.N.OutputFile.file_name c.args.inputs.now c.args.outputs.now c.args.count (g.W.Work.means c.args.work.now) in
     let names = names_of g.I.Named.name_text c.args.inputs.now in
     let old = H.in_faults c.args.host.now in
     let mid = H.in_faults c.open_inputs.new.host in
@@ -37,7 +38,7 @@ returns-in-Err-clause-in_counts g c =
 pub returns-clause-bytes : goal.returns-clause-bytes
 returns-clause-bytes g c = λ fine.
     let H = g.H.Host in
-    let cmd = command_of g.I.Named.name_text g.I.InputFile.head g.N.Named.name_text c.args.inputs.now c.args.outputs.now c.args.count (g.W.Work.means c.args.work.now) in
+    let cmd = command_of g.I.Named.name_text g.I.InputFile.head g.N.OutputFile.file_name c.args.inputs.now c.args.outputs.now c.args.count (g.W.Work.means c.args.work.now) in
     let old = H.files c.args.host.now in
     let srcs = c.open_inputs.new.srcs.items in
     subst (λ (hs : List g.row.I-Head.Denot). AreBegun g.I.Named.name_text g.I.InputFile.head (begun_left g.H.Src.Source.left) old c.args.inputs.now srcs hs → HoldMeaning cmd old (H.files c.plan_outputs.new.host)) c.deref.ensures.value
@@ -46,7 +47,7 @@ returns-clause-bytes g c = λ fine.
 pub returns-clause-front : goal.returns-clause-front
 returns-clause-front g c =
     let H = g.H.Host in
-    let cmd = command_of g.I.Named.name_text g.I.InputFile.head g.N.Named.name_text c.args.inputs.now c.args.outputs.now c.args.count (g.W.Work.means c.args.work.now) in
+    let cmd = command_of g.I.Named.name_text g.I.InputFile.head g.N.OutputFile.file_name c.args.inputs.now c.args.outputs.now c.args.count (g.W.Work.means c.args.work.now) in
     let old = H.files c.args.host.now in
     let srcs = c.open_inputs.new.srcs.items in
     subst (λ (hs : List g.row.I-Head.Denot). AreBegun g.I.Named.name_text g.I.InputFile.head (begun_left g.H.Src.Source.left) old c.args.inputs.now srcs hs → HoldWritten cmd old (H.files c.plan_outputs.new.host)) c.deref.ensures.value
@@ -55,7 +56,7 @@ returns-clause-front g c =
 pub returns-clause-ends : goal.returns-clause-ends
 returns-clause-ends g c =
     let H = g.H.Host in
-    let cmd = command_of g.I.Named.name_text g.I.InputFile.head g.N.Named.name_text c.args.inputs.now c.args.outputs.now c.args.count (g.W.Work.means c.args.work.now) in
+    let cmd = command_of g.I.Named.name_text g.I.InputFile.head g.N.OutputFile.file_name c.args.inputs.now c.args.outputs.now c.args.count (g.W.Work.means c.args.work.now) in
     let old = c.args.host.now in
     let mid = c.open_inputs.new.host in
     let new = c.plan_outputs.new.host in
@@ -70,7 +71,7 @@ returns-clause-ends g c =
 pub returns-clause-in_counts : goal.returns-clause-in_counts
 returns-clause-in_counts g c =
     let H = g.H.Host in
-    let cmd = command_of g.I.Named.name_text g.I.InputFile.head g.N.Named.name_text c.args.inputs.now c.args.outputs.now c.args.count (g.W.Work.means c.args.work.now) in
+    let cmd = command_of g.I.Named.name_text g.I.InputFile.head g.N.OutputFile.file_name c.args.inputs.now c.args.outputs.now c.args.count (g.W.Work.means c.args.work.now) in
     let names = names_of g.I.Named.name_text c.args.inputs.now in
     let old = H.in_faults c.args.host.now in
     let mid = H.in_faults c.open_inputs.new.host in
@@ -83,7 +84,7 @@ returns-clause-logged g c = λ fine.
     let H = g.H.Host in
     let W = g.W.Work in
     let work = c.args.work.now in
-    let cmd = command_of g.I.Named.name_text g.I.InputFile.head g.N.Named.name_text c.args.inputs.now c.args.outputs.now c.args.count (W.means work) in
+    let cmd = command_of g.I.Named.name_text g.I.InputFile.head g.N.OutputFile.file_name c.args.inputs.now c.args.outputs.now c.args.count (W.means work) in
     let old = H.files c.args.host.now in
     let left = begun_left g.H.Src.Source.left in
     let srcs = c.open_inputs.new.srcs.items in
@@ -107,5 +108,5 @@ returns-clause-created g c =
     let old = c.args.host.now in
     let mid = c.open_inputs.new.host in
     let new = c.plan_outputs.new.host in
-    creates_since (names_of g.N.Named.name_text c.args.outputs.now) (H.created new) (λ k why. c.plan_outputs.result.end ≡ end_of_output k why) (H.files old) (H.files mid) (H.files new) (H.out_faults old) (H.out_faults mid) (H.out_faults new)
+    creates_since (files_of g.N.OutputFile.file_name c.args.outputs.now) (H.created new) (λ k why. c.plan_outputs.result.end ≡ end_of_output k why) (H.files old) (H.files mid) (H.files new) (H.out_faults old) (H.out_faults mid) (H.out_faults new)
     c.in-Ok-open_inputs.ensures.files c.in-Ok-open_inputs.ensures.outs c.plan_outputs.ensures.created

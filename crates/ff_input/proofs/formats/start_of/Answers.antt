@@ -27,5 +27,6 @@ returns-in-FrameHash c = elim c.in-FrameHash.is [
   | inr (inr (inr (inl e))) ↦ rw e (λ more. refl)
   | inr (inr (inr (inr (inl e)))) ↦ rw e (λ more. refl)
   | inr (inr (inr (inr (inr (inl e))))) ↦ rw e (λ more. refl)
-  | inr (inr (inr (inr (inr (inr e))))) ↦ rw e (λ more. refl)
+  | inr (inr (inr (inr (inr (inr (inl e)))))) ↦ rw e (λ more. refl)
+  | inr (inr (inr (inr (inr (inr (inr e)))))) ↦ rw e (λ more. refl)
 ]

@@ -20,3 +20,6 @@ returns-in-Streams c = rw c.in-Streams.is c.last-in-Streams.ensures
 
 pub returns-in-Sum : goal.returns-in-Sum
 returns-in-Sum c = rw c.in-Sum.is c.last-in-Sum.ensures
+
+pub returns-in-Null : goal.returns-in-Null
+returns-in-Null c = rw c.in-Null.is c.last-in-Null.ensures
