@@ -14,6 +14,7 @@ mod parser;
 mod print;
 mod read;
 mod soundness;
+mod source;
 
 pub use error::LangError;
 pub use graph::{Arg, Chain, Filter, Graph};
@@ -22,3 +23,4 @@ pub use lists::{Sequence, Text};
 pub use print::print_graph;
 pub use read::read_graph;
 pub use soundness::graph_ok;
+pub use source::{SourceName, has_source};

@@ -9,9 +9,8 @@ use ff_filter::Filter;
 use ff_frame::{ConfigError, StreamHead};
 use ff_fsync::{HStack, VStack};
 use ff_joins::{Concat, Join};
-use ff_lang::{Filter as Named, read_graph};
+use ff_lang::{Filter as Named, SourceName, read_graph};
 use ff_node_sync::Shortest;
-use ff_source::SourceName;
 use ff_vfilter::{Crop, Fps, HFlip, LastingTrim, Null, Pad, SetPts, Split, VFlip};
 use std::alloc::{AllocError, Global};
 

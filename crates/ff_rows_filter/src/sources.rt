@@ -7,8 +7,8 @@ use crate::row::Row;
 use crate::table::Stop;
 use crate::told::Told;
 use ff_frame::StreamHead;
-use ff_lang::Arg;
-use ff_source::{GenSource, SourceName};
+use ff_lang::{Arg, SourceName};
+use ff_source::GenSource;
 
 // A source filter with the head of its stream.
 #[derive(Drop)]

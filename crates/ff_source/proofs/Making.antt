@@ -16,8 +16,8 @@ use Rattle.ff_source.specs.declared.silence_options.SilenceSettings.{SilenceSett
 use Rattle.ff_source.specs.declared.length.Length.{Length}
 use Rattle.ff_source.specs.declared.made.Made.{Made}
 use Rattle.ff_source.specs.declared.made.Made.TheVariants.{Pictures, Silence}
-use Rattle.ff_source.specs.declared.name.SourceName.{SourceName}
-use Rattle.ff_source.specs.declared.name.SourceName.TheVariants.{Color, ANullSrc}
+use Rattle.ff_lang.specs.declared.source.SourceName.{SourceName}
+use Rattle.ff_lang.specs.declared.source.SourceName.TheVariants.{Color, ANullSrc}
 use Rattle.ff_source.specs.Silences.{channels_named}
 use Rattle.ff_source.specs.ColorOptions.{SetsColor, color_manual, color_default, made_color, MakesColor}
 use Rattle.ff_source.specs.SilenceOptions.{SetsSilence, silence_manual, silence_default, MakesSilence}

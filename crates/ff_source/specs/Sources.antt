@@ -1,7 +1,6 @@
 -- Source filters: what each is by its name and arguments, and the frames that it gives.
 use Rattle.std.specs.Prelude.{ℕ, ◌<◌, ◌≤◌, ◌^◌, Option, Some, None, List, if◌then◌else◌, codes, Result}
 use Rattle.std.specs.Coded.{le_prop}
-use Rattle.std.specs.Str.{bytes_eq}
 use Rattle.std.specs.Int.{div_ceil}
 use Rattle.ff_frame.specs.declared.config.ConfigError.{ConfigError}
 use Rattle.ff_frame.specs.declared.head.StreamHead.{StreamHead}
@@ -9,17 +8,14 @@ use Rattle.ff_frame.specs.Video.{IsSide}
 use Rattle.ff_lang.specs.declared.graph.Arg.{Arg}
 use Rattle.ff_stream.specs.declared.item.Item.{Item}
 use Rattle.ff_stream.specs.Stream.{Stream, whole_stream}
-use Rattle.ff_source.specs.declared.name.SourceName.{SourceName}
-use Rattle.ff_source.specs.declared.name.SourceName.TheVariants.{Color, ANullSrc}
+use Rattle.ff_lang.specs.declared.source.SourceName.{SourceName}
+use Rattle.ff_lang.specs.declared.source.SourceName.TheVariants.{Color, ANullSrc}
 use Rattle.ff_source.specs.declared.made.Made.{Made}
 use Rattle.ff_source.specs.declared.made.Made.TheVariants.{Pictures, Silence}
 use Rattle.ff_source.specs.Colors.{color_frame, color_frames, color_head}
 use Rattle.ff_source.specs.Silences.{silence_frame, silence_frames, silence_head}
 use Rattle.ff_source.specs.ColorOptions.{IsColor}
 use Rattle.ff_source.specs.SilenceOptions.{IsSilence}
-
-abbrev pub source_named : List ℕ → Option SourceName
-source_named name = if bytes_eq name (codes "color") then Some Color else (if bytes_eq name (codes "anullsrc") then Some ANullSrc else None)
 
 -- what a source filter gives by its arguments, or why it is refused
 abbrev pub IsSource : SourceName → List Arg → Result Made ConfigError → Type 0

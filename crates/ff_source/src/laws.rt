@@ -9,7 +9,7 @@ ghost use Rattle.ff_stream.specs.Times.{IsInTime};
 ghost use Rattle.ff_stream.specs.Within.{within, passes_limits};
 ghost use Rattle.ff_source.specs.declared.color.Color.TheVariants.{Black, White};
 ghost use Rattle.ff_source.specs.declared.made.Made.{Made};
-ghost use Rattle.ff_source.specs.declared.name.SourceName.{SourceName};
+ghost use Rattle.ff_lang.specs.declared.source.SourceName.{SourceName};
 ghost use Rattle.ff_source.specs.Colors.{color_frames};
 ghost use Rattle.ff_source.specs.Silences.{silence_frames};
 ghost use Rattle.ff_source.specs.Sources.{IsSource, CanGive, head_of, frames_of, stream_of, end_in};

@@ -6,12 +6,11 @@ ghost use Rattle.ff_source.specs.Sources.{CanGive, IsSource, head_of, count_of, 
 
 use crate::color::Pictures;
 use crate::color_options::{ColorSettings, make_color};
-use crate::name::SourceName;
 use crate::silence::Silence;
 use crate::silence_options::{SilenceSettings, make_silence};
 use ff_filter::read_args;
 use ff_frame::{ConfigError, StreamHead};
-use ff_lang::Arg;
+use ff_lang::{Arg, SourceName};
 use ff_stream::Item;
 use std::alloc::{AllocError, Global};
 

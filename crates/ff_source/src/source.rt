@@ -4,9 +4,8 @@ ghost use Rattle.ff_stream.specs.declared.item.Item.{Item};
 ghost use Rattle.ff_source.specs.Sources.{CanGive, CanGive-prop};
 
 use crate::made::{Made, made_by};
-use crate::name::SourceName;
 use ff_frame::{ConfigError, StreamHead};
-use ff_lang::Arg;
+use ff_lang::{Arg, SourceName};
 use ff_stream::Item;
 use std::alloc::{AllocError, Global};
 
