@@ -4,6 +4,7 @@
 //! To a contract a reader is the list of the bits that are left, and a writer the list of those that were written.
 #![tactic(auto)]
 
+mod bytes;
 mod code;
 mod crc;
 mod laws;
@@ -16,6 +17,7 @@ mod window;
 mod word;
 mod writer;
 
+pub use bytes::know_bytes;
 pub use crc::{crc8, crc16};
 pub use laws::{
     a_sum_behind_its_bytes_leaves_nothing, coded_numbers_are_apart,

@@ -9,7 +9,8 @@ ghost use Rattle.ff_files.specs.Hosts.{AreOpen};
 ghost use Rattle.ff_files.specs.Inputs.{AreBegun};
 ghost use Rattle.ff_files.specs.Outputs.{CreatesOutputs};
 ghost use Rattle.ff_files.specs.Works.{command_of, HasLog, AreHeadsIn, HoldMeaning, HoldTrace, HoldWritten, told_bytes};
-ghost use Rattle.ff_files.specs.Ends.{Ends, ComesBeforeOutputs, end_of_output as end_by_output, sound_inputs, sound_outputs, refusal, IsFirstRefused, HasNoPlan, CanBeDone};
+ghost use Rattle.ff_files.specs.Ends.{Ends, ComesBeforeOutputs, end_of_output as end_by_output};
+ghost use Rattle.ff_files.specs.Ends.{sound_inputs, sound_outputs, refusal, IsFirstRefused, HasNoPlan, CanBeDone};
 
 use crate::closing::{close_all, close_sources};
 use crate::end::{Outcome, RunEnd, end_of, end_of_output, end_of_plan, end_with};

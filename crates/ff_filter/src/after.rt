@@ -1,6 +1,6 @@
 //! The state of an output stream after an item.
 ghost use Rattle.std.specs.Prelude.{◌≡◌};
-ghost use Rattle.ff_filter.specs.Made.{closing};
+ghost use Rattle.ff_filter.specs.Made.{closing, is_over};
 
 use ff_stream::Item;
 
@@ -13,6 +13,15 @@ pub enum After {
     Whole,
     /// It breaks off here.
     Broke,
+}
+
+impl After {
+    /// Whether the stream goes on no further.
+    pub fn is_over(self) -> bool
+        ensures { result ≡ is_over self }
+    {
+        self != After::More
+    }
 }
 
 /// What an item that closes its stream says of it.

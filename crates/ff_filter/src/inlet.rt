@@ -51,7 +51,7 @@ impl Inlet {
     pub fn is_shut(&self) -> bool
         ensures { result ≡ is_over self.now.after }
     {
-        self.after != After::More
+        self.after.is_over()
     }
 
     /// Makes room for one item more.

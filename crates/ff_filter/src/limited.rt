@@ -1,5 +1,5 @@
 //! The limits of every stream, put on a function of one stream.
-ghost use Rattle.std.specs.Prelude.{◌≡◌, ◌≤◌, ◌<◌, ◌/◌, ◌^◌, ◌≤ℤ◌, refl, Option, IsTrue};
+ghost use Rattle.std.specs.Prelude.{◌≡◌, ◌≤◌, ◌^◌};
 ghost use Rattle.ff_stream.specs.Within.{passes_limits};
 ghost use Rattle.ff_stream.specs.declared.item.Lane.TheVariants.{Frames};
 ghost use Rattle.ff_filter.specs.Views.{closes};
@@ -8,10 +8,9 @@ ghost use Rattle.ff_filter.specs.Limits.{limit_step, limited};
 ghost use Rattle.ff_filter.specs.LimitLaws.{limited-waits, limited-ends, limited-breaks, limited-below, limited-calm, limited-settles};
 
 use crate::after::After;
-use crate::limits::is_long;
 use crate::step::{Given, Step};
 use ff_frame::StreamHead;
-use ff_stream::{Item, Refused};
+use ff_stream::{Item, Refused, is_long};
 
 /// A function of one stream, cut at the limits of every stream. Its output breaks off before item number 2^40,
 /// counted from 0, and before an item that ends past 1,000,000,000 seconds.

@@ -75,7 +75,7 @@ impl<T: Step> Stepper<T> {
             (stepper_view (T.lane_in self.new.step) (T.lane_out self.new.step) (T.runs self.new.step)
             self.new.outlet.queue.items self.new.outlet.ended self.new.outlet.stopped self.new.after self.new.shut)) }
     {
-        if self.outlet.stopped | (self.after != After::More) {
+        if self.outlet.stopped | self.after.is_over() {
             discard(item);
             return Ok(());
         }
@@ -100,7 +100,7 @@ impl<T: Step> Stepper<T> {
             self.now.outlet.queue.items self.now.outlet.ended self.now.outlet.stopped self.now.after self.now.shut) 0 }
         ensures is { result ≡ steps_spent self.now.after self.now.outlet.ended self.now.outlet.stopped }
     {
-        self.outlet.is_done() | (self.after != After::More)
+        self.outlet.is_done() | self.after.is_over()
     }
 }
 

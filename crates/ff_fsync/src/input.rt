@@ -50,7 +50,7 @@ impl Input {
     pub fn is_shut(&self) -> bool
         ensures { result ≡ is_over self.now.after }
     {
-        self.after != After::More
+        self.after.is_over()
     }
 
     /// Whether all has come.

@@ -5,7 +5,6 @@ ghost use Rattle.ff_joins.specs.Segmented.{over_at, segments_view, segments_spen
 ghost use Rattle.ff_joins.specs.SegmentLaws.{segments-grows, segments-hides, segments-settles};
 ghost use Rattle.ff_joins.specs.SegmentLaws.{segments-quiet, segments-spent_only, segments-shut_spent, segments-done_spent};
 
-use crate::over::is_over;
 use crate::segments::Segments;
 use ff_filter::Filter;
 use ff_stream::{Item, Refused};
@@ -28,7 +27,7 @@ impl Concat {
         ensures is { result ≡ segments_spent self.now.segments port }
     {
         let shut = self.segments.inlets[port].is_shut();
-        let over = is_over(self.segments.after);
+        let over = self.segments.after.is_over();
         shut | (self.segments.outlet.stopped | (self.segments.outlet.ended | over))
     }
 }

@@ -7,11 +7,10 @@ ghost use Rattle.ff_filter.specs.Made.{is_over as is_over_by, closing, waiting};
 ghost use Rattle.ff_filter.specs.Views.{closes, Same, Fed, Gave, Waits};
 ghost use Rattle.ff_joins.specs.Segmented.{over_at, waits_in, segments_view, is_drawn, is_settled, Settled, Turned, to_settle};
 
-use crate::over::is_over;
 use crate::segments::Segments;
 use crate::times::later;
-use ff_filter::{After, Inlet, Next, Outlet, closing_of, is_long};
-use ff_stream::{Item, Refused, discard, end_ticks};
+use ff_filter::{After, Inlet, Next, Outlet, closing_of};
+use ff_stream::{Item, Refused, discard, end_ticks, is_long};
 
 // How many items wait on these inputs.
 fn waits(inlets: &[Inlet]) -> Option<usize>
@@ -96,7 +95,7 @@ impl Segments {
         ensures shrinks { result ≡ true → to_settle self.new < to_settle self.old }
         ensures drawn { result ≡ false → is_drawn self.new ≡ true }
     {
-        if is_over(self.after) {
+        if self.after.is_over() {
             return false;
         }
         match self.inlets[self.current].next() {
@@ -205,7 +204,7 @@ impl Segments {
         ensures unchanged { OnErr result (Same (segments_view self.old) (segments_view self.new)) }
         ensures settled { is_settled self.new ≡ true }
     {
-        if self.outlet.stopped | is_over(self.after) {
+        if self.outlet.stopped | self.after.is_over() {
             self.pass_over(port, item);
             return Ok(());
         }

@@ -4,7 +4,6 @@ ghost use Rattle.ff_joins.specs.JoinSeen.{join_seen, join_spent};
 ghost use Rattle.ff_joins.specs.JoinLaws.{join-grows, join-hides, join-settles, join-quiet, join-spent_only, join-shut_spent, join-done_spent};
 
 use crate::join::Join;
-use crate::over::is_over;
 use ff_filter::Filter;
 use ff_stream::{Item, Refused};
 use std::alloc::AllocError;
@@ -23,7 +22,7 @@ impl Filter for Join {
     }
 
     fn is_shut(&self, port: usize) -> bool {
-        is_over(self.inlets[port].after)
+        self.inlets[port].after.is_over()
     }
 
     fn is_stopped(&self, _port: usize) -> bool {

@@ -16,11 +16,10 @@ ghost use Rattle.ff_joins.specs.JoinDrawing.{due, frame_start, frame_with, HaveA
 
 use crate::join::Join;
 use crate::join_options::{channels, rate_and_bits};
-use crate::over::is_over;
 use crate::rows::{any_stands, fewest, first_rows, skip_rows, width};
-use ff_filter::{After, closing_of, ends_past, is_long};
+use ff_filter::{After, closing_of};
 use ff_frame::AFrame;
-use ff_stream::{Item, Refused, discard, ticks_from, time_base};
+use ff_stream::{Item, Refused, discard, ends_past, is_long, ticks_from, time_base};
 use std::alloc::AllocError;
 
 // The sample frames of a frame, but for the last one.
@@ -237,7 +236,7 @@ impl Join {
         ensures refused { IfErr result (λ r. r.item ≡ item) }
         ensures unchanged { OnErr result (Same (join_seen self.old) (join_seen self.new)) }
     {
-        if self.stopped | (self.ended | is_over(self.after)) {
+        if self.stopped | (self.ended | self.after.is_over()) {
             self.pass_over(port, item);
             return Ok(());
         }
@@ -289,7 +288,7 @@ impl Join {
     {
         let count = fewest(self.inlets.as_slice());
         let standing = self.standing(count);
-        if is_over(standing) {
+        if standing.is_over() {
             return true;
         }
         self.is_cut(count / WHOLE_FRAME)
@@ -299,7 +298,7 @@ impl Join {
     fn is_decided(&self) -> bool
         ensures { result ≡ is_decided_by self.now }
     {
-        is_over(self.after) || self.is_fed_out()
+        self.after.is_over() || self.is_fed_out()
     }
 
     /// Whether nothing more of an input can matter. That is exactly where it has closed, or where the output isn't
@@ -309,7 +308,7 @@ impl Join {
         ensures exact { IsTrue result ↔ IsSpent (join_seen self.now) port }
         ensures is { result ≡ join_spent self.now port }
     {
-        let shut = is_over(self.inlets[port].after);
+        let shut = self.inlets[port].after.is_over();
         let decided = self.is_decided();
         shut | (self.stopped | (self.ended | decided))
     }

@@ -17,7 +17,6 @@ mod join_options;
 mod joining;
 mod keeping;
 mod laws;
-mod over;
 mod rows;
 mod segments;
 mod sound_inlet;

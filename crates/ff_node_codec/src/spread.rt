@@ -14,7 +14,7 @@ ghost use Rattle.ff_node_codec.specs.Lines.{line_at, HaveRoom};
 
 use crate::outs::{last_wanted, put_on_all, reserve_all};
 use crate::ready::Ready;
-use crate::step::{Step, is_over};
+use crate::step::Step;
 use ff_filter::After;
 use ff_net::Fault;
 use ff_stream::{Item, Refused};
@@ -109,7 +109,7 @@ impl Spread {
         ensures shared { OnErr result (2 ≤ length self.old.outs.items) }
     {
         let closes = made.closes();
-        let over = is_over(after);
+        let over = after.is_over();
         put_on_all(alloc, &mut self.outs, made, after)?;
         self.closed = self.closed | (closes | over);
         if self.damage.is_none() {

@@ -2,7 +2,6 @@
 ghost use Rattle.std.specs.Prelude.{◌≡◌, ℕ};
 ghost use Rattle.ff_stream.specs.declared.item.Item.{Item};
 ghost use Rattle.ff_stream.specs.Items.{Closes};
-ghost use Rattle.ff_filter.specs.Made.{is_over as is_over_by};
 ghost use Rattle.ff_node_codec.specs.Making.{Outcome};
 ghost use Rattle.ff_node_codec.specs.Steps.{FollowsFrom, GivesBack};
 
@@ -23,13 +22,6 @@ pub enum Step {
     },
     /// Nothing.
     Passes,
-}
-
-/// Whether nothing more comes.
-pub fn is_over(after: After) -> bool
-    ensures { result ≡ is_over_by after }
-{
-    after != After::More
 }
 
 /// An input that closes closes each output.

@@ -7,27 +7,16 @@ ghost use Rattle.ff_frame.specs.Heads.{base_of_head};
 ghost use Rattle.ff_node_demux.specs.Demuxing.{ends_beyond, passes_in_demux};
 
 use ff_frame::{Pkt, StreamHead};
-use ff_stream::time_base;
+use ff_stream::{MOST_ITEMS, ends_past, ticks_from};
 
 /// The last byte at which a packet may end.
 const LAST_BYTE: u64 = 1 << 40;
-
-/// The most items of a stream.
-const MOST_ITEMS: u64 = 1 << 40;
-
-/// The seconds after which no item may end.
-const LAST_SECOND: u128 = 1_000_000_000;
 
 // Whether a packet ends past the last second.
 fn ends_late(head: &StreamHead, packet: &Pkt) -> bool
     ensures { result ≡ nat_lt (1000000000 * (base_of_head head.now).den) (ticks (end_of (Item.Packet packet.now)) * (base_of_head head.now).num) }
 {
-    let tb = time_base(head);
-    let end = packet.pts as i128 + packet.duration as i128;
-    if end <= 0 {
-        return false;
-    }
-    LAST_SECOND * (tb.den() as u128) < (end as u128) * (tb.num() as u128)
+    ends_past(head, ticks_from(packet.pts as i128 + packet.duration as i128))
 }
 
 // Whether a packet ends past the last byte.

@@ -12,6 +12,7 @@ ghost use Rattle.ff_node_flac.specs.Packets.{at_coded, coded_bits};
 ghost use Rattle.ff_node_flac.specs.Kept.{IsCut, AllCut-prop, IsFormat, IsFormat-prop, IsTaken};
 
 use crate::coder::Coder;
+use ff_bits::know_bytes;
 use ff_flac_enc::{Blocks, Counter, Format};
 use ff_frame::{AFrame, Bytes, Pkt, Totals};
 use ff_pcm::{depth_change, is_audio};
@@ -72,13 +73,6 @@ pub fn coded(bits: u8) -> u8
     ensures { result ≡ coded_bits bits }
 {
     if 4 <= bits && bits <= 24 { bits } else { 24 }
-}
-
-// Bytes are numbers below 256.
-fn know_bytes(bytes: &[u8])
-    ensures { (i : ℕ) → slice_index bytes.now i < 256 }
-{
-    let _count = bytes.len();
 }
 
 // The first blocks, so many.

@@ -1,9 +1,7 @@
 //! The ends of items as exact times.
 ghost use Rattle.std.specs.Prelude.{◌≡◌, ◌≤◌, ◌^◌, max};
-ghost use Rattle.ff_filter.specs.Made.{is_over as is_over_by};
 ghost use Rattle.ff_node_sync.specs.Shortened.{is_before as is_before_by};
 
-use ff_filter::After;
 use ff_time::Rational;
 
 /// The later of two times.
@@ -20,11 +18,4 @@ pub fn is_before(a: u64, ta: Rational, b: u128, tb: Rational) -> bool
 {
     (a as u128) * ((ta.num() as u128) * (tb.den() as u128))
         < b * ((tb.num() as u128) * (ta.den() as u128))
-}
-
-/// Whether a stream goes on no further.
-pub fn is_over(after: After) -> bool
-    ensures { result ≡ is_over_by after }
-{
-    after != After::More
 }

@@ -37,7 +37,7 @@ impl Side {
     pub fn is_shut(&self) -> bool
         ensures { result ≡ is_over self.now.after }
     {
-        self.after != After::More
+        self.after.is_over()
     }
 
     // Takes in what closes the stream.

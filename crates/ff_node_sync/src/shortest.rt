@@ -11,7 +11,7 @@ ghost use Rattle.ff_node_sync.specs.Moves.{IsClosedAt};
 ghost use Rattle.ff_node_sync.specs.ShortLaws.{shortest-grows, shortest-hides, shortest-settles, shortest-quiet, shortest-spent_only};
 ghost use Rattle.ff_node_sync.specs.ShortLaws.{shortest-shut_spent, shortest-done_spent};
 
-use crate::end::{is_before, is_over};
+use crate::end::is_before;
 use crate::side::Side;
 use ff_filter::{After, Filter, start_of_item};
 use ff_frame::StreamHead;
@@ -132,7 +132,7 @@ impl Shortest {
         if side.stopped | side.ended {
             return true;
         }
-        is_over(self.mark(p))
+        self.mark(p).is_over()
     }
 
     // The same of each output.

@@ -5,7 +5,7 @@
 //!                             └──► PcmCut: feed, reserve, end ──► pull ──► packets of 1,024 sample frames, the last one the rest
 //! ```
 //!
-//! `specs/Packets` says which packets a body has, and `specs/Cuts` how a cut's state is tied to what it was fed and gave.
+//! `specs/body/Packets` says which packets a body has, and `specs/body/Cuts` how a cut's state is tied to what it was fed and gave.
 
 mod cut;
 mod head;

@@ -10,6 +10,7 @@ use crate::endian::{Big, Endian, Little};
 use crate::sample::{
     Sample, Signed8, Signed16, Signed24, Signed32, Unsigned8, Unsigned16, Unsigned24, Unsigned32,
 };
+use ff_bits::know_bytes;
 use ff_frame::{AFrame, ByteOrder, Codec, PcmDepth};
 use std::alloc::{AllocError, Global};
 
@@ -70,13 +71,6 @@ pub fn room_for(alloc: Global, codec: Codec, frame: &AFrame) -> Result<Vec<u8>, 
         alloc,
         size_of_sample(codec) * frame.samples.as_slice().len(),
     )
-}
-
-// Bytes are numbers below 256.
-fn know_bytes(bytes: &[u8])
-    ensures { All (λ b. b < 256) bytes.now }
-{
-    let _count = bytes.len();
 }
 
 /// Writes the bytes that stand for a frame's samples (RIFF WAVE, the data of PCM formats) into a place of their size.

@@ -1,5 +1,6 @@
 //! A byte queue, first in, first out.
-ghost use Rattle.std.specs.Prelude.{◌≡◌, ◌≢◌, ◌↔◌, ◌+◌, ◌-◌, ◌≤◌, ◌<◌, ◌^◌, [], ◌++◌, IfOk, OnOk, OnErr, IsOk, ℕ, true, false, length, take, drop, vec_len, vec_capacity, slice_get};
+ghost use Rattle.std.specs.Prelude.{◌≡◌, ◌≢◌, ◌↔◌, ◌+◌, ◌-◌, ◌≤◌, ◌<◌, ◌^◌, [], ◌++◌};
+ghost use Rattle.std.specs.Prelude.{IfOk, OnOk, OnErr, IsOk, ℕ, true, false, length, take, drop, vec_len, vec_capacity, slice_get};
 ghost use Rattle.ff_frame.specs.declared.packet.Pkt.{Pkt};
 
 use ff_frame::Cut;

@@ -15,8 +15,10 @@
 
 mod edges;
 mod item;
+mod limits;
 mod times;
 
 pub use edges::{Edge, edges_into, edges_out_of};
 pub use item::{Item, Lane, Refused, discard};
+pub use limits::{MOST_ITEMS, ends_past, is_long};
 pub use times::{end_of_item, end_ticks, shared, ticks_from, time_base, with_base};

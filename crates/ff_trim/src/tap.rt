@@ -93,7 +93,7 @@ impl Tap {
     pub fn is_over(&self) -> bool
         ensures { result ≡ is_over_by self.now.after }
     {
-        self.after != After::More
+        self.after.is_over()
     }
 
     /// Whether an item waits before the cut.

@@ -14,9 +14,9 @@ ghost use Rattle.ff_vfilter.specs.RateCuts.{span_of, span_ahead, is_late as is_l
 
 use crate::showing::{Ahead, Showing};
 use crate::span::Span;
-use ff_filter::{Filter, Inlet, MOST_ITEMS, Next, closing_of, ends_past};
+use ff_filter::{Filter, Inlet, Next, closing_of};
 use ff_frame::{StreamHead, VFrame};
-use ff_stream::{Item, Refused, discard};
+use ff_stream::{Item, MOST_ITEMS, Refused, discard, ends_past};
 use std::alloc::{AllocError, Global};
 use std::mem::replace;
 

@@ -28,7 +28,8 @@ use Rattle.ff_words.specs.declared.table.Rule.{Rule}
 use Rattle.ff_words.specs.declared.table.Kind.{Kind}
 use Rattle.ff_words.specs.declared.table.Kind.TheVariants as kind
 use Rattle.ff_words.specs.Words.{AreRead, is_too_much, is_dashed}
-use Rattle.ff_words.specs.Words.{IsAnswer, end_by, file_names, is_output, takes_value, tokens, Token, written, fault, misplaced, bad_at, late, unwritable, cut_of, start_of, ends_early, last_place}
+use Rattle.ff_words.specs.Words.{IsAnswer, end_by, file_names, is_output, takes_value, tokens, Token, written}
+use Rattle.ff_words.specs.Words.{fault, misplaced, bad_at, late, unwritable, cut_of, start_of, ends_early, last_place}
 use Rattle.ff_words.specs.Words.{IsEntry, IsFaultAt, Entry, groups, last, each, first_place, not_before_input, not_before_output, not_at_end, or_else}
 use Rattle.ff_words.specs.Words.{unreadable, as_format, as_start, as_length, as_end, as_map, as_audio, as_video, as_vf, as_af, as_no_audio, as_no_video}
 use Rattle.ff_words.specs.Words.{own_asked, as_shortest, as_frames, as_hash, as_rf64, as_queue, as_trace, as_keeps, as_graph, as_solo, stands_alone, inputs, outputs}

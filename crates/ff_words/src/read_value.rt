@@ -2,7 +2,8 @@
 ghost use Rattle.std.specs.Prelude.{◌≡◌, ◌-◌, ◌^◌, ◌<◌, ◌≤◌, ℕ, length, IfOk, MatchOption, None};
 ghost use Rattle.ff_time.specs.Duration.{IsDigit};
 ghost use Rattle.ff_words.specs.maps.Grammar.{IsNumber};
-ghost use Rattle.ff_words.specs.Values.{Reads, ReadsGraph, ReadsTime, ReadsMap, ReadsWhole, hash_value, rf64_value, pixels_value, is_spelled, switched, value_named, IsSmall, ReadsNumber, ReadsLevel, mode_value};
+ghost use Rattle.ff_words.specs.Values.{Reads, ReadsGraph, ReadsTime, ReadsMap, ReadsWhole, hash_value, rf64_value, pixels_value, is_spelled, switched};
+ghost use Rattle.ff_words.specs.Values.{value_named, IsSmall, ReadsNumber, ReadsLevel, mode_value};
 ghost use Rattle.ff_words.specs.Table.{is_level as level_named};
 
 use crate::error::WordKind;

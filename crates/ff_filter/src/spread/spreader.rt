@@ -49,7 +49,7 @@ impl<S: Share + Drop> Spreader<S> {
             (lines self.now.outlets.items) self.now.after) 0 }
         ensures is { result ≡ spread_spent self.now.after self.now.outlets.items }
     {
-        (self.after != After::More) | ((0 < self.outlets.len()) & all_done(&self.outlets))
+        self.after.is_over() | ((0 < self.outlets.len()) & all_done(&self.outlets))
     }
 }
 
@@ -68,7 +68,7 @@ impl<S: Share + Drop> Filter for Spreader<S> {
     }
 
     fn is_shut(&self, _port: usize) -> bool {
-        self.after != After::More
+        self.after.is_over()
     }
 
     fn is_stopped(&self, port: usize) -> bool {

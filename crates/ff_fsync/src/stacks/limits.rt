@@ -2,8 +2,8 @@
 ghost use Rattle.std.specs.Prelude.{◌≡◌, ◌≤◌, ◌+◌, ◌^◌, ◌≤ℤ◌, false};
 ghost use Rattle.ff_fsync.specs.stacks.Limits.{long_at};
 
-use ff_filter::{MOST_ITEMS, ends_past};
 use ff_frame::StreamHead;
+use ff_stream::{MOST_ITEMS, ends_past};
 
 /// Whether an item that ends then passes a limit, where so many came before it.
 pub(crate) fn is_long(head: &StreamHead, before: u64, end: u128) -> bool

@@ -12,6 +12,7 @@ ghost use Rattle.ff_node_codec.specs.codecs.PcmLaws.{pcm_decoded, pcm_encoded, p
 
 use crate::codecs::decoder::Decoder;
 use crate::codecs::encoder::Encoder;
+use ff_bits::know_bytes;
 use ff_frame::{AFrame, Bytes, Codec, Pkt, StreamHead};
 use ff_pcm::{depth_change, depth_of, has_blocks, is_audio, pcm_decode, pcm_encode_into, room_for};
 use ff_stream::Item;
@@ -35,13 +36,6 @@ impl PcmDecoder {
     {
         PcmDecoder { alloc, head }
     }
-}
-
-// Bytes are numbers below 256.
-fn know_bytes(bytes: &[u8])
-    ensures { (i : ℕ) → slice_index bytes.now i < 256 }
-{
-    let _count = bytes.len();
 }
 
 // The frame of a packet.

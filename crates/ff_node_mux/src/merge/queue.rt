@@ -45,7 +45,7 @@ impl PacketQueue {
     pub fn is_shut(&self) -> bool
         ensures { result ≡ is_over self.now.after }
     {
-        self.after != After::More
+        self.after.is_over()
     }
 
     /// Whether its next packet isn't known, and may still come or was lost.

@@ -5,8 +5,9 @@ ghost use Rattle.ff_stream.specs.declared.item.Lane.TheVariants.{Frames};
 ghost use Rattle.ff_stream.specs.Times.{ticks, end_ticks as end_of_ticks};
 ghost use Rattle.ff_stream.specs.Within.{passes_limits};
 
+use crate::item::Item;
+use crate::times::{end_ticks, time_base};
 use ff_frame::StreamHead;
-use ff_stream::{Item, end_ticks, time_base};
 
 /// The most items of a stream.
 pub const MOST_ITEMS: u64 = 1 << 40;
