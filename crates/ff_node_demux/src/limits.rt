@@ -16,7 +16,10 @@ const LAST_BYTE: u64 = 1 << 40;
 fn ends_late(head: &StreamHead, packet: &Pkt) -> bool
     ensures { result ≡ nat_lt (1000000000 * (base_of_head head.now).den) (ticks (end_of (Item.Packet packet.now)) * (base_of_head head.now).num) }
 {
-    ends_past(head, ticks_from(packet.pts as i128 + packet.duration as i128))
+    ends_past(
+        head,
+        ticks_from(packet.pts as i128 + packet.duration as i128),
+    )
 }
 
 // Whether a packet ends past the last byte.
