@@ -35,7 +35,7 @@ use Rattle.ff_words.specs.Numbers.{size_of}
 use Rattle.ff_words.specs.declared.job.Size.{Size}
 use Rattle.ff_frame.specs.declared.video.Format.TheVariants.{C420, C422, C444, Mono}
 use Rattle.ff_words.specs.Table.{format_ending}
-use Rattle.ff_words.specs.Words.{Token, Entry, fault, early, option_fault, name_fault, given_fault, is_full, is_too_much, is_dashed, is_file, is_output, late, misplaced, bad_at, own_early, or_else, takes, placed, IsOption, IsNamed, IsToken, TokenReads, IsEntry, AreRead, IsAnswer, tokens, command, job, last, as_solo, end_fault, end_by, stands_alone, run_fault, groups, inputs, outputs, same_name, output_format, command_by, first_place, not_before_input, not_before_output, not_at_end, unreadable, unwritable}
+use Rattle.ff_words.specs.Words.{Token, Entry, fault, early, option_fault, name_fault, given_fault, is_full, is_too_much, is_dashed, is_file, is_output, late, misplaced, bad_at, own_early, or_else, takes, placed, IsOption, IsNamed, IsToken, TokenReads, IsEntry, AreRead, IsAnswer, tokens, command, job, last, as_solo, end_fault, end_by, stands_alone, run_fault, groups, inputs, outputs, lacks_input, same_name, output_format, command_by, first_place, not_before_input, not_before_output, not_at_end, unreadable, unwritable}
 use Rattle.ff_words.specs.Reading.{reader, optioned, with_input, with_output}
 use Rattle.ff_words.proofs.Snoc.{entry, filed-is, output-filed, reader-snoc, reader-input}
 use Rattle.ff_words.proofs.Steps.{early-option}
@@ -381,14 +381,14 @@ not-none n e = grind arith
 
 bounded-job : (es : List Entry) (count : ℕ) → Small (reader es) → run_fault count (job es) ≡ None → IsBounded (job es)
 bounded-job es count s fine =
-    let ins = none-of (length (job es).inputs == 0) (fault count NoInput) (if length (job es).outputs == 0 then Some (fault count NoOutput) else (if same_name (job es) then Some (fault count SameName) else None)) fine in
+    let ins = none-of (lacks_input (job es).inputs (job es).graphs) (fault count NoInput) (if length (job es).outputs == 0 then Some (fault count NoOutput) else (if same_name (job es) then Some (fault count SameName) else None)) fine in
     let outs = none-of (length (job es).outputs == 0) (fault count NoOutput) (if same_name (job es) then Some (fault count SameName) else None) ins.1 in
     let names = none-of (same_name (job es)) (fault count SameName) None outs.1 in
     record {
       some_queue = s.some_queue;
       short_queue = s.short_queue;
       few_graphs = s.few_graphs;
-      some_inputs = not-none (length (job es).inputs) ins.0;
+      some_inputs = ins.0;
       few_inputs = s.few_inputs;
       some_outputs = not-none (length (job es).outputs) outs.0;
       few_outputs = s.few_outputs;

@@ -35,7 +35,7 @@ use Rattle.ff_words.specs.declared.value.Micros.{Micros}
 use Rattle.ff_words.specs.declared.value.Value.TheVariants as value
 use Rattle.ff_words.specs.Reading.{pending, reader, place_unless, end_wrong}
 use Rattle.ff_words.specs.declared.error.Fault.{Fault}
-use Rattle.ff_words.specs.Words.{IsAnswer, or_else, cut_of, start_of, length_of, ends_early, fault, bad_at, same_name}
+use Rattle.ff_words.specs.Words.{IsAnswer, or_else, cut_of, start_of, length_of, ends_early, fault, bad_at, lacks_input, same_name}
 use Rattle.ff_format.specs.Formats.{format_name, is_read, short_name}
 use Rattle.ff_words.specs.Options.{hash_name, rf64_name, pixels_name}
 use Rattle.ff_words.specs.declared.job.Asked.{Asked}
@@ -647,10 +647,9 @@ fine_end false false true count h k l = cc
 job-read : (j : Job) → IsFineJob j → length (job_words j) ≤ 1024 → IsAnswer (job_words j) (Ok (asked.Run j))
 job-read j fine few =
     let g : Goes (job_words j) [] (done j) = all-read j fine few in
-    let no_input : (length j.inputs == 0) ≡ false = ne_eqb (length j.inputs) 0 (λ e. omega (arith, e, fine.some_inputs)) in
     let no_output : (length j.outputs == 0) ≡ false = ne_eqb (length j.outputs) 0 (λ e. omega (arith, e, fine.some_outputs)) in
     let right : end_wrong (length (job_words j)) (done j) ≡ None =
-    fine_end (length j.inputs == 0) (length j.outputs == 0) (same_name j) (length (job_words j)) no_input no_output fine.names in
+    fine_end (lacks_input j.inputs j.graphs) (length j.outputs == 0) (same_name j) (length (job_words j)) fine.some_inputs no_output fine.names in
     ended (job_words j) g.at (done j) g.stands (Ok (asked.Run j)) (none_left (job_words j) g.at g.behind) (right, refl)
 
 -- a word that stands alone

@@ -9,6 +9,7 @@ use Rattle.std.specs.Str.{bytes_eq}
 use Rattle.std.specs.declared.alloc.Global.{Global}
 use Rattle.ff_frame.specs.declared.head.Codec.{Codec}
 use Rattle.ff_lang.specs.declared.graph.Graph.{Graph}
+use Rattle.ff_lang.specs.Sources.{has_source}
 use Rattle.ff_words.specs.declared.maps.map.MapSpec.{MapSpec}
 use Rattle.ff_words.specs.declared.error.Fault.{Fault}
 use Rattle.ff_words.specs.declared.error.WordKind.{WordKind}
@@ -543,9 +544,13 @@ repeats (n ∷ ns) others = list_any (λ m. bytes_eq m n) (ns ++ others) || repe
 abbrev pub same_name : Job → Bool
 same_name j = repeats (file_names j.outputs ++ option_to_list j.trace) (read_names j)
 
+-- it reads no file, and none of its graphs makes a stream
+abbrev pub lacks_input : List InputJob → List Graph → Bool
+lacks_input inputs graphs = (length inputs == 0) && not (list_any has_source graphs)
+
 abbrev pub run_fault : ℕ → Job → Option Fault
 run_fault count j =
-    if length j.inputs == 0 then Some (fault count NoInput) else
+    if lacks_input j.inputs j.graphs then Some (fault count NoInput) else
     (if length j.outputs == 0 then Some (fault count NoOutput) else
     (if same_name j then Some (fault count SameName) else None))
 

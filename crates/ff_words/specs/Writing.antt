@@ -29,7 +29,7 @@ use Rattle.ff_words.specs.declared.job.Solo.{Solo}
 use Rattle.ff_words.specs.declared.job.Solo.TheVariants.{Help, Version, SelfRun}
 use Rattle.ff_format.specs.Formats.{format_name, is_read, has_file}
 use Rattle.ff_words.specs.Options.{hash_name, rf64_name, pixels_name}
-use Rattle.ff_words.specs.Words.{is_dashed, is_lone, same_name, none_asked}
+use Rattle.ff_words.specs.Words.{is_dashed, is_lone, lacks_input, same_name, none_asked}
 use Rattle.ff_words.specs.declared.job.Asked.{Asked}
 use Rattle.ff_words.specs.declared.job.Size.{Size}
 use Rattle.ff_time.specs.Fraction.{Fraction, IsBase}
@@ -261,15 +261,15 @@ pub record IsFineOutput (o : OutputJob) : Type 0 where
 abbrev pub IsPlainOutput : OutputJob → Type 0
 IsPlainOutput o = (o.rf64 ≡ Never) × (o.frames ≡ None) × (o.asked ≡ none_asked)
 
--- Each number is in its range, each name and text is short enough, the names of outputs are names of outputs, there are one to
--- sixteen of what there may be sixteen of, and no written name stands twice.
+-- Each number is in its range, each name and text is short enough, the names of outputs are names of outputs, there are at most
+-- sixteen of what there may be sixteen of, an output, and an input or a graph that makes a stream. No written name stands twice.
 pub record IsFineJob (j : Job) : Type 0 where
   pub some_queue : 1 ≤ j.queue
   pub short_queue : j.queue ≤ 1024
   pub trace : WhereSome IsFineText j.trace
   pub few_graphs : length j.graphs ≤ 16
   pub graphs : AllByRecursion IsFineGraph j.graphs
-  pub some_inputs : 0 < length j.inputs
+  pub some_inputs : lacks_input j.inputs j.graphs ≡ false
   pub few_inputs : length j.inputs ≤ 16
   pub inputs : AllByRecursion IsFineInput j.inputs
   pub some_outputs : 0 < length j.outputs

@@ -4,13 +4,14 @@ ghost use Rattle.ff_words.specs.Reading.{Ended, written_names, word_at, Steps, t
 ghost use Rattle.ff_words.specs.Reading.{output_wrong as wrong_output, input_wrong as wrong_input, with_input, Taken, pending, reader, noted, valued};
 ghost use Rattle.ff_words.specs.Reading.{optioned, place_unless, early_in};
 ghost use Rattle.ff_words.specs.Words.{none_asked, repeats, texts, is_too_much as never_too_much, is_dashed as dashed, is_lone as lone};
-ghost use Rattle.ff_words.specs.Words.{goes_nowhere, is_no_name as no_name, file_names, output_file, Entry};
+ghost use Rattle.ff_words.specs.Words.{goes_nowhere, lacks_input, is_no_name as no_name, file_names, output_file, Entry};
 ghost use Rattle.ff_words.specs.Words.{not_before_input as never_before_input, not_before_output as never_before_output, not_at_end as never_at_end, word_count};
 ghost use Rattle.ff_words.specs.Values.{switched};
 ghost use Rattle.std.specs.Prelude.{map, option_to_list, ◌&&◌};
 ghost use Rattle.ff_format.specs.Formats.{has_file};
 ghost use Rattle.std.specs.List.{list_any};
 ghost use Rattle.std.specs.Str.{bytes_eq};
+ghost use Rattle.ff_lang.specs.Sources.{has_source as has_source_by};
 ghost use Rattle.ff_words.specs.declared.job.InputJob.{InputJob};
 ghost use Rattle.ff_words.specs.declared.job.OutputJob.{OutputJob};
 
@@ -23,7 +24,7 @@ use crate::table::{Concern, Kind, Rule, find_option, format_ending};
 use crate::value::{Micros, Value};
 use ff_format::{FileFormat, Rf64};
 use ff_frame::{Codec, HashKind};
-use ff_lang::{Graph, Sequence, Text};
+use ff_lang::{Graph, Sequence, Text, has_source};
 use std::alloc::{AllocError, Global};
 use std::mem;
 
@@ -509,6 +510,13 @@ impl Reader {
         }
     }
 
+    // Whether no file is read, and no graph makes a stream.
+    fn lacks_input(&self) -> bool
+        ensures { result ≡ lacks_input self.now.inputs self.now.graphs }
+    {
+        self.inputs.as_slice().len() == 0 && !has_sources(self.graphs.as_slice())
+    }
+
     // Whether what is written has a name twice, or that of what is read.
     fn same_name(&self) -> bool
         ensures { result ≡ repeats (written_names self.now) (map (λ (i : InputJob). i.name) self.now.inputs) }
@@ -580,7 +588,7 @@ impl Reader {
         if let Some(solo) = self.solo {
             return Ok(Command::Solo(solo));
         }
-        if self.inputs.as_slice().len() == 0 {
+        if self.lacks_input() {
             return Err(WordError::At {
                 word: count as u32,
                 kind: WordKind::NoInput,
@@ -617,6 +625,18 @@ fn word_count_of(solo: Solo) -> usize
         Solo::Help | Solo::Version => 1,
         Solo::SelfRun(_) => 2,
     }
+}
+
+// Whether some graph makes a stream.
+fn has_sources(graphs: &[Graph]) -> bool
+    ensures { result ≡ list_any has_source_by graphs.now }
+{
+    for graph in graphs.iter() {
+        if has_source(graph) {
+            return true;
+        }
+    }
+    false
 }
 
 // Whether an output is a file of this name.
