@@ -7,3 +7,4 @@ pub mod Demuxing
 pub mod Exiting
 pub mod Reading
 pub mod Sources
+pub mod gens

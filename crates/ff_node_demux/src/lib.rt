@@ -12,12 +12,17 @@
 //! laws of any machine that gives one such stream. `specs/DemuxShapes` says that what is in shape is valid up to the
 //! limits. `specs/DemuxViews` has the demuxer as the laws of machines see it. `specs/Reading` says which bytes of an
 //! input are read. What a format owes is a law of `Demuxable` of ff_input.
+//!
+//! `gens` has the other source of a run, which reads no input: the machine of a source filter. `specs/gens/Generating`
+//! says what it means.
 #![tactic(auto)]
 
 mod demux;
+mod gens;
 mod limits;
 mod reading;
 mod unit;
 
 pub use demux::Demux;
+pub use gens::{FrameSource, Gen, generator_of};
 pub use limits::is_long;

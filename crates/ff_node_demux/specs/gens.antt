@@ -1,0 +1,4 @@
+pub mod GenLaws
+pub mod GenViews
+pub mod Generating
+pub mod Generators
