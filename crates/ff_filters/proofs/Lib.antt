@@ -8,6 +8,8 @@ pub mod Agreeing
 pub mod Refusing
 pub mod Parting
 pub mod Settings
+pub mod SourcesBy
+pub mod SourcesFit
 pub mod LimitedLemmas
 pub mod Owing
 pub mod Singles

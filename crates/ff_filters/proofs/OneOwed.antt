@@ -1,10 +1,12 @@
 -- What each filter of one input and one output owes.
-use Rattle.std.proofs.Common.{◌≡◌, Bool, false, true, None, Ok, Err, [], ◌∷◌, refl, sym, ap, subst, lit<}
+use Rattle.std.proofs.Common.{◌≡◌, Bool, false, true, None, Result, Ok, Err, List, [], ◌∷◌, refl, sym, ap, subst, lit<}
 use Rattle.ff_time.specs.Fraction.{IsBase, IsBase-unit}
+use Rattle.ff_frame.specs.declared.config.ConfigError.{ConfigError}
 use Rattle.ff_frame.specs.declared.config.ConfigError.TheVariants.{BadSize, BadOption}
 use Rattle.ff_frame.specs.declared.head.StreamHead.{StreamHead}
 use Rattle.ff_frame.specs.declared.head.StreamHead.TheVariants.{Audio, Video}
 use Rattle.ff_stream.specs.declared.item.Lane.TheVariants.{Frames}
+use Rattle.ff_lang.specs.declared.graph.Arg.{Arg}
 use Rattle.ff_filter.specs.Options.{is_sound, is_video}
 use Rattle.ff_filter.specs.declared.pass.Pass.{Pass}
 use Rattle.ff_filter.specs.declared.plain.ExprSettings.{ExprSettings}
@@ -23,11 +25,12 @@ use Rattle.ff_vfilter.specs.HFlips.{IsHFlip, hflip_view}
 use Rattle.ff_vfilter.specs.VFlips.{IsVFlip, vflip_view}
 use Rattle.ff_vfilter.specs.FpsOptions.{fps_manual, IsFps, fps_view, fps_head}
 use Rattle.ff_afilter.specs.Trims.{IsATrim, atrim_view}
+use Rattle.ff_source.specs.declared.made.Made.{Made}
 use Rattle.ff_filters.specs.declared.name.FilterName.TheVariants as filter
 use Rattle.ff_filters.specs.SetBy.{set_expr, set_crop, set_pad, set_fps}
 use Rattle.ff_filters.specs.Ticks.{set_trim}
 use Rattle.ff_filters.specs.Configured.{plain_by, rebased_as, rebase_by, all_times, trim_in, atrim_in, cropped_as, padded_as}
-use Rattle.ff_filters.specs.Definitions.{single, one, definition_of, relation_of}
+use Rattle.ff_filters.specs.Definitions.{single, made_before, one, passed, definition_of, relation_of}
 use Rattle.ff_filters.proofs.Agreeing.{plain_is, rebase_is, trim_is, atrim_is, crop_is, pad_is, fps_is}
 use Rattle.ff_filters.proofs.Refusing.{cropped-so, padded-so, if_so}
 use Rattle.ff_filters.proofs.Parting.{if_ok}
@@ -48,6 +51,28 @@ null_owed takes_sound wanted = plain_owed takes_sound wanted (IsPass wanted) pas
       owes = pass_owes (pass_of h);
       becomes = itself h [];
     })
+
+-- a source filter passes on what comes to it, as one does that has no arguments
+pub source_owed : (takes_sound : Bool) (wanted : StreamHead → Bool) (makes : List Arg → Result Made ConfigError) → Owed (made_before takes_sound wanted makes) (passed wanted)
+source_owed takes_sound wanted makes =
+    let plain = null_owed takes_sound wanted in record {
+      made = λ args. plain.made [];
+      refused = λ args. plain.refused [];
+      reason = λ args. plain.reason [];
+      inputs = λ args. plain.inputs [];
+      outputs = λ args. plain.outputs [];
+      gives = λ args heads f e. let g = plain.gives [] heads f e in record {
+        first = g.first;
+        others = g.others;
+        fed = g.fed;
+        ins = g.ins;
+        outs = g.outs;
+        new = g.new;
+        owes = g.owes;
+        become = g.become;
+        count = g.count;
+      };
+    }
 
 pub trim_owed : Owed (definition_of filter.Trim) (relation_of filter.Trim)
 trim_owed = free_owed false is_video IsTrim trim_manual set_trim all_times trim_in trim_view (λ m. m.trim.head) trim_is

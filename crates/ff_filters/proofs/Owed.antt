@@ -17,10 +17,11 @@ use Rattle.ff_filter.specs.Joins.{Flow, Ports, all_opened}
 use Rattle.ff_node_filter.specs.Limiting.{IsLimited}
 use Rattle.ff_filters.specs.limited.Cuts.{cuts_in, IsWithin, PassesLimit, AreTimed}
 use Rattle.ff_filters.specs.Makes.{configured_as}
+use Rattle.ff_filters.specs.Sources.{color_by, silence_by}
 use Rattle.ff_filters.proofs.Refusing.{HasReason}
 use Rattle.ff_filters.proofs.Owing.{Gives, Owed, IsKept, kept_by}
 use Rattle.ff_filters.proofs.LimitedLemmas.Opening.{opened_limited, cuts_exactly}
-use Rattle.ff_filters.proofs.OneOwed.{null_owed, trim_owed, setpts_owed, crop_owed, pad_owed, hflip_owed, vflip_owed, fps_owed, atrim_owed}
+use Rattle.ff_filters.proofs.OneOwed.{null_owed, source_owed, trim_owed, setpts_owed, crop_owed, pad_owed, hflip_owed, vflip_owed, fps_owed, atrim_owed}
 use Rattle.ff_filters.proofs.ManyOwed.{split_owed, channelsplit_owed, stack_owed, concat_owed, join_owed}
 
 pub owed : (name : FilterName) → Owed (definition_of name) (relation_of name)
@@ -42,6 +43,8 @@ owed filter.ASetPts = setpts_owed true is_sound
 owed filter.ASplit = split_owed true is_sound
 owed filter.ChannelSplit = channelsplit_owed
 owed filter.Join = join_owed
+owed filter.Color = source_owed false is_video color_by
+owed filter.ANullSrc = source_owed true is_sound silence_by
 
 -- ---- by name
 

@@ -2,7 +2,7 @@
 use Rattle.std.proofs.Common.{◌≡◌, ℕ, zero, suc, ◌≤◌, ◌==◌, Bool, true, false, nat_le, cond, ◌&&◌, Option, Some, None, option_map, List, codes, refl, sym, ap, ◌∙◌, arith}
 use Rattle.std.specs.Str.{bytes_eq}
 use Rattle.std.proofs.lemmas.Bool.Decides.{nat_tests}
-use Rattle.ff_time.specs.Digits.{number_of, ratio_of}
+use Rattle.ff_time.specs.Digits.{number_of, ratio_of, IsRate}
 use Rattle.ff_time.specs.Fraction.{Fraction}
 use Rattle.ff_filter.specs.declared.plain.ExprSettings.{ExprSettings}
 use Rattle.ff_filter.specs.Plain.{no_manual, expr_manual}
@@ -15,7 +15,7 @@ use Rattle.ff_vfilter.specs.declared.fps.FpsSettings.{FpsSettings}
 use Rattle.ff_vfilter.specs.Sizes.{put}
 use Rattle.ff_vfilter.specs.Crops.{crop_manual}
 use Rattle.ff_vfilter.specs.Pads.{pad_manual}
-use Rattle.ff_vfilter.specs.FpsOptions.{SetsFps, fps_manual}
+use Rattle.ff_vfilter.specs.FpsOptions.{fps_manual}
 use Rattle.ff_fsync.specs.declared.stacks.options.StackSettings.{StackSettings}
 use Rattle.ff_fsync.specs.stacks.Options.{SetsStack, stack_manual}
 use Rattle.ff_joins.specs.declared.join_options.JoinSettings.{JoinSettings}
@@ -39,7 +39,7 @@ from_some f (Some x) u e = (x, refl, e)
 
 -- ---- numbers from one to another
 
-between_in : (lo hi n : ℕ) → lo ≤ n → n ≤ hi → number_between lo hi (Some n) ≡ Some n
+pub between_in : (lo hi n : ℕ) → lo ≤ n → n ≤ hi → number_between lo hi (Some n) ≡ Some n
 between_in lo hi n p q = let e : (nat_le lo n && nat_le n hi) ≡ true = grind (arith, nat_tests) in ap (λ (c : Bool). cond c (Some n) None) e
 
 pub ranged_in : (lo hi n : ℕ) (text : List ℕ) → number_of 5 text ≡ Some n → lo ≤ n → n ≤ hi → ranged lo hi text ≡ Some n
@@ -54,7 +54,7 @@ tested : (lo hi m n : ℕ) (c : Bool) → c ≡ (nat_le lo m && nat_le m hi) →
 tested lo hi m n true e f = (let same : m ≡ n = cc in record { is = f; low = grind (arith, nat_tests); high = grind (arith, nat_tests) })
 tested lo hi m n false e f = cc
 
-between_out : (lo hi n : ℕ) (o : Option ℕ) → number_between lo hi o ≡ Some n → Between lo hi n o
+pub between_out : (lo hi n : ℕ) (o : Option ℕ) → number_between lo hi o ≡ Some n → Between lo hi n o
 between_out lo hi n None e = cc
 between_out lo hi n (Some m) e = tested lo hi m n (nat_le lo m && nat_le m hi) refl e
 
@@ -101,20 +101,20 @@ pad_set = record {
       e in (record { sizes = put s.sizes option k.0 }, (k.0, k.1, refl));
 }
 
-rate_in : (value : List ℕ) (t : FpsSettings) → SetsFps value t → rate_base value ≡ Some t.base
-rate_in value t h = ap (on_some base_of) h.ratio ∙ base_in h.n h.d t.base h.lowest h.small
+pub rate_in : (value : List ℕ) (base : Fraction) → IsRate value base → rate_base value ≡ Some base
+rate_in value base h = ap (on_some base_of) h.ratio ∙ base_in h.n h.d base h.lowest h.small
 
-rate_out : (value : List ℕ) (t : FpsSettings) → rate_base value ≡ Some t.base → SetsFps value t
-rate_out value t e =
-    let k = from_some base_of (ratio_of value) t.base e in
-    let is = base_out k.0.0 k.0.1 t.base k.2 in
+pub rate_out : (value : List ℕ) (base : Fraction) → rate_base value ≡ Some base → IsRate value base
+rate_out value base e =
+    let k = from_some base_of (ratio_of value) base e in
+    let is = base_out k.0.0 k.0.1 base k.2 in
     record { n = k.0.0; d = k.0.1; ratio = k.1; lowest = is.0; small = is.1 }
 
 pub fps_set : SetsBy fps_manual (λ s. s) set_fps
 fps_set = record {
-  sets = λ s option value t h. ap (option_map (λ (b : Fraction). let f : FpsSettings = record { base = b } in f)) (rate_in value t h);
+  sets = λ s option value t h. ap (option_map (λ (b : Fraction). let f : FpsSettings = record { base = b } in f)) (rate_in value t.base h);
   takes = λ s option value u e. let k = from_map (λ (b : Fraction). let f : FpsSettings = record { base = b } in f) (rate_base value) u
-      e in (record { base = k.0 }, rate_out value (record { base = k.0 }) k.1);
+      e in (record { base = k.0 }, rate_out value k.0 k.1);
 }
 
 pub split_set : SetsBy split_manual (λ s. s) set_split

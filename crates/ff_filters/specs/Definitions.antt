@@ -1,5 +1,5 @@
 -- The filters that there are: each by one name, as a function and by a relation (ffmpeg-filters).
-use Rattle.std.specs.Prelude.{ℕ, ◌&&◌, Bool, true, false, not, List, [], ◌∷◌, codes, Result}
+use Rattle.std.specs.Prelude.{ℕ, ◌&&◌, Bool, true, false, not, Option, Some, None, List, [], ◌∷◌, codes, Result}
 use Rattle.ff_frame.specs.declared.config.ConfigError.{ConfigError}
 use Rattle.ff_frame.specs.declared.head.StreamHead.{StreamHead}
 use Rattle.ff_lang.specs.declared.graph.Arg.{Arg}
@@ -23,9 +23,11 @@ use Rattle.ff_joins.specs.Arguments.{last_number}
 use Rattle.ff_joins.specs.ConcatOptions.{IsConcat, segments_said, video_said, sound_said, concat_view, concat_head}
 use Rattle.ff_joins.specs.JoinOptions.{IsJoin, inputs_said}
 use Rattle.ff_joins.specs.JoinView.{join_view, head_itself}
+use Rattle.ff_source.specs.declared.made.Made.{Made}
 use Rattle.ff_filters.specs.declared.name.FilterName.{FilterName}
 use Rattle.ff_filters.specs.declared.name.FilterName.TheVariants as filter
 use Rattle.ff_filters.specs.Configured.{Filtered, filtered, plain_by, pass_by, rebase_by, trim_by, atrim_by, crop_by, pad_by, fps_by, split_by, stack_by, concat_by, join_by}
+use Rattle.ff_filters.specs.Sources.{color_by, silence_by}
 
 -- each filter with its name in a filtergraph
 abbrev pub filter_names : List (List ℕ × FilterName)
@@ -62,6 +64,8 @@ pub record Definition : Type 0 where
   pub is_apart : Bool
   -- its input pads take sound; else they take pictures
   pub takes_sound : List Arg → Bool
+  -- of a source filter: what its arguments make, which comes to its only input pad
+  pub source : Option (List Arg → Result Made ConfigError)
 
 -- of one output: what configures it, how it is seen, and the head of the output
 abbrev pub merging : {X : Type 0} → (List Arg → ℕ) → (List Arg → Bool) → (List Arg → List StreamHead → Result X ConfigError) → (List StreamHead → X → View)
@@ -72,6 +76,7 @@ merging inputs takes_sound by shown head = record {
   outputs = λ args. 1;
   is_apart = false;
   takes_sound = takes_sound;
+  source = None;
 }
 
 -- of one input and one output
@@ -87,7 +92,12 @@ sharing outputs is_apart takes_sound by shown outs = record {
   outputs = outputs;
   is_apart = is_apart;
   takes_sound = λ args. takes_sound;
+  source = None;
 }
+
+-- A source filter, whose arguments make its stream. It passes on what comes to it, whatever they say.
+abbrev pub made_before : Bool → (StreamHead → Bool) → (List Arg → Result Made ConfigError) → Definition
+made_before takes_sound wanted makes = record (single takes_sound (λ args. pass_by wanted []) pass_view (λ m. m.head)) { source = Some makes }
 
 -- the filter of this name
 abbrev pub definition_of : FilterName → Definition
@@ -109,6 +119,8 @@ definition_of filter.ASetPts = single true (rebase_by is_sound) rebase_view (λ 
 definition_of filter.ASplit = sharing (last_number split_manual 0 1 16 2) false true (split_by is_sound) split_view split_heads
 definition_of filter.ChannelSplit = sharing (λ args. 0) true true (plain_by is_sound (λ head. head)) channels_view mono_heads
 definition_of filter.Join = merging inputs_said (λ args. true) join_by join_view head_itself
+definition_of filter.Color = made_before false is_video color_by
+definition_of filter.ANullSrc = made_before true is_sound silence_by
 
 -- ---- the same by relations, which say what an argument is and not how it is read
 
@@ -129,6 +141,10 @@ several is shown outs = record {
 abbrev pub one : {X : Type 0} → (List Arg → List StreamHead → Result X ConfigError → Type 0) → (List StreamHead → X → View) → (X → StreamHead) → Relation
 one is shown head = several is shown (λ m. head m ∷ [])
 
+-- of a source filter
+abbrev pub passed : (StreamHead → Bool) → Relation
+passed wanted = one (λ args. IsPass wanted []) (λ heads. pass_view) (λ m. m.head)
+
 abbrev pub relation_of : FilterName → Relation
 relation_of filter.Null = one (IsPass is_video) (λ heads. pass_view) (λ m. m.head)
 relation_of filter.Trim = one IsTrim (λ heads. trim_view) (λ m. m.trim.head)
@@ -148,3 +164,5 @@ relation_of filter.ASetPts = one (IsRebase is_sound) (λ heads. rebase_view) (λ
 relation_of filter.ASplit = several (IsSplit is_sound) (λ heads. split_view) split_heads
 relation_of filter.ChannelSplit = several IsChannelSplit (λ heads. channels_view) mono_heads
 relation_of filter.Join = one IsJoin join_view head_itself
+relation_of filter.Color = passed is_video
+relation_of filter.ANullSrc = passed is_sound

@@ -7,6 +7,7 @@ pub mod Ticks
 pub mod Heads
 pub mod ReadBy
 pub mod SetBy
+pub mod Sources
 pub mod Configured
 pub mod SingleLaws
 pub mod limited

@@ -113,5 +113,7 @@ fn by_name(
             Ok((filter, heads)) => Ok((AnyFilter::Join(filter), heads)),
             Err(error) => Err(error),
         },
+        FilterName::Color => single(name, args, heads, Null::configure(alloc, &[], heads)),
+        FilterName::ANullSrc => single(name, args, heads, ANull::configure(alloc, &[], heads)),
     }
 }

@@ -18,14 +18,16 @@ mod configured;
 mod laws;
 mod limited;
 mod name;
+mod source;
 mod step;
 
 pub use any::AnyFilter;
 pub use configured::configure;
 pub use laws::{
     durations_are_read, filters_are_determined, filters_are_told, filters_carry_their_heads,
-    the_function_needs_no_memory,
+    made_sources_are_fit, the_function_needs_no_memory,
 };
 pub use limited::{configured_filters_are_limited, limits_cut_what_passes_them};
-pub use name::{FILTERS, FilterName, inputs, is_apart, named, outputs, takes_sound};
+pub use name::{FILTERS, FilterName, inputs, is_apart, is_source, named, outputs, takes_sound};
+pub use source::made_by_itself;
 pub use step::{AnyStep, IntoAny};

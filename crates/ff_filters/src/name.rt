@@ -1,7 +1,7 @@
 //! The filters by their names, and what a graph has to know of each before it knows any head.
 ghost use Rattle.std.specs.Prelude.{◌≡◌};
 ghost use Rattle.ff_filters.specs.Names.{named_in, named_lines, filter_named};
-ghost use Rattle.ff_filters.specs.Pads.{inputs_of, outputs_of, is_apart as stands_apart, takes_sound as sound_taken};
+ghost use Rattle.ff_filters.specs.Pads.{inputs_of, outputs_of, is_apart as stands_apart, is_source as makes_its_own, takes_sound as sound_taken};
 
 use ff_filter::SplitSettings;
 use ff_fsync::count_inputs;
@@ -47,6 +47,10 @@ pub enum FilterName {
     Concat,
     /// `join`: audio streams side by side.
     Join,
+    /// `color`: pictures of one colour, which no file has.
+    Color,
+    /// `anullsrc`: silence, which no file has.
+    ANullSrc,
 }
 
 /// Each filter: its name in a filtergraph, what it is, which arguments it takes, and what it does. Graphs are read by this list, and
@@ -195,6 +199,16 @@ pub fn is_apart(name: FilterName) -> bool
     }
 }
 
+/// Whether a filter is a source filter: its arguments alone say the stream that comes to its only input pad.
+pub fn is_source(name: FilterName) -> bool
+    ensures { result ≡ makes_its_own name }
+{
+    match name {
+        FilterName::Color | FilterName::ANullSrc => true,
+        _ => false,
+    }
+}
+
 /// Whether the input pads of a filter take audio; else they take video.
 pub fn takes_sound(name: FilterName, args: &[Arg]) -> bool
     ensures { result ≡ sound_taken name args.now }
@@ -205,7 +219,8 @@ pub fn takes_sound(name: FilterName, args: &[Arg]) -> bool
         | FilterName::ASetPts
         | FilterName::ASplit
         | FilterName::ChannelSplit
-        | FilterName::Join => true,
+        | FilterName::Join
+        | FilterName::ANullSrc => true,
         FilterName::Concat => {
             let video = last_number::<ConcatSettings>(args, 1, 0, 1, 1) == 1;
             let sound = last_number::<ConcatSettings>(args, 2, 0, 1, 0) == 1;

@@ -1,6 +1,6 @@
 -- What a graph is where its open input pads have these heads: its filters as they are made, its open output pads, or the first refusal.
 use Rattle.std.specs.Prelude.{◌≡◌, ℕ, suc, ◌-◌, ◌==◌, nat_lt, ◌&&◌, ◌||◌, Bool, true, false, if◌then◌else◌, List, [], ◌∷◌, ◌++◌, length, replicate, slice_get}
-use Rattle.std.specs.Prelude.{slice_index_or, slice_set, Option, None, Some, Result, Ok, Err}
+use Rattle.std.specs.Prelude.{slice_index_or, slice_set, Option, None, Some, is_some, Result, Ok, Err}
 use Rattle.std.specs.List.{list_any}
 use Rattle.ff_frame.specs.declared.config.ConfigError.{ConfigError}
 use Rattle.ff_frame.specs.declared.config.ConfigError.TheVariants as fault
@@ -18,6 +18,7 @@ use Rattle.ff_filters.specs.Makes.{configured_as}
 use Rattle.ff_filters.specs.Pads.{is_apart}
 use Rattle.ff_graph.specs.Drawings.{seen_graph}
 use Rattle.ff_graph.specs.Opens.{filter_order, loops, sources_in, open_pads}
+use Rattle.ff_graph.specs.Sources.{is_source_filter}
 
 -- the refusal of a filter, by its number in the order of writing
 pub record Refused : Type 0 where
@@ -62,10 +63,17 @@ abbrev pub stands_at : ℕ → Option Pad → Bool
 stands_at k None = false
 stands_at k (Some p) = p.filter == k
 
--- It has more labels at its inputs than pads, its chain leaves outputs over, it is the 65th, or it has the graph's 17th open input pad.
+-- filter k, of which each input pad is fed so, is a source filter, and has a label at its input or is fed by another
+abbrev pub is_fed_source : List (List (Option Pad)) → ℕ → Seen → Bool
+is_fed_source sources k d =
+    is_source_filter d.filter && (nat_lt 0 (length d.filter.ins) || list_any (λ from. is_some from) (slice_index_or sources k []))
+
+-- It has more labels at its inputs than pads, its chain leaves outputs over, it is the 65th, or it has the graph's 17th open input pad. Or it is
+-- a source filter to which something else would come.
 abbrev pub is_misfit : List Seen → List Pad → ℕ → Seen → Bool
 is_misfit ds opens k d =
     nat_lt d.inputs (length d.filter.ins) || leaves_over d (slice_get ds (k - 1)) || (k == 64) || stands_at k (slice_get opens 16)
+    || is_fed_source (sources_in ds) k d
 
 -- so many output pads
 abbrev pub too_few : ℕ → Seen → Bool

@@ -1,6 +1,5 @@
 -- Open pads, filters and refusals as the code has them.
 use Rattle.std.specs.Prelude.{◌≡◌, ◌≢◌, true, List, map, Option, Result, Err}
-use Rattle.std.specs.Option.{option_copied}
 use Rattle.std.specs.declared.vec.Vec.{Vec}
 use Rattle.ff_frame.specs.declared.config.ConfigError.TheVariants as fault
 use Rattle.ff_frame.specs.declared.head.StreamHead.{StreamHead}
@@ -9,13 +8,17 @@ use Rattle.ff_filters.specs.Configured.{Filtered}
 use Rattle.ff_lang.specs.declared.graph.Graph.{Graph}
 use Rattle.ff_graph.specs.declared.opening.OpenInput.{OpenInput}
 use Rattle.ff_graph.specs.declared.outputs.OpenOutput.{OpenOutput}
+use Rattle.ff_graph.specs.declared.sources.SourceFault.{SourceFault}
 use Rattle.ff_graph.specs.declared.refusal.Refusal.{Refusal}
 use Rattle.ff_graph.specs.declared.refusal.Refusal.TheVariants.{Config, Loop, NoMemory}
 use Rattle.ff_graph.specs.Opens.{OpenIn, loops}
 use Rattle.ff_graph.specs.Configured.{Made, Refused, OpenOut, configured}
 
 abbrev pub input_of : OpenInput → OpenIn
-input_of i = record { label = option_copied i.label; sound = i.sound }
+input_of i = record { label = i.label; sound = i.sound; source = i.source }
+
+abbrev pub fault_of : SourceFault → Refused
+fault_of f = record { filter = f.filter; kind = f.kind }
 
 abbrev pub output_of : OpenOutput → OpenOut
 output_of o = record { at = o.pad; label = o.label; head = o.head }

@@ -5,7 +5,7 @@
 //! ```text
 //!   Graph ──► drawn ──► sources (ff_graph_links): the output pad that feeds each input pad
 //!     │            └──► in_order: each after those that feed it, else by number; None for a loop
-//!     ├────► open_inputs, has_loop: what a plan asks before any head is known
+//!     ├────► open_inputs, has_loop, source_fault: what a plan asks before any head is known
 //!     ├────► make_all: with the heads of the open inputs, the filters in that order, or the first refusal
 //!     └────► configure_graph: all of that, and the open output pads with their heads
 //! ```
@@ -24,6 +24,7 @@ mod opening;
 mod ordering;
 mod outputs;
 mod refusal;
+mod sources;
 
 pub use composed::{
     CutGraph, GraphFilter, GraphMachine, MadeGraph, configured_heads_are_timed, graph_machine,
@@ -34,7 +35,8 @@ pub use configuring::{Configured, configure_graph};
 pub use drawing::drawn;
 pub use laws::{graphs_by_example, refusals_are_of_filters};
 pub use making::make_all;
-pub use opening::{OpenInput, is_known, open_inputs};
+pub use opening::{OpenInput, SourceInput, is_known, open_inputs};
 pub use ordering::{has_loop, in_order};
 pub use outputs::OpenOutput;
 pub use refusal::Refusal;
+pub use sources::{SourceFault, source_fault};

@@ -82,7 +82,7 @@ fn make(
     match named(own.filter.name.as_str()) {
         None => Err(ConfigError::UnknownFilter),
         Some(name) => {
-            if is_misfit(drawn, opens, filter, own) {
+            if is_misfit(drawn, sources, opens, filter, own) {
                 return Err(ConfigError::Pads);
             }
             match heads_at(alloc, sources, opens, given, heads, filter) {

@@ -56,8 +56,12 @@ fn feeds_one(sources: &[Vec<Option<Pad>>], pad: Pad) -> bool
     false
 }
 
-// The label at a pad, if it has one.
-fn copy_label(alloc: Global, labels: &[Text], pad: usize) -> Result<Option<Text>, AllocError>
+/// The label at a pad, if it has one.
+pub(crate) fn copy_label(
+    alloc: Global,
+    labels: &[Text],
+    pad: usize,
+) -> Result<Option<Text>, AllocError>
     ensures { IfOk result (λ label. label ≡ slice_get labels.now pad) }
 {
     if pad >= labels.len() {

@@ -22,7 +22,7 @@ pub use color::{Color, Pictures};
 pub use color_options::ColorSettings;
 pub use laws::{small_sources, sources_by_their_arguments, sources_give_valid_streams};
 pub use length::Length;
-pub use made::Made;
+pub use made::{Made, made_by};
 pub use silence::Silence;
 pub use silence_options::SilenceSettings;
 pub use source::GenSource;

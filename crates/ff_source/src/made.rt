@@ -87,8 +87,8 @@ fn either_by(name: SourceName, args: &[Arg]) -> Result<Made, ConfigError>
     }
 }
 
-/// What the arguments of a source filter make.
-pub(crate) fn made_by(name: SourceName, args: &[Arg]) -> Result<Made, ConfigError>
+/// What the arguments of a source filter make, or why they are refused. It takes no memory.
+pub fn made_by(name: SourceName, args: &[Arg]) -> Result<Made, ConfigError>
     ensures is { IsSource name args.now result }
     ensures can { IfOk result CanGive }
 {

@@ -155,7 +155,7 @@ text_pads g heads os clear unlooped c some = at (make_all (seen_graph g) (all_gi
     at (Ok made) m =
         (let w = whole g (all_given heads) made clear unlooped m in
         let opens = some_opens (seen_graph g) (all_given heads) made w some in
-        let size : length (open_ins g) ≡ length (open_pads (seen_graph g)) = map_size (λ (p : Pad). open_in p.pad (slice_get (seen_graph g) p.filter))
+        let size : length (open_ins g) ≡ length (open_pads (seen_graph g)) = map_size (λ (p : Pad). open_in p (slice_get (seen_graph g) p.filter))
         (open_pads (seen_graph g)) in (
           omega (arith, opens, size),
           λ heard. subst (λ (x : List OpenOut). 1 ≤ length x) (sym (outs_are g (all_given heads) made os c m))
