@@ -50,6 +50,7 @@ by-plan P each none (why.Config graph filter error) = each (why.Config graph fil
 by-plan P each none (why.Takes output stream) = each (why.Takes output stream)
 by-plan P each none why.TooManyStreams = each why.TooManyStreams
 by-plan P each none why.TooManyGraphs = each why.TooManyGraphs
+by-plan P each none why.TooManySources = each why.TooManySources
 by-plan P each none why.NoMemory = none
 
 not-memory : (w : PlanError) → refused_plan w ≢ status.Plan why.NoMemory
@@ -63,6 +64,7 @@ not-memory (why.Config graph filter error) e = cc
 not-memory (why.Takes output stream) e = cc
 not-memory why.TooManyStreams e = cc
 not-memory why.TooManyGraphs e = cc
+not-memory why.TooManySources e = cc
 not-memory why.NoMemory e = cc
 
 -- counts of all names are what they were
@@ -218,6 +220,7 @@ module _ (means : Job → Meaning InputHead PlanError RunFault) (job : Job) (bef
   comes-plan (why.Takes output stream) h = h
   comes-plan why.TooManyStreams h = h
   comes-plan why.TooManyGraphs h = h
+  comes-plan why.TooManySources h = h
   comes-plan why.NoMemory h = tt
 
   comes : (end : End) → Ended end → Comes means job before after ins outs (status_of count end)

@@ -49,6 +49,7 @@ plan_fault (refusal.Config graph filter kind) = codes "graph " ++ decimal graph 
 plan_fault (refusal.Takes output stream) = codes "output " ++ decimal output ++ codes " stream " ++ decimal stream ++ codes ": not taken"
 plan_fault refusal.TooManyStreams = codes "too many streams"
 plan_fault refusal.TooManyGraphs = codes "too many graphs"
+plan_fault refusal.TooManySources = codes "too many sources"
 plan_fault refusal.NoMemory = codes "out of memory"
 
 -- what is wrong, with the name of the file of a device's fault

@@ -134,6 +134,7 @@ fn plan_text(alloc: Global, why: &PlanError) -> Result<String, AllocError>
         }
         PlanError::TooManyStreams => fixed(alloc, "too many streams"),
         PlanError::TooManyGraphs => fixed(alloc, "too many graphs"),
+        PlanError::TooManySources => fixed(alloc, "too many sources"),
         PlanError::NoMemory => fixed(alloc, "out of memory"),
     }
 }

@@ -2,7 +2,7 @@
 use Rattle.std.proofs.Common.{◌≡◌, inl, inr, ℕ, zero, suc, ◌+◌, ◌<◌, ◌≤◌, ◌==◌, Bool, true, false, cond, List, [], ◌∷◌, ◌++◌, map, length, Some, refl, sym, ap, ◌∙◌, subst, arith}
 use Rattle.std.proofs.lemmas.List.{append-nil, map-append}
 use Rattle.std.proofs.lemmas.List.Elements.{filter-append}
-use Rattle.std.specs.Prelude.{slice_get, slice_index_or, Ok}
+use Rattle.std.specs.Prelude.{nat_lt, slice_get, slice_index_or, Ok}
 use Rattle.std.specs.List.{AllByRecursion, filter, flat_map}
 use Rattle.std.proofs.lemmas.Bool.Decides.{nat_tests}
 use Rattle.ff_stream.specs.edges.Ports.{lanes_into, lanes_out_of}
@@ -22,8 +22,8 @@ use Rattle.ff_plan.specs.declared.planned.PlanNode.TheVariants as node
 use Rattle.ff_plan.specs.EndFits.{FitsEnd, EndsFit}
 use Rattle.ff_plan_layout.specs.Labels.{taken_labels}
 use Rattle.ff_plan_layout.specs.declared.layout.Laid.{Laid}
-use Rattle.ff_plan_layout.specs.Layout.{IsLaid, IsAmong, Layout, place_row, place_from, placed, used, used_inputs}
-use Rattle.ff_plan.specs.Nodes.{before_decs, before_graphs, before_shortests, before_encs, before_muxes, output_numbers, nodes_of, demux_wire, pad_wire, pad_wires, shortest_wire, enc_wire, mux_wire, wires_of, plan_of}
+use Rattle.ff_plan_layout.specs.Layout.{IsLaid, IsAmong, Layout, place_row, place_from, placed, used, used_inputs, read}
+use Rattle.ff_plan.specs.Nodes.{start_node, before_decs, before_graphs, before_shortests, before_encs, before_muxes, output_numbers, nodes_of, demux_wire, pad_wire, pad_wires, shortest_wire, enc_wire, mux_wire, wires_of, plan_of}
 use Rattle.ff_plan_layout.specs.Order.{numbers}
 use Rattle.ff_plan_layout.specs.Pads.{unlabelled}
 use Rattle.ff_plan_layout.specs.LaidOut.{labels_of, graphs_of, layout_of, laid_out}
@@ -39,7 +39,7 @@ use Rattle.ff_plan.proofs.GraphFits.{get_either, get_left, get_map, get_right}
 use Rattle.ff_plan.proofs.GraphLanes.{lanes_joined, lanes_none}
 use Rattle.ff_plan_layout.proofs.Kept.{nothing, same_some, at_map, below_at, one_kept}
 use Rattle.ff_plan.proofs.Lanes.{wire_lanes, into_is, out_is}
-use Rattle.ff_plan.proofs.Layouts.{demux_below, dec_below, number_in, output_in, graph_below, stream_below, pad_up, wires_next}
+use Rattle.ff_plan.proofs.Layouts.{demux_below, read_below, number_in, output_in, graph_below, stream_below, pad_up, wires_next}
 use Rattle.ff_plan_layout.proofs.Sizes.{map_length, range_length, row_length}
 use Rattle.ff_plan_layout.proofs.Outs.{IsPassed, AllPassed, AreOutputs}
 use Rattle.ff_plan_layout.proofs.Results.{same_ok, behind_ok}
@@ -132,11 +132,11 @@ module _ (l : Layout) (laid : IsLaid l) where
   ps = placed l
 
   -- of all wires, by their five rows
-  pub five : (q : Wire → Bool) (a b c d e : List Lane) → wire_lanes q (map (demux_wire l) (used l)) ≡ a → wire_lanes q (flat_map (pad_wires l) l.graphs) ≡ b
+  pub five : (q : Wire → Bool) (a b c d e : List Lane) → wire_lanes q (map (demux_wire l) (read l)) ≡ a → wire_lanes q (flat_map (pad_wires l) l.graphs) ≡ b
       → wire_lanes q (map (shortest_wire l) ps) ≡ c → wire_lanes q (map (enc_wire l) ps) ≡ d → wire_lanes q (map (mux_wire l) ps) ≡ e
       → wire_lanes q (wires_of l) ≡ a ++ (b ++ (c ++ (d ++ e)))
   five q a b c d e ea eb ec ed ee =
-      let demuxes = map (demux_wire l) (used l) in let pads = flat_map (pad_wires l) l.graphs in let shorts = map (shortest_wire l) ps in
+      let demuxes = map (demux_wire l) (read l) in let pads = flat_map (pad_wires l) l.graphs in let shorts = map (shortest_wire l) ps in
       let encs = map (enc_wire l) ps in let muxes = map (mux_wire l) ps in
       lanes_joined q demuxes (pads ++ (shorts ++ (encs ++ muxes)))
       ∙ (ap (λ (ls : List Lane). ls ++ wire_lanes q (pads ++ (shorts ++ (encs ++ muxes)))) ea
@@ -148,11 +148,11 @@ module _ (l : Layout) (laid : IsLaid l) where
       ∙ (ap (λ (ls : List Lane). ls ++ wire_lanes q muxes) ed ∙ ap (λ (ls : List Lane). d ++ ls) ee)))))))
 
   module _ (k : ℕ) (high : before_shortests l ≤ k) where
-    demuxes_in : wire_lanes (enters_node k) (map (demux_wire l) (used l)) ≡ []
-    demuxes_in = lanes_none (enters_node k) (demux_wire l) (used l) (λ s i. other_test (demux_wire l s).to k (λ e. (let lt = dec_below l s i in omega (arith, e, lt, high))))
+    demuxes_in : wire_lanes (enters_node k) (map (demux_wire l) (read l)) ≡ []
+    demuxes_in = lanes_none (enters_node k) (demux_wire l) (read l) (λ s i. other_test (demux_wire l s).to k (λ e. (let lt = read_below l s i in omega (arith, e, lt, high))))
 
-    demuxes_out : wire_lanes (leaves_node k) (map (demux_wire l) (used l)) ≡ []
-    demuxes_out = lanes_none (leaves_node k) (demux_wire l) (used l) (λ s i. other_test (demux_wire l s).from k (λ e. (let lt = demux_below l s i in omega (arith, e, lt, high))))
+    demuxes_out : wire_lanes (leaves_node k) (map (demux_wire l) (read l)) ≡ []
+    demuxes_out = lanes_none (leaves_node k) (demux_wire l) (read l) (λ s i. other_test (demux_wire l s).from k (λ e. (let lt = demux_below l s i in omega (arith, e, lt, high))))
 
     pads_none : (q : Wire → Bool) (gs : List Laid) → ((y : Laid) → IsAmong y gs → (i : InPad) → IsAmong i y.ins → q (pad_wire l y.graph i) ≡ false) → wire_lanes q (flat_map (pad_wires l) gs) ≡ []
     pads_none q [] each = refl
@@ -317,7 +317,7 @@ module _ (rules : Rules) where
 
 pub data IsAt (l : Layout) (k : ℕ) (d : PlanNode) : Type 0 where
   In_demuxes : (i r : ℕ) → node.Demux i ≡ d → k ≡ r → slice_get (used_inputs l) r ≡ Some i → IsAt l k d
-  In_decs : (s : Stream) (r : ℕ) → node.Dec s.at ≡ d → k ≡ before_decs l + r → slice_get (used l) r ≡ Some s → IsAt l k d
+  In_starts : (s : Stream) (r : ℕ) → start_node (length l.heads) s ≡ d → k ≡ before_decs l + r → slice_get (used l) r ≡ Some s → IsAt l k d
   In_graphs : (x : Laid) (r : ℕ) → node.Graph x.graph ≡ d → k ≡ before_graphs l + r → slice_get l.graphs r ≡ Some x → IsAt l k d
   In_shortests : (o r : ℕ) → node.Shortest o ≡ d → k ≡ before_shortests l + r → slice_get (output_numbers l) r ≡ Some o → IsAt l k d
   In_encs : (p : Placed) (r : ℕ) → node.Enc p.output p.stream ≡ d → k ≡ before_encs l + r → slice_get (placed l) r ≡ Some p → IsAt l k d
@@ -325,14 +325,14 @@ pub data IsAt (l : Layout) (k : ℕ) (d : PlanNode) : Type 0 where
 
 pub is_at : (l : Layout) (k : ℕ) (d : PlanNode) → slice_get (nodes_of l) k ≡ Some d → IsAt l k d
 is_at l k d e =
-    let a = map (λ i. node.Demux i) (used_inputs l) in let b = map (λ (s : Stream). node.Dec s.at) (used l) in let c = map (λ (x : Laid). node.Graph x.graph) l.graphs in
+    let a = map (λ i. node.Demux i) (used_inputs l) in let b = map (start_node (length l.heads)) (used l) in let c = map (λ (x : Laid). node.Graph x.graph) l.graphs in
     let f = map (λ o. node.Shortest o) (output_numbers l) in let g = map (λ (p : Placed). node.Enc p.output p.stream) (placed l) in let h = map (λ o. node.Mux o) (output_numbers l) in
-    let la = map_length (λ i. node.Demux i) (used_inputs l) in let lb = map_length (λ (s : Stream). node.Dec s.at) (used l) in let lc = map_length (λ (x : Laid). node.Graph x.graph) l.graphs in
+    let la = map_length (λ i. node.Demux i) (used_inputs l) in let lb = map_length (start_node (length l.heads)) (used l) in let lc = map_length (λ (x : Laid). node.Graph x.graph) l.graphs in
     let lf = map_length (λ o. node.Shortest o) (output_numbers l) in let lr = range_length 0 (length l.outputs) in let lg = map_length (λ (p : Placed). node.Enc p.output p.stream) (placed l) in
     elim (get_either a (b ++ (c ++ (f ++ (g ++ h)))) k d e) [
       | inl x ↦ (let y = at_map (λ i. node.Demux i) (used_inputs l) k d x in In_demuxes y.0 k y.2 refl y.1)
       | inr r1 ↦ elim (get_either b (c ++ (f ++ (g ++ h))) r1.0 d r1.2) [
-        | inl x ↦ (let y = at_map (λ (s : Stream). node.Dec s.at) (used l) r1.0 d x in let n1 = r1.1 in In_decs y.0 r1.0 y.2 (omega (arith, n1, la)) y.1)
+        | inl x ↦ (let y = at_map (start_node (length l.heads)) (used l) r1.0 d x in let n1 = r1.1 in In_starts y.0 r1.0 y.2 (omega (arith, n1, la)) y.1)
         | inr r2 ↦ elim (get_either c (f ++ (g ++ h)) r2.0 d r2.2) [
           | inl x ↦ (let y = at_map (λ (x : Laid). node.Graph x.graph) l.graphs r2.0 d x in let n1 = r1.1 in let n2 = r2.1 in In_graphs y.0 r2.0 y.2 (omega (arith, n1, n2, la, lb)) y.1)
           | inr r3 ↦ elim (get_either f (g ++ h) r3.0 d r3.2) [
@@ -394,7 +394,7 @@ spot_of n o (row ∷ rows) (suc i) j lt =
 -- and the Enc node there
 pub enc_there : (l : Layout) (r : ℕ) (p : Placed) → slice_get (placed l) r ≡ Some p → (e : ℕ) × (slice_get (nodes_of l) e ≡ Some (node.Enc p.output p.stream))
 enc_there l r p at =
-    let a = map (λ i. node.Demux i) (used_inputs l) in let b = map (λ (s : Stream). node.Dec s.at) (used l) in let c = map (λ (x : Laid). node.Graph x.graph) l.graphs in
+    let a = map (λ i. node.Demux i) (used_inputs l) in let b = map (start_node (length l.heads)) (used l) in let c = map (λ (x : Laid). node.Graph x.graph) l.graphs in
     let f = map (λ o. node.Shortest o) (output_numbers l) in let g = map (λ (p : Placed). node.Enc p.output p.stream) (placed l) in let h = map (λ o. node.Mux o) (output_numbers l) in
     let last = get_left g h r (node.Enc p.output p.stream) (get_map (λ (p : Placed). node.Enc p.output p.stream) (placed l) r p at) in
     let e1 = length f + r in let e2 = length c + e1 in let e3 = length b + e2 in let e4 = length a + e3 in (
@@ -485,7 +485,10 @@ module _ (rules : Rules) (job : Job) (heads : List (List StreamHead)) (l : Layou
 
   pub at_fit : (k : ℕ) (d : PlanNode) → IsAt whole k d → Fit k d
   at_fit k d (In_demuxes i r e place_ at) = subst (Fit k) e tt
-  at_fit k d (In_decs s r e place_ at) = subst (Fit k) e tt
+  at_fit k d (In_starts s r e place_ at) = subst (Fit k) e (start_free (nat_lt s.at.input (length heads))) where
+    start_free : (b : Bool) → Fit k (cond b (node.Dec s.at) (node.Gen s.at.input))
+    start_free true = tt
+    start_free false = tt
   at_fit k d (In_graphs x r e place_ at) = subst (Fit k) e tt
   at_fit k d (In_shortests o r e place_ at) = subst (Fit k) e (shortest_fit k o r place_ at)
   at_fit k d (In_encs p r e place_ at) = subst (Fit k) e (enc_fit k r p place_ at)

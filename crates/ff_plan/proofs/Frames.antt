@@ -7,17 +7,20 @@ use Rattle.ff_graph_links.specs.labels.Order.{ComeInOrder, HasNoLoop, graph_orde
 use Rattle.ff_words.specs.declared.maps.streams.Stream.{Stream}
 use Rattle.ff_words.specs.maps.Choice.{numbered, streams_from, all_streams}
 use Rattle.ff_frame.specs.declared.head.StreamHead.{StreamHead}
+use Rattle.ff_source.specs.declared.made.Made.{Made as SourceMade}
+use Rattle.ff_source.specs.Sources.{head_of}
 use Rattle.ff_words.specs.declared.job.Job.{Job}
 use Rattle.ff_plan_layout.specs.declared.open_pads.OpenOut.{OpenOut}
 use Rattle.ff_plan.specs.declared.number.Wire.{Wire}
 use Rattle.ff_plan.specs.declared.planned.Plan.{Plan}
 use Rattle.ff_plan_layout.specs.Graphs.{AreRules}
-use Rattle.ff_plan_layout.specs.Layout.{IsAmong, Layout, placed, used}
+use Rattle.ff_plan_layout.specs.Layout.{IsAmong, Layout, placed, read}
 use Rattle.ff_plan.specs.Nodes.{demux_wire, pad_wire, pad_wires, shortest_wire, enc_wire, mux_wire, wires_of, plan_of}
 use Rattle.ff_plan_layout.specs.Pads.{all_wants, head_in, pad_in}
 use Rattle.ff_plan_layout.specs.LaidOut.{layout_of, laid_out}
 use Rattle.ff_plan.specs.Planned.{planned}
 use Rattle.ff_plan_layout.specs.Rules.{Rules}
+use Rattle.ff_plan_layout.specs.Sources.{source_streams, sources_of}
 use Rattle.ff_plan.specs.Taken.{AreKeptBy, HasFrames, AllFrames}
 use Rattle.ff_plan.specs.Wires.{edges_behind, edges_of}
 use Rattle.ff_plan_layout.proofs.Among.{all_among, all_joined, all_map, all_flat, among_left, each_of}
@@ -25,10 +28,11 @@ use Rattle.ff_plan_layout.proofs.Graphed.{Stands, Walked, walked, inside_of, ins
 use Rattle.ff_plan.proofs.GraphFits.{all_there, in_comes, by_rows}
 use Rattle.ff_plan_layout.proofs.Kept.{among_at}
 use Rattle.ff_plan_layout.proofs.Tests.{nat_self}
-use Rattle.ff_plan_layout.proofs.Makings.{Comes}
+use Rattle.ff_plan_layout.proofs.Makings.{Comes, shown_in}
 use Rattle.ff_plan_layout.proofs.Once.{had}
 use Rattle.ff_plan_layout.proofs.Outs.{Passes}
 use Rattle.ff_plan.proofs.Ported.{stands}
+use Rattle.ff_plan.proofs.Sourced.{are_asked}
 use Rattle.ff_plan_layout.proofs.Results.{same_ok, behind_ok}
 use Rattle.ff_plan_layout.specs.declared.layout.InPad.{InPad}
 use Rattle.ff_plan_layout.specs.declared.layout.Laid.{Laid}
@@ -47,6 +51,10 @@ module _ (P : StreamHead → Type 0) where
   streams_kept : (i : ℕ) (rows : List (List StreamHead)) → AllByRecursion (λ hs. AllByRecursion P hs) rows → AllByRecursion (λ (s : Stream). P s.head) (streams_from i rows)
   streams_kept i [] all = tt
   streams_kept i (hs ∷ rows) all = all_joined (λ (s : Stream). P s.head) (numbered i 0 hs) (streams_from (i + 1) rows) (numbered_kept i 0 hs all.0) (streams_kept (i + 1) rows all.1)
+
+  sources_kept : (n : ℕ) (made : List SourceMade) → AllByRecursion (λ (m : SourceMade). P (head_of m)) made → AllByRecursion (λ (s : Stream). P s.head) (source_streams n made)
+  sources_kept n [] all = tt
+  sources_kept n (m ∷ ms) all = (all.0, sources_kept (n + 1) ms all.1)
 
   -- ---- edges and wires
 
@@ -67,7 +75,7 @@ module _ (P : StreamHead → Type 0) where
     wires_kept : AllByRecursion OnWire (wires_of l)
     wires_kept =
         let shorts = map (shortest_wire l) (placed l) in let encs = map (enc_wire l) (placed l) in let muxes = map (mux_wire l) (placed l) in
-        all_joined OnWire (map (demux_wire l) (used l)) (flat_map (pad_wires l) l.graphs ++ (shorts ++ (encs ++ muxes))) (all_map OnWire (demux_wire l) (used l) (λ s i. tt))
+        all_joined OnWire (map (demux_wire l) (read l)) (flat_map (pad_wires l) l.graphs ++ (shorts ++ (encs ++ muxes))) (all_map OnWire (demux_wire l) (read l) (λ s i. tt))
         (all_joined OnWire (flat_map (pad_wires l) l.graphs) (shorts ++ (encs ++ muxes)) (all_flat OnWire (pad_wires l) l.graphs (λ g ig. all_map OnWire (pad_wire l g.graph) g.ins (ins g ig)))
         (all_joined OnWire shorts (encs ++ muxes) shortest_kept
         (all_joined OnWire encs muxes (all_map OnWire (enc_wire l) (placed l) enc_kept) (all_map OnWire (mux_wire l) (placed l) (λ s i. tt)))))
@@ -78,7 +86,7 @@ module _ (P : StreamHead → Type 0) where
   -- ---- what graphs make
 
   module _ (rules : Rules) (are : AreRules rules) (keeps : AreKeptBy rules P) (job : Job) (heads : List (List StreamHead)) (all : AllByRecursion (λ hs. AllByRecursion P hs) heads) (l : Layout)
-      (w : Walked rules job heads l)
+      (w : Walked rules job heads l) (of_sources : AllByRecursion (λ (m : SourceMade). P (head_of m)) (sources_of rules job.graphs))
       (come : ComeInOrder (feeds job.graphs) (length job.graphs) [] (graph_order job.graphs))
       (all_in : HasNoLoop (feeds job.graphs) (length job.graphs) → (g : ℕ) → g < length job.graphs → is_in (graph_order job.graphs) g ≡ true)
       (some_outputs : 1 ≤ length job.outputs) where
@@ -94,9 +102,22 @@ module _ (P : StreamHead → Type 0) where
     abbrev StandsHere : Made → Type 0
     StandsHere m = Stands rules job.graphs (all_wants rules heads job.graphs) w.made m
 
-    comes_kept : (made : List Made) → ((m : Made) → IsAmong m made → OutsKept m) → (i : InPad) → Comes heads made i → P i.head
-    comes_kept made each i (inl s) = subst (λ (j : InPad). P j.head) s.is (each_of (λ (k : Stream). P k.head) s.stream (all_streams heads) (streams_kept 0 heads all) s.there)
-    comes_kept made each i (inr o) = subst (λ (j : InPad). P j.head) o.is
+    -- the streams that there are
+    abbrev shown : List Stream
+    shown = shown_in rules heads job.graphs
+
+    abbrev KeptStream : Stream → Type 0
+    KeptStream k = P k.head
+
+    inputs_kept : AllByRecursion KeptStream (all_streams heads)
+    inputs_kept = streams_kept 0 heads all
+
+    shown_kept : AllByRecursion KeptStream shown
+    shown_kept = all_joined KeptStream (source_streams (length heads) (sources_of rules job.graphs)) (all_streams heads) (sources_kept (length heads) (sources_of rules job.graphs) of_sources) inputs_kept
+
+    comes_kept : (ks : List Stream) → AllByRecursion KeptStream ks → (made : List Made) → ((m : Made) → IsAmong m made → OutsKept m) → (i : InPad) → Comes ks made i → P i.head
+    comes_kept ks kept made each i (inl s) = subst (λ (j : InPad). P j.head) s.is (each_of KeptStream s.stream ks kept s.there)
+    comes_kept ks kept made each i (inr o) = subst (λ (j : InPad). P j.head) o.is
         (each_of (λ (out : OpenOut). P out.head) o.out o.maker.outs (each o.maker o.there) (among_at o.out o.maker.outs o.pad o.at))
 
     heads_kept : (is : List InPad) → AllByRecursion (λ (i : InPad). P i.head) is → AllByRecursion P (map (λ (i : InPad). i.head) is)
@@ -111,7 +132,7 @@ module _ (P : StreamHead → Type 0) where
         keeps s.how.text (map (λ (i : InPad). i.head) m.laid.ins) m.outs
         (ap (λ (is : List InPad). rules.configured s.how.text (map (λ h. Some h) (map (λ (i : InPad). i.head) is))) s.how.ins
         ∙ (ap (λ (hs : List (Option StreamHead)). rules.configured s.how.text hs) (sym there) ∙ s.how.outs))
-        (heads_kept m.laid.ins (all_among (λ (i : InPad). P i.head) m.laid.ins (λ i ii. comes_kept s.front each i (each_of (Comes heads s.front) i m.laid.ins from ii))))
+        (heads_kept m.laid.ins (all_among (λ (i : InPad). P i.head) m.laid.ins (λ i ii. comes_kept shown shown_kept s.front each i (each_of (Comes shown s.front) i m.laid.ins from ii))))
 
     -- of those that were made before others
     made_below : (n : ℕ) (m : Made) → IsAmong m w.made → place m < n → OutsKept m
@@ -131,7 +152,7 @@ module _ (P : StreamHead → Type 0) where
 
     stream_kept : (p : Passed) → Passes rules (inside_of heads job w.made) p → P p.what.head
     stream_kept p t =
-        let own = comes_kept w.made made_kept t.pad t.from in
+        let own = comes_kept (all_streams heads) inputs_kept w.made made_kept t.pad t.from in
         elim t.how [
           | inl e ↦ subst (λ (q : Passed). P q.what.head) e own
           | inr f ↦ subst (λ (q : Passed). P q.what.head) f.is (keeps f.text (t.pad.head ∷ []) (f.made ∷ []) f.outs (own, tt)).0
@@ -139,14 +160,16 @@ module _ (P : StreamHead → Type 0) where
 
     whole_kept : AllFrames P (edges_of (wires_of whole))
     whole_kept = layout_kept whole
-        (λ g ig i ii. comes_kept w.made made_kept i (in_comes rules are job heads l w come all_in some_outputs g ig i ii))
+        (λ g ig i ii. comes_kept shown shown_kept w.made made_kept i (in_comes rules are job heads l w come all_in some_outputs g ig i ii))
         (by_rows rules are job heads l w come all_in some_outputs (λ (s : OutStream). P s.head) (λ ps p ips ip t. stream_kept p t))
 
   pub frames_kept : (rules : Rules) (job : Job) (heads : List (List StreamHead)) (p : Plan) → AreRules rules → AreKeptBy rules P → AllByRecursion (λ hs. AllByRecursion P hs) heads
+      → AllByRecursion (λ (m : SourceMade). P (head_of m)) p.made
       → ComeInOrder (feeds job.graphs) (length job.graphs) [] (graph_order job.graphs)
       → (HasNoLoop (feeds job.graphs) (length job.graphs) → (g : ℕ) → g < length job.graphs → is_in (graph_order job.graphs) g ≡ true)
       → 1 ≤ length job.outputs → planned rules job heads ≡ Ok p → AllFrames P p.edges
-  frames_kept rules job heads p are keeps all come all_in some h =
+  frames_kept rules job heads p are keeps all made come all_in some h =
       let at = behind_ok (laid_out rules job heads) (λ l. Ok (plan_of l)) p h in
       let w = walked rules job heads at.0 come at.1 in
-      subst (λ (q : Plan). AllFrames P q.edges) (ap (λ (l : Layout). plan_of l) w.is ∙ same_ok (plan_of at.0) p at.2) (whole_kept rules are keeps job heads all at.0 w come all_in some)
+      let own = subst (λ (ms : List SourceMade). AllByRecursion (λ (m : SourceMade). P (head_of m)) ms) (are_asked rules job heads p h) made in
+      subst (λ (q : Plan). AllFrames P q.edges) (ap (λ (l : Layout). plan_of l) w.is ∙ same_ok (plan_of at.0) p at.2) (whole_kept rules are keeps job heads all at.0 w own come all_in some)

@@ -1,7 +1,9 @@
 -- What stands at the ports of the nodes of graphs.
 use Rattle.std.proofs.Common.{◌≡◌, ◌⊎◌, inl, inr, ℕ, zero, suc, ◌+◌, ◌-◌, ◌<◌, ◌≤◌, ◌==◌, ◌||◌, Bool, true, false, cond, List, [], ◌∷◌, ◌++◌, map, length, Option, Some, None, refl, sym, ap, ◌∙◌, subst, arith}
-use Rattle.std.specs.Prelude.{slice_get, slice_index_or, IsSome, Ok}
+use Rattle.std.specs.Prelude.{nat_lt, slice_get, slice_index_or, IsSome, Ok}
 use Rattle.ff_words.specs.declared.maps.streams.Stream.{Stream}
+use Rattle.ff_words.specs.maps.Choice.{all_streams}
+use Rattle.ff_plan_layout.specs.Sources.{source_streams, sources_of}
 use Rattle.ff_plan.specs.declared.planned.Plan.{Plan}
 use Rattle.ff_plan.specs.declared.planned.PlanNode.{PlanNode}
 use Rattle.ff_plan.specs.declared.planned.PlanNode.TheVariants as node
@@ -30,7 +32,7 @@ use Rattle.ff_plan_layout.specs.declared.layout.GraphText.TheVariants.{Complex}
 use Rattle.ff_plan_layout.specs.Texts.{simple_in, graph_text, simple_or_null, texts_of_laid, texts_of_row, texts_from}
 use Rattle.ff_plan_layout.specs.declared.layout.Laid.{Laid}
 use Rattle.ff_plan_layout.specs.Layout.{IsLaid, IsAmong, Layout, placed, used, used_inputs}
-use Rattle.ff_plan.specs.Nodes.{before_graphs, before_shortests, output_numbers, nodes_of, wires_of, plan_of}
+use Rattle.ff_plan.specs.Nodes.{start_node, before_graphs, before_shortests, output_numbers, nodes_of, wires_of, plan_of}
 use Rattle.ff_plan_layout.specs.Order.{numbers}
 use Rattle.ff_plan_layout.specs.declared.layout.Want.{Want}
 use Rattle.ff_plan_layout.specs.declared.layout.Made.{Made}
@@ -49,7 +51,7 @@ use Rattle.ff_plan.proofs.GraphLanes.{into_graph, out_of_graph}
 use Rattle.ff_plan_layout.proofs.Kept.{nothing, same_some, among_at, at_map, below_at}
 use Rattle.ff_plan_layout.proofs.Sizes.{map_length, range_length, place_holds}
 use Rattle.ff_plan_layout.proofs.Tests.{nat_self, tally_hit}
-use Rattle.ff_plan_layout.proofs.Makings.{Comes, comes_left}
+use Rattle.ff_plan_layout.proofs.Makings.{Comes, comes_left, comes_right, shown_in}
 use Rattle.ff_plan_layout.proofs.Once.{in_all, had, clear_at}
 use Rattle.ff_plan_layout.proofs.Outs.{IsFiltered, IsPassed, AllPassed, AreOutputs, Passes}
 use Rattle.ff_plan.proofs.Ported.{stands, passing, simple_numbers, complex_count, simple_count, numbered_once}
@@ -89,7 +91,7 @@ frames_of (i ∷ is) = ap (λ (ls : List Lane). Frames i.head ∷ ls) (frames_of
 
 -- ---- one alone
 
-only_one : {A : Type 0} (p : A → Bool) (a b : A) (xs : List A) → tally p xs ≤ 1 → IsAmong a xs → IsAmong b xs → p a ≡ true → p b ≡ true → a ≡ b
+pub only_one : {A : Type 0} (p : A → Bool) (a b : A) (xs : List A) → tally p xs ≤ 1 → IsAmong a xs → IsAmong b xs → p a ≡ true → p b ≡ true → a ≡ b
 only_one p a b [] few ia ib ea eb = absurd ia
 only_one p a b (x ∷ xs) few (inl same) (inl other) ea eb = sym same ∙ other
 only_one p a b (x ∷ xs) few (inl same) (inr j) ea eb = absurd (let t = tally_hit p x xs (ap p same ∙ ea) in let u = tally_among p b xs j eb in omega (arith, t, u, few))
@@ -301,17 +303,17 @@ module _ (rules : Rules) (are : AreRules rules) (job : Job) (heads : List (List 
   Fits outs g source head = (p : ℕ) → source ≡ origin.Pad g p → (o : OpenOut) × (slice_get outs p ≡ Some o) × (head ≡ o.head)
 
   -- where it comes from, of a graph that isn't complex
-  none_fits : (outs : List OpenOut) (g : ℕ) (i : InPad) → n ≤ g → Comes heads made i → Fits outs g i.source i.head
-  none_fits outs g i le (inl s) = λ p e. absurd (subst IsStream (ap (λ (j : InPad). j.source) s.is ∙ e) tt)
-  none_fits outs g i le (inr o) = λ p e. absurd
+  none_fits : (ks : List Stream) (outs : List OpenOut) (g : ℕ) (i : InPad) → n ≤ g → Comes ks made i → Fits outs g i.source i.head
+  none_fits ks outs g i le (inl s) = λ p e. absurd (subst IsStream (ap (λ (j : InPad). j.source) s.is ∙ e) tt)
+  none_fits ks outs g i le (inr o) = λ p e. absurd
       (let s = standing_here o.maker o.there in
       let low = s.low in let num = s.how.number in
       let same : o.maker.laid.graph ≡ g = ap graph_in (ap (λ (j : InPad). j.source) o.is ∙ e) in
       omega (arith, low, num, same, le))
 
-  open_fits : (m : Made) (s : StandsHere m) (i : InPad) → Comes heads made i → Fits m.outs m.laid.graph i.source i.head
-  open_fits m s i (inl t) = λ p e. absurd (subst IsStream (ap (λ (j : InPad). j.source) t.is ∙ e) tt)
-  open_fits m s i (inr o) = λ p e.
+  open_fits : (ks : List Stream) (m : Made) (s : StandsHere m) (i : InPad) → Comes ks made i → Fits m.outs m.laid.graph i.source i.head
+  open_fits ks m s i (inl t) = λ p e. absurd (subst IsStream (ap (λ (j : InPad). j.source) t.is ∙ e) tt)
+  open_fits ks m s i (inr o) = λ p e.
       (let t = standing_here o.maker o.there in
       let at = ap (λ (j : InPad). j.source) o.is ∙ e in
       let number : t.number ≡ s.number = sym t.how.number ∙ (ap graph_in at ∙ s.how.number) in
@@ -322,25 +324,29 @@ module _ (rules : Rules) (are : AreRules rules) (job : Job) (heads : List (List 
 
   -- ---- what graphs take
 
-  in_simple : (x : Laid) (i : InPad) (p : Passed) → Passing p → IsAmong x (graph_of p) → IsAmong i x.ins → Comes heads made i
+  in_simple : (x : Laid) (i : InPad) (p : Passed) → Passing p → IsAmong x (graph_of p) → IsAmong i x.ins → Comes (all_streams heads) made i
   in_simple x i p t ix ii = elim t.how [
     | inl e ↦ absurd (subst (λ (q : Passed). IsAmong x (graph_of q)) (sym e) ix)
     | inr f ↦ elim (subst (λ (q : Passed). IsAmong x (graph_of q)) (sym f.is) ix) [
       | inl same ↦ elim (subst (λ (y : Laid). IsAmong i y.ins) (sym same) ii) [
-        | inl e ↦ subst (λ (j : InPad). Comes heads made j) e t.from
+        | inl e ↦ subst (λ (j : InPad). Comes (all_streams heads) made j) e t.from
         | inr none ↦ absurd none
       ]
       | inr none ↦ absurd none
     ]
   ]
 
-  pub in_comes : (y : Laid) → IsAmong y whole.graphs → (i : InPad) → IsAmong i y.ins → Comes heads made i
+  -- the streams that there are
+  abbrev shown : List Stream
+  shown = shown_in rules heads job.graphs
+
+  pub in_comes : (y : Laid) → IsAmong y whole.graphs → (i : InPad) → IsAmong i y.ins → Comes shown made i
   in_comes y iy i ii = elim (among_either y complexes simples iy) [
     | inl c ↦ (let m = of_map (λ (m : Made). m.laid) y made c in let s = standing_here m.0 m.1 in
-        subst (λ (ms : List Made). Comes heads ms i) s.is (comes_left heads s.front (m.0 ∷ s.rest) i
-        (each_of (Comes heads s.front) i m.0.laid.ins (ins_from rules job heads made w.rows come w.are_made m.0 s) (subst (λ (z : Laid). IsAmong i z.ins) (sym m.2) ii))))
+        subst (λ (ms : List Made). Comes shown ms i) s.is (comes_left shown s.front (m.0 ∷ s.rest) i
+        (each_of (Comes shown s.front) i m.0.laid.ins (ins_from rules job heads made w.rows come w.are_made m.0 s) (subst (λ (z : Laid). IsAmong i z.ins) (sym m.2) ii))))
     | inr b ↦ (let a = of_flat (λ (ps : List Passed). flat_map graph_of ps) y w.rows b in let c = of_flat graph_of y a.0 a.2 in
-        in_simple y i c.0 (each_of Passing c.0 a.0 (each_of (λ ps. AllByRecursion Passing ps) a.0 w.rows all_passing a.1) c.1) c.2 ii)
+        comes_right (source_streams (length heads) (sources_of rules job.graphs)) (all_streams heads) made i (in_simple y i c.0 (each_of Passing c.0 a.0 (each_of (λ ps. AllByRecursion Passing ps) a.0 w.rows all_passing a.1) c.1) c.2 ii))
   ]
 
   -- the number of a simple graph
@@ -358,7 +364,7 @@ module _ (rules : Rules) (are : AreRules rules) (job : Job) (heads : List (List 
 
   complex_stream : (m : Made) (s : StandsHere m) (ps : List Passed) (p : Passed) → IsAmong ps w.rows → IsAmong p ps → Passing p → Fits m.outs m.laid.graph p.what.source p.what.head
   complex_stream m s ps p ips ip t = elim t.how [
-    | inl a ↦ subst (λ (q : Passed). Fits m.outs m.laid.graph q.what.source q.what.head) a (open_fits m s t.pad t.from)
+    | inl a ↦ subst (λ (q : Passed). Fits m.outs m.laid.graph q.what.source q.what.head) a (open_fits (all_streams heads) m s t.pad t.from)
     | inr f ↦ (λ q e. absurd
         (let own : Laid = record { graph = t.graph; ins = t.pad ∷ [] } in
         let le = simple_low ps p ips ip own (subst (λ (y : Passed). IsAmong own (graph_of y)) f.is (inl refl)) in
@@ -383,7 +389,7 @@ module _ (rules : Rules) (are : AreRules rules) (job : Job) (heads : List (List 
 
     simple_stream : (ps : List Passed) (p : Passed) → IsAmong ps w.rows → IsAmong p ps → Passing p → Fits (r.how.made ∷ []) x.graph p.what.source p.what.head
     simple_stream ps p ips ip u = elim u.how [
-      | inl a ↦ subst (λ (q : Passed). Fits (r.how.made ∷ []) x.graph q.what.source q.what.head) a (none_fits (r.how.made ∷ []) x.graph u.pad high_number u.from)
+      | inl a ↦ subst (λ (q : Passed). Fits (r.how.made ∷ []) x.graph q.what.source q.what.head) a (none_fits (all_streams heads) (r.how.made ∷ []) x.graph u.pad high_number u.from)
       | inr f ↦ (λ q e.
           (let at = ap (λ (y : Passed). y.what.source) f.is ∙ e in
           let number : u.graph ≡ r.number = ap graph_in at ∙ ap (λ (y : Laid). y.graph) r.is in
@@ -434,7 +440,7 @@ module _ (rules : Rules) (are : AreRules rules) (job : Job) (heads : List (List 
           ins = into_graph whole laid k low high m.laid at (once m.laid.graph) ∙ frames_of m.laid.ins;
           frames = out_of_graph whole laid k low high m.laid at (once m.laid.graph) m.outs
               (λ q lt. (complex_count rules are job heads l w come all_in some_outputs m im q).0 lt) (λ q le. (complex_count rules are job heads l w come all_in some_outputs m im q).1 le)
-              (λ y iy i ii. open_fits m s i (in_comes y iy i ii)) (λ p ip. by_rows (λ (o : OutStream). Fits m.outs m.laid.graph o.source o.head) (complex_stream m s) p ip);
+              (λ y iy i ii. open_fits shown m s i (in_comes y iy i ii)) (λ p ip. by_rows (λ (o : OutStream). Fits m.outs m.laid.graph o.source o.head) (complex_stream m s) p ip);
         }
 
     simple_fit : (t : ℕ) (x : Laid) → IsAmong x simples → IsSimple rules job.outputs streams (texts_from 0 job.outputs w.rows) n t x → slice_get whole.graphs j ≡ Some x
@@ -456,7 +462,7 @@ module _ (rules : Rules) (are : AreRules rules) (job : Job) (heads : List (List 
           ins = into_graph whole laid k low high x at (once x.graph) ∙ ap (λ (y : Laid). map (λ (i : InPad). Frames i.head) y.ins) r.is;
           frames = out_of_graph whole laid k low high x at (once x.graph) (r.how.made ∷ [])
               (λ q lt. (simple_count rules are job heads l w come all_in some_outputs x ix q).0 lt) (λ q le. (simple_count rules are job heads l w come all_in some_outputs x ix q).1 le)
-              (λ y iy i ii. none_fits (r.how.made ∷ []) x.graph i (high_number t x (texts_from 0 job.outputs w.rows) r) (in_comes y iy i ii))
+              (λ y iy i ii. none_fits shown (r.how.made ∷ []) x.graph i (high_number t x (texts_from 0 job.outputs w.rows) r) (in_comes y iy i ii))
               (λ p ip. by_rows (λ (o : OutStream). Fits (r.how.made ∷ []) x.graph o.source o.head) (simple_stream t x (texts_from 0 job.outputs w.rows) r) p ip);
         }
 
@@ -473,6 +479,7 @@ module _ (rules : Rules) (are : AreRules rules) (job : Job) (heads : List (List 
 
 abbrev IsGraphNode : PlanNode → Type 0
 IsGraphNode (node.Demux i) = ⊥
+IsGraphNode (node.Gen i) = ⊥
 IsGraphNode (node.Dec at) = ⊥
 IsGraphNode (node.Graph g) = Unit {0}
 IsGraphNode (node.Shortest o) = ⊥
@@ -481,6 +488,7 @@ IsGraphNode (node.Mux o) = ⊥
 
 abbrev graph_of_node : PlanNode → ℕ
 graph_of_node (node.Demux i) = 0
+graph_of_node (node.Gen i) = 0
 graph_of_node (node.Dec at) = 0
 graph_of_node (node.Graph g) = g
 graph_of_node (node.Shortest o) = 0
@@ -490,16 +498,20 @@ graph_of_node (node.Mux o) = 0
 not_here : {A : Type 0} (f : A → PlanNode) (g : ℕ) → ((x : A) → IsGraphNode (f x) → ⊥) → (xs : List A) (k : ℕ) → slice_get (map f xs) k ≡ Some (node.Graph g) → ⊥
 not_here f g other xs k e = (let r = at_map f xs k (node.Graph g) e in other r.0 (subst IsGraphNode (sym r.2) tt))
 
+no_start : (s : Stream) (b : Bool) → IsGraphNode (cond b (node.Dec s.at) (node.Gen s.at.input)) → ⊥
+no_start s true t = t
+no_start s false t = t
+
 pub graph_node : (l : Layout) (k g : ℕ) → slice_get (nodes_of l) k ≡ Some (node.Graph g)
     → (before_graphs l ≤ k) × (k < before_shortests l) × ((x : Laid) × (slice_get l.graphs (k - before_graphs l) ≡ Some x) × (x.graph ≡ g))
 graph_node l k g e =
-    let a = map (λ i. node.Demux i) (used_inputs l) in let b = map (λ (s : Stream). node.Dec s.at) (used l) in let c = map (λ (x : Laid). node.Graph x.graph) l.graphs in
+    let a = map (λ i. node.Demux i) (used_inputs l) in let b = map (start_node (length l.heads)) (used l) in let c = map (λ (x : Laid). node.Graph x.graph) l.graphs in
     let d = map (λ o. node.Shortest o) (output_numbers l) in let f = map (λ (p : Placed). node.Enc p.output p.stream) (placed l) in let h = map (λ o. node.Mux o) (output_numbers l) in
-    let la = map_length (λ i. node.Demux i) (used_inputs l) in let lb = map_length (λ (s : Stream). node.Dec s.at) (used l) in
+    let la = map_length (λ i. node.Demux i) (used_inputs l) in let lb = map_length (start_node (length l.heads)) (used l) in
     elim (get_either a (b ++ (c ++ (d ++ (f ++ h)))) k (node.Graph g) e) [
       | inl x ↦ absurd (not_here (λ i. node.Demux i) g (λ i t. t) (used_inputs l) k x)
       | inr r1 ↦ elim (get_either b (c ++ (d ++ (f ++ h))) r1.0 (node.Graph g) r1.2) [
-        | inl x ↦ absurd (not_here (λ (s : Stream). node.Dec s.at) g (λ s t. t) (used l) r1.0 x)
+        | inl x ↦ absurd (not_here (start_node (length l.heads)) g (λ s. no_start s (nat_lt s.at.input (length l.heads))) (used l) r1.0 x)
         | inr r2 ↦ elim (get_either c (d ++ (f ++ h)) r2.0 (node.Graph g) r2.2) [
           | inl x ↦ (let y = at_map (λ (x : Laid). node.Graph x.graph) l.graphs r2.0 (node.Graph g) x in
               let n1 = r1.1 in let n2 = r2.1 in let lt = below_at y.0 l.graphs r2.0 y.1 in

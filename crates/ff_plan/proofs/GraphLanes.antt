@@ -14,7 +14,7 @@ use Rattle.ff_plan_layout.specs.declared.layout.Origin.{Origin}
 use Rattle.ff_plan_layout.specs.declared.layout.Origin.TheVariants as origin
 use Rattle.ff_plan_layout.specs.declared.layout.Placed.{Placed}
 use Rattle.ff_plan_layout.specs.declared.layout.Laid.{Laid}
-use Rattle.ff_plan_layout.specs.Layout.{IsLaid, IsAmong, Layout, placed, used, origins}
+use Rattle.ff_plan_layout.specs.Layout.{IsLaid, IsAmong, Layout, placed, origins, read}
 use Rattle.ff_plan.specs.Nodes.{before_graphs, before_shortests, graph_at, origin_at, origin_port, demux_wire, pad_wire, pad_wires, shortest_wire, enc_wire, mux_wire, wires_of}
 use Rattle.ff_plan_layout.specs.declared.open_pads.OpenOut.{OpenOut}
 use Rattle.ff_plan.specs.Wires.{Wire, port_or, leaves_node, enters_node, edges_behind, edges_of}
@@ -23,7 +23,7 @@ use Rattle.ff_plan_layout.proofs.Counts.{once_length, tally_among}
 use Rattle.ff_plan.proofs.GraphWires.{of_graph, graph_test, stream_test, pad_test, are_named, node_outs, all_named, pads_count, pads_of}
 use Rattle.ff_plan_layout.proofs.Kept.{nothing, same_some, among_at, below_at}
 use Rattle.ff_plan.proofs.Lanes.{wire_lanes, into_is, at_ports_is, mapped}
-use Rattle.ff_plan.proofs.Layouts.{demux_below, dec_below}
+use Rattle.ff_plan.proofs.Layouts.{demux_below, read_below}
 use Rattle.ff_plan_layout.proofs.Tests.{nat_self, is_same, not_same, tally_hit, tally_miss, same_test, other_test}
 use Rattle.ff_plan.proofs.Named.{named_count}
 use Rattle.ff_plan.proofs.Upward.{first_passes, some_of}
@@ -107,12 +107,12 @@ module _ (l : Layout) (laid : IsLaid l) (k : ℕ) (low : before_graphs l ≤ k) 
 
   pub into_graph : lanes_into (edges_of (wires_of l)) k ≡ in_lanes x
   into_graph =
-      let demuxes = map (demux_wire l) (used l) in let pads = flat_map (pad_wires l) l.graphs in let shorts = map (shortest_wire l) (placed l) in
+      let demuxes = map (demux_wire l) (read l) in let pads = flat_map (pad_wires l) l.graphs in let shorts = map (shortest_wire l) (placed l) in
       let encs = map (enc_wire l) (placed l) in let muxes = map (mux_wire l) (placed l) in
       into_is k (wires_of l)
       ∙ (lanes_joined test demuxes (pads ++ (shorts ++ (encs ++ muxes)))
       ∙ (ap (λ (ls : List Lane). ls ++ wire_lanes test (pads ++ (shorts ++ (encs ++ muxes))))
-      (lanes_none test (demux_wire l) (used l) (λ s i. other_test (demux_wire l s).to k (λ e. (let lt = dec_below l s i in omega (arith, e, lt, low)))))
+      (lanes_none test (demux_wire l) (read l) (λ s i. other_test (demux_wire l s).to k (λ e. (let lt = read_below l s i in omega (arith, e, lt, low)))))
       ∙ (lanes_joined test pads (shorts ++ (encs ++ muxes))
       ∙ (ap (λ (ls : List Lane). wire_lanes test pads ++ ls)
       (lanes_joined test shorts (encs ++ muxes)
@@ -150,8 +150,8 @@ module _ (l : Layout) (laid : IsLaid l) (k : ℕ) (low : before_graphs l ≤ k) 
     all_carry =
         let shorts = map (shortest_wire l) (placed l) in let encs = map (enc_wire l) (placed l) in let muxes = map (mux_wire l) (placed l) in
         let ends = ends_carry in
-        all_joined Carries (map (demux_wire l) (used l)) (flat_map (pad_wires l) l.graphs ++ (shorts ++ (encs ++ muxes)))
-        (all_map Carries (demux_wire l) (used l) (λ s i e. absurd (let lt = demux_below l s i in omega (arith, e, lt, low))))
+        all_joined Carries (map (demux_wire l) (read l)) (flat_map (pad_wires l) l.graphs ++ (shorts ++ (encs ++ muxes)))
+        (all_map Carries (demux_wire l) (read l) (λ s i e. absurd (let lt = demux_below l s i in omega (arith, e, lt, low))))
         (all_joined Carries (flat_map (pad_wires l) l.graphs) (shorts ++ (encs ++ muxes))
         (all_flat Carries (pad_wires l) l.graphs (λ y iy. all_map Carries (pad_wire l y.graph) y.ins (λ i ii e. carried i.source i.head (pad_test l laid k low high x at one y iy i ii) (pads_fit y iy i ii) e)))
         (all_joined Carries shorts (encs ++ muxes) ends.0 (all_joined Carries encs muxes ends.1 (all_map Carries (mux_wire l) (placed l) (λ p i e. absurd (omega (arith, e, high)))))))

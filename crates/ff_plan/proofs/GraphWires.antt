@@ -10,7 +10,7 @@ use Rattle.ff_plan_layout.specs.declared.layout.Origin.{Origin}
 use Rattle.ff_plan_layout.specs.declared.layout.Origin.TheVariants as origin
 use Rattle.ff_plan_layout.specs.declared.layout.Placed.{Placed}
 use Rattle.ff_plan_layout.specs.declared.layout.Laid.{Laid}
-use Rattle.ff_plan_layout.specs.Layout.{IsThere, IsLaid, EachOnce, IsAmong, Layout, placed, used, origins}
+use Rattle.ff_plan_layout.specs.Layout.{IsThere, IsLaid, EachOnce, IsAmong, Layout, placed, origins, read}
 use Rattle.ff_plan.specs.Laws.{IsNamedOf, named_at}
 use Rattle.ff_plan.specs.Nodes.{before_graphs, before_shortests, dec_at, graph_at, origin_at, origin_port, demux_wire, pad_wire, pad_wires, shortest_wire, enc_wire, mux_wire, wires_of}
 use Rattle.ff_plan.specs.Wires.{Wire, edges_of}
@@ -127,8 +127,8 @@ module _ (l : Layout) (laid : IsLaid l) (k : ℕ) (low : before_graphs l ≤ k) 
       ∙ (ap (λ (ps : List ℕ). pads_of g (map (λ (i : InPad). i.source) y.ins) ++ ps) (pads_named gs (λ z i. each z (inr i)))
       ∙ sym (pads_joined g (map (λ (i : InPad). i.source) y.ins) (in_sources gs))))
 
-  demuxes_none : named_at k (map (demux_wire l) (used l)) ≡ []
-  demuxes_none = none_named k (demux_wire l) (used l) (λ s i e. (let lt = demux_below l s i in omega (arith, e, lt, low)))
+  demuxes_none : named_at k (map (demux_wire l) (read l)) ≡ []
+  demuxes_none = none_named k (demux_wire l) (read l) (λ s i e. (let lt = demux_below l s i in omega (arith, e, lt, low)))
 
   muxes_none : named_at k (map (mux_wire l) (placed l)) ≡ []
   muxes_none = none_named k (mux_wire l) (placed l) (λ p i e. omega (arith, e, high))
@@ -141,7 +141,7 @@ module _ (l : Layout) (laid : IsLaid l) (k : ℕ) (low : before_graphs l ≤ k) 
 
   pub all_named : named_at k (wires_of l) ≡ pads_of g (origins l)
   all_named =
-      let demuxes = map (demux_wire l) (used l) in let pads = flat_map (pad_wires l) l.graphs in let shorts = map (shortest_wire l) (placed l) in
+      let demuxes = map (demux_wire l) (read l) in let pads = flat_map (pad_wires l) l.graphs in let shorts = map (shortest_wire l) (placed l) in
       let encs = map (enc_wire l) (placed l) in let muxes = map (mux_wire l) (placed l) in
       named_joined k demuxes (pads ++ (shorts ++ (encs ++ muxes)))
       ∙ (ap (λ (ps : List ℕ). ps ++ named_at k (pads ++ (shorts ++ (encs ++ muxes)))) demuxes_none
@@ -170,8 +170,8 @@ module _ (l : Layout) (laid : IsLaid l) (k : ℕ) (low : before_graphs l ≤ k) 
       let N = IsNamedOf k in
       let shorts = map (shortest_wire l) (placed l) in let encs = map (enc_wire l) (placed l) in let muxes = map (mux_wire l) (placed l) in
       let ends = ends_have in
-      all_joined N (map (demux_wire l) (used l)) (flat_map (pad_wires l) l.graphs ++ (shorts ++ (encs ++ muxes)))
-      (all_map N (demux_wire l) (used l) (λ s i e. absurd (let lt = demux_below l s i in omega (arith, e, lt, low))))
+      all_joined N (map (demux_wire l) (read l)) (flat_map (pad_wires l) l.graphs ++ (shorts ++ (encs ++ muxes)))
+      (all_map N (demux_wire l) (read l) (λ s i e. absurd (let lt = demux_below l s i in omega (arith, e, lt, low))))
       (all_joined N (flat_map (pad_wires l) l.graphs) (shorts ++ (encs ++ muxes))
       (all_flat N (pad_wires l) l.graphs (λ y iy. all_map N (pad_wire l y.graph) y.ins (λ i ii e. named_origin i.source (pad_test y iy i ii) e)))
       (all_joined N shorts (encs ++ muxes) ends.0 (all_joined N encs muxes ends.1 (all_map N (mux_wire l) (placed l) (λ p i e. absurd (omega (arith, e, high)))))))

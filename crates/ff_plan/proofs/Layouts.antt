@@ -1,52 +1,40 @@
 -- The wires of a layout go upward.
-use Rattle.std.proofs.Common.{◌≡◌, ℕ, zero, suc, ◌+◌, ◌<◌, ◌≤◌, ◌⊎◌, inl, inr, ◌==◌, Bool, true, false, cond, List, [], ◌∷◌, ◌++◌, map, length, refl, sym, ap, ◌∙◌, subst, arith}
+use Rattle.std.proofs.Common.{◌≡◌, ℕ, zero, suc, ◌+◌, ◌<◌, ◌≤◌, ◌⊎◌, inl, inr, ◌==◌, Bool, true, false, cond, ◌++◌, map, length, refl, ◌∙◌, subst, arith}
 use Rattle.std.specs.Prelude.{None}
 use Rattle.ff_plan.specs.Wires.{edges_of}
 use Rattle.ff_stream.specs.edges.Ports.{shape_of, IsFed}
 use Rattle.ff_plan.proofs.Numbered.{has_ins, has_outs}
 use Rattle.ff_plan.proofs.Upward.{go_upward, is_fed}
+use Rattle.ff_plan.proofs.Spots.{known_in}
 use Rattle.std.specs.List.{position_or_len, AllByRecursion, flat_map, list_any, range_with_len}
 use Rattle.std.proofs.lemmas.Bool.Decides.{nat_tests}
-use Rattle.ff_frame.specs.declared.head.StreamHead.{StreamHead}
 use Rattle.ff_words.specs.declared.maps.streams.StreamRef.{StreamRef}
 use Rattle.ff_words.specs.declared.maps.streams.Stream.{Stream}
-use Rattle.ff_words.specs.maps.Choice.{numbered, streams_from, all_streams}
+use Rattle.ff_words.specs.maps.Choice.{all_streams}
 use Rattle.ff_plan_layout.specs.declared.layout.InPad.{InPad}
 use Rattle.ff_plan_layout.specs.declared.layout.Origin.{Origin}
 use Rattle.ff_plan_layout.specs.declared.layout.Origin.TheVariants as origin
 use Rattle.ff_plan_layout.specs.declared.layout.OutStream.{OutStream}
 use Rattle.ff_plan_layout.specs.declared.layout.Placed.{Placed}
 use Rattle.ff_plan_layout.specs.declared.layout.Laid.{Laid}
-use Rattle.ff_plan_layout.specs.Layout.{IsAmong, Layout, same_ref, place_row, place_from, placed, origins, shows, used, is_used, used_inputs, IsThere, IsLaid}
-use Rattle.ff_plan.specs.Nodes.{before_decs, before_graphs, before_shortests, node_count, output_numbers, demux_at, dec_at, graph_at, origin_at, origin_port, nodes_of, demux_wire, pad_wire, pad_wires, shortest_wire, enc_wire, mux_wire, wires_of}
+use Rattle.ff_plan_layout.specs.Layout.{IsAmong, Layout, same_ref, place_row, place_from, placed, origins, shows, used, is_used, used_inputs, IsThere, IsLaid, streams, read}
+use Rattle.ff_plan_layout.specs.Sources.{source_streams}
+use Rattle.ff_plan.specs.Nodes.{start_node, before_decs, before_graphs, before_shortests, node_count, output_numbers, demux_at, dec_at, graph_at, origin_at, origin_port, nodes_of, demux_wire, pad_wire, pad_wires, shortest_wire, enc_wire, mux_wire, wires_of}
 use Rattle.ff_plan.specs.declared.planned.PlanNode.TheVariants as node
 use Rattle.ff_plan.specs.Laws.{IsUp, IsNextOf, IsNoGraph, GraphsHaveOuts}
 use Rattle.ff_stream.specs.edges.Ports.{HasOuts}
-use Rattle.ff_plan_layout.proofs.Among.{all_joined, all_map, all_flat, any_among, place_among, kept_among, was_among, among_left, among_right, among_either, among_map, among_flat, in_range}
+use Rattle.ff_plan_layout.proofs.Among.{all_joined, all_map, all_flat, any_among, place_among, kept_among, was_among, among_left, among_right, among_map, among_flat, in_range}
 use Rattle.ff_plan_layout.proofs.Tests.{same_self, nat_self}
 use Rattle.ff_plan_layout.proofs.Sizes.{joined_length, place_in, map_length, range_length, less_or}
-
--- the input of each stream is there
-known_row : (input stream : ℕ) (hs : List StreamHead) (k : Stream) → IsAmong k (numbered input stream hs) → k.at.input ≡ input
-known_row input stream [] k i = absurd i
-known_row input stream (h ∷ hs) k (inl e) = sym (ap (λ (k : Stream). k.at.input) e)
-known_row input stream (h ∷ hs) k (inr i) = known_row input (stream + 1) hs k i
-
-known_in : (input : ℕ) (rows : List (List StreamHead)) (k : Stream) → IsAmong k (streams_from input rows) → k.at.input < input + length rows
-known_in input [] k i = absurd i
-known_in input (row ∷ rows) k i = elim (among_either k (numbered input 0 row) (streams_from (input + 1) rows) i) [
-  | inl j ↦ (let e = known_row input 0 row k j in omega (arith, e))
-  | inr j ↦ (let lt = known_in (input + 1) rows k j in omega (arith, lt))
-]
 
 module _ (l : Layout) where
   pub counted : length (nodes_of l) ≡ node_count l
   counted =
-      let a = map (λ i. node.Demux i) (used_inputs l) in let b = map (λ k. node.Dec k.at) (used l) in let c = map (λ g. node.Graph g.graph) l.graphs in
+      let a = map (λ i. node.Demux i) (used_inputs l) in let b = map (start_node (length l.heads)) (used l) in let c = map (λ g. node.Graph g.graph) l.graphs in
       let d = map (λ o. node.Shortest o) (output_numbers l) in let e = map (λ p. node.Enc p.output p.stream) (placed l) in let f = map (λ o. node.Mux o) (output_numbers l) in
       let j1 = joined_length a (b ++ (c ++ (d ++ (e ++ f)))) in let j2 = joined_length b (c ++ (d ++ (e ++ f))) in let j3 = joined_length c (d ++ (e ++ f)) in
       let j4 = joined_length d (e ++ f) in let j5 = joined_length e f in
-      let la = map_length (λ i. node.Demux i) (used_inputs l) in let lb = map_length (λ k. node.Dec k.at) (used l) in let lc = map_length (λ g. node.Graph g.graph) l.graphs in
+      let la = map_length (λ i. node.Demux i) (used_inputs l) in let lb = map_length (start_node (length l.heads)) (used l) in let lc = map_length (λ g. node.Graph g.graph) l.graphs in
       let ld = map_length (λ o. node.Shortest o) (output_numbers l) in let le = map_length (λ p. node.Enc p.output p.stream) (placed l) in let lf = map_length (λ o. node.Mux o) (output_numbers l) in
       let lr = range_length 0 (length l.outputs) in
       omega (arith, j1, j2, j3, j4, j5, la, lb, lc, ld, le, lf, lr)
@@ -57,20 +45,29 @@ module _ (l : Layout) where
   pub output_in : (p : Placed) → IsAmong p (placed l) → p.output < length l.outputs
   output_in p i = (let r = place_in 0 0 l.outputs p i in let lt = r.1 in omega (arith, lt))
 
-  pub demux_below : (k : Stream) → IsAmong k (used l) → demux_at l k.at.input < before_decs l
+  pub demux_below : (k : Stream) → IsAmong k (read l) → demux_at l k.at.input < before_decs l
   demux_below k i =
       let was = was_among (λ k. list_any (shows k.at) (origins l)) k (all_streams l.heads) i in
       let below = known_in 0 l.heads k was.0 in
-      let asked : is_used l k.at.input ≡ true = any_among (λ j. j.at.input == k.at.input) k (used l) i (nat_self k.at.input) in
+      let asked : is_used l k.at.input ≡ true = any_among (λ j. j.at.input == k.at.input) k (read l) i (nat_self k.at.input) in
       let kept = kept_among (is_used l) k.at.input (range_with_len 0 (length l.heads)) (in_range 0 (length l.heads) k.at.input (omega arith) below) asked in
       place_among (λ j. j == k.at.input) k.at.input (used_inputs l) kept (nat_self k.at.input)
 
   pub dec_below : (k : Stream) → IsAmong k (used l) → dec_at l k.at < before_graphs l
   dec_below k i = (let lt = place_among (λ j. same_ref j.at k.at) k (used l) i (same_self k.at) in omega (arith, lt))
 
+  -- a stream that is read is used
+  pub read_used : (k : Stream) → IsAmong k (read l) → IsAmong k (used l)
+  read_used k i =
+      let was = was_among (λ k. list_any (shows k.at) (origins l)) k (all_streams l.heads) i in
+      kept_among (λ k. list_any (shows k.at) (origins l)) k (streams l) (among_right k (source_streams (length l.heads) l.made) (all_streams l.heads) was.0) was.1
+
+  pub read_below : (k : Stream) → IsAmong k (read l) → dec_at l k.at < before_graphs l
+  read_below k i = dec_below k (read_used k i)
+
   -- a stream that something shows is used
-  pub is_used_stream : (s : StreamRef) (k : Stream) → IsAmong k (all_streams l.heads) → k.at ≡ s → IsAmong (origin.Stream s) (origins l) → IsAmong k (used l)
-  is_used_stream s k i e o = kept_among (λ k. list_any (shows k.at) (origins l)) k (all_streams l.heads) i (any_among (shows k.at) (origin.Stream s) (origins l) o (subst (λ (r : StreamRef). same_ref k.at r ≡ true) e (same_self k.at)))
+  pub is_used_stream : (s : StreamRef) (k : Stream) → IsAmong k (streams l) → k.at ≡ s → IsAmong (origin.Stream s) (origins l) → IsAmong k (used l)
+  is_used_stream s k i e o = kept_among (λ k. list_any (shows k.at) (origins l)) k (streams l) i (any_among (shows k.at) (origin.Stream s) (origins l) o (subst (λ (r : StreamRef). same_ref k.at r ≡ true) e (same_self k.at)))
 
   origin_below : (before : ℕ) (source : Origin) → IsThere l before source → IsAmong source (origins l) → origin_at l source < before_graphs l + before
   origin_below before (origin.Stream s) (k, i, e) o =
@@ -91,8 +88,8 @@ module _ (l : Layout) where
     pub graph_below : (g : Laid) → IsAmong g l.graphs → graph_at l g.graph < before_shortests l
     graph_below g i = (let lt = place_among (λ x. x.graph == g.graph) g l.graphs i (nat_self g.graph) in omega (arith, lt))
 
-    demux_up : (k : Stream) → IsAmong k (used l) → IsUp (node_count l) (demux_wire l k)
-    demux_up k i = (let a = demux_below k i in let b = dec_below k i in (omega (arith, a), omega (arith, b)))
+    demux_up : (k : Stream) → IsAmong k (read l) → IsUp (node_count l) (demux_wire l k)
+    demux_up k i = (let a = demux_below k i in let b = read_below k i in (omega (arith, a), omega (arith, b)))
 
     pub pad_up : (g : Laid) → IsAmong g l.graphs → (i : InPad) → IsAmong i g.ins → IsUp (node_count l) (pad_wire l g.graph i)
     pad_up g ga i ia = (origin_below (position_or_len (λ x. x.graph == g.graph) l.graphs) i.source (laid.graphs g i ga ia) (pad_origin g i ga ia), (let lt = graph_below g ga in omega (arith, lt)))
@@ -117,7 +114,7 @@ module _ (l : Layout) where
     wires_up =
         let P = IsUp (node_count l) in
         let shorts = map (shortest_wire l) (placed l) in let encs = map (enc_wire l) (placed l) in let muxes = map (mux_wire l) (placed l) in
-        all_joined P (map (demux_wire l) (used l)) (flat_map (pad_wires l) l.graphs ++ (shorts ++ (encs ++ muxes))) (all_map P (demux_wire l) (used l) demux_up)
+        all_joined P (map (demux_wire l) (read l)) (flat_map (pad_wires l) l.graphs ++ (shorts ++ (encs ++ muxes))) (all_map P (demux_wire l) (read l) demux_up)
         (all_joined P (flat_map (pad_wires l) l.graphs) (shorts ++ (encs ++ muxes)) (all_flat P (pad_wires l) l.graphs (λ g i. all_map P (pad_wire l g.graph) g.ins (pad_up g i)))
         (all_joined P shorts (encs ++ muxes) shortests_up
         (all_joined P encs muxes (all_map P (enc_wire l) (placed l) enc_up) (all_map P (mux_wire l) (placed l) mux_up))))
@@ -146,7 +143,7 @@ module _ (l : Layout) where
       wires_next =
           let P = IsNextOf k in
           let shorts = map (shortest_wire l) (placed l) in let encs = map (enc_wire l) (placed l) in let muxes = map (mux_wire l) (placed l) in
-          all_joined P (map (demux_wire l) (used l)) (flat_map (pad_wires l) l.graphs ++ (shorts ++ (encs ++ muxes))) (all_map P (demux_wire l) (used l) (λ k i e. refl))
+          all_joined P (map (demux_wire l) (read l)) (flat_map (pad_wires l) l.graphs ++ (shorts ++ (encs ++ muxes))) (all_map P (demux_wire l) (read l) (λ k i e. refl))
           (all_joined P (flat_map (pad_wires l) l.graphs) (shorts ++ (encs ++ muxes)) (all_flat P (pad_wires l) l.graphs (λ g i. all_map P (pad_wire l g.graph) g.ins (pad_next g i)))
           (all_joined P shorts (encs ++ muxes) shortests_next
           (all_joined P encs muxes (all_map P (enc_wire l) (placed l) enc_next) (all_map P (mux_wire l) (placed l) (λ p i e. refl)))))

@@ -15,7 +15,11 @@ pub mod Ported
 pub mod Rising
 pub mod Routed
 pub mod Sound
+pub mod Sourced
+pub mod Spots
 pub mod StartFits
 pub mod Steps
 pub mod Taken
 pub mod Upward
+pub mod UsedOnce
+pub mod Wanted

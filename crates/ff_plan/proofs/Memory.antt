@@ -7,7 +7,7 @@ use Rattle.ff_lang.specs.declared.graph.Graph.{Graph}
 use Rattle.ff_words.specs.declared.maps.map.MapFrom.{MapFrom}
 use Rattle.ff_words.specs.declared.maps.map.MapFrom.TheVariants as from
 use Rattle.ff_words.specs.declared.maps.map.MapSpec.{MapSpec}
-use Rattle.ff_words.specs.maps.Choice.{selected}
+use Rattle.ff_words.specs.maps.Choice.{all_streams, selected}
 use Rattle.ff_graph_links.specs.declared.labels.fault.LabelFault.{LabelFault}
 use Rattle.ff_graph_links.specs.declared.labels.fault.LabelFault.TheVariants as label_fault
 use Rattle.ff_graph_links.specs.labels.Labels.{is_one_of, filters_of, taken_in, given_in}
@@ -18,7 +18,9 @@ use Rattle.ff_frame.specs.declared.config.ConfigError.TheVariants as config
 use Rattle.ff_frame.specs.declared.head.StreamHead.{StreamHead}
 use Rattle.ff_words.specs.declared.job.Job.{Job}
 use Rattle.ff_words.specs.declared.job.OutputJob.{OutputJob}
+use Rattle.ff_plan_layout.specs.declared.open_pads.OpenIn.{OpenIn}
 use Rattle.ff_plan_layout.specs.declared.open_pads.OpenOut.{OpenOut}
+use Rattle.ff_plan_layout.specs.declared.open_pads.SourcePad.{SourcePad}
 use Rattle.ff_plan_layout.specs.declared.open_pads.Refused.{Refused}
 use Rattle.ff_plan.specs.declared.planned.Plan.{Plan}
 use Rattle.ff_plan_layout.specs.declared.error.PlanError.{PlanError}
@@ -31,7 +33,8 @@ use Rattle.ff_plan_layout.specs.Order.{numbers, loop_of, loop_fault}
 use Rattle.ff_plan_layout.specs.Pads.{all_wants, pad_in, head_in, made_of, configure, make_from, make_all, unlabelled}
 use Rattle.ff_plan_layout.specs.LaidOut.{outputs_from, labels_of, graphs_of, unused_of, unused_label, simple_graphs, layout_of, limited, laid_out}
 use Rattle.ff_plan.specs.Planned.{planned}
-use Rattle.ff_plan_layout.specs.Rules.{Rules, Planned, behind, unless, where_so}
+use Rattle.ff_plan_layout.specs.Rules.{Rules, Planned, behind, unless, where_so, or_else as or_refusal}
+use Rattle.ff_plan_layout.specs.Sources.{sources_of, sources_fault, refused_at, pads_of, source_pad}
 use Rattle.ff_plan_layout.specs.Streams.{Inside, is_empty, label_pad, mapped, all_mapped, asked, chosen, some_or, front_with, label_in, takes, through, configured_simple, simply, null_graph, simple_of, passed_by, passed_from, as_asked, passed, all_passed, graph_of}
 use Rattle.ff_plan_layout.specs.Asking.{is_as_asked}
 use Rattle.ff_plan_layout.proofs.Among.{never}
@@ -58,6 +61,8 @@ record AreNone (rules : Rules) (such : PlanError → Bool) : Type 0 where
   taken : (o n : ℕ) → such (fault.Takes o n) ≡ false
   streams : such fault.TooManyStreams ≡ false
   graphs : such fault.TooManyGraphs ≡ false
+  sources : such fault.TooManySources ≡ false
+  source : (n : ℕ) (g : Graph) (r : Refused) → rules.source_fault g ≡ Some r → such (fault.Config n r.filter r.kind) ≡ false
 
 module _ (rules : Rules) (such : PlanError → Bool) (none : AreNone rules such) where
   -- it is no such refusal
@@ -210,36 +215,45 @@ module _ (rules : Rules) (such : PlanError → Bool) (none : AreNone rules such)
     config_free n g heads (Ok outs) e = tt
     config_free n g heads (Err r) e = none.configured n g heads r e
 
+    pads_of_free : (g : ℕ) (o : Option SourcePad) → IsFreeFault (pads_of g o)
+    pads_of_free g None = tt
+    pads_of_free g (Some p) = none.pads g p.filter
+
+    source_pad_free : (g : ℕ) (is : List OpenIn) → IsFreeFault (source_pad g is)
+    source_pad_free g [] = tt
+    source_pad_free g (i ∷ is) = pads_of_free g i.source
+
     simply_free : (out : OutputJob) (g : ℕ) (i : InPad) (text : Graph) → IsFree (simply rules out g i text)
     simply_free out g i text =
         unless_free (refused (twice_in [] [] (filters_of text))) _ (refused_free (twice_in [] [] (filters_of text)) (own_free [] [] (filters_of text)))
         (unless_free (refused (unknown_filter rules.known g 0 (filters_of text))) _ (refused_free (unknown_filter rules.known g 0 (filters_of text)) (names_free rules.known g 0 (filters_of text)))
         (unless_free (where_so (rules.loops text) (fault.Loop g)) _ (where_free (rules.loops text) (fault.Loop g) (none.loop g))
         (unless_free (where_so (not (length (rules.open_ins text) == 1)) (fault.Config g 0 config.Pads)) _ (where_free (not (length (rules.open_ins text) == 1)) (fault.Config g 0 config.Pads) (none.pads g 0))
+        (unless_free (source_pad g (rules.open_ins text)) _ (source_pad_free g (rules.open_ins text))
         (behind_free (configured_simple g (rules.configured text (Some i.head ∷ []))) (through out g i) (config_free g text (Some i.head ∷ []) (rules.configured text (Some i.head ∷ [])) refl)
-        (λ outs e. through_free out g i outs)))))
+        (λ outs e. through_free out g i outs))))))
 
     by_free : (out : OutputJob) (g : ℕ) (i : InPad) (given : Option Graph) → IsFree (passed_by rules out g i given)
     by_free out g i (Some text) = simply_free out g i text
     by_free out g i None = simply_free out g i (null_graph (kind_of i.head))
 
-    from_free : (out : OutputJob) (g : ℕ) (i : InPad) → Comes inside.heads inside.made i → IsFree (passed_from rules out g i i.source)
+    from_free : (out : OutputJob) (g : ℕ) (i : InPad) → Comes (all_streams inside.heads) inside.made i → IsFree (passed_from rules out g i i.source)
     from_free out g i (inl s) = subst (λ (j : InPad). IsFree (passed_from rules out g j j.source)) s.is (by_free out g _ (simple_of out (kind_of s.stream.head)))
     from_free out g i (inr o) = subst (λ (j : InPad). IsFree (passed_from rules out g j j.source)) o.is tt
 
-    passed_free : (out : OutputJob) (o g n : ℕ) (i : InPad) → Comes inside.heads inside.made i → IsFree (passed rules out o g n i)
+    passed_free : (out : OutputJob) (o g n : ℕ) (i : InPad) → Comes (all_streams inside.heads) inside.made i → IsFree (passed rules out o g n i)
     passed_free out o g n i c =
         unless_free (where_so (not (takes out n i)) (fault.Takes o n)) (behind (passed_from rules out g i i.source) (as_asked out o n)) (where_free (not (takes out n i)) (fault.Takes o n) (none.taken o n))
         (behind_free (passed_from rules out g i i.source) (as_asked out o n) (from_free out g i c)
         (λ p e. unless_free (where_so (not (is_as_asked out.asked p.what.head)) (fault.Takes o n)) (Ok p) (where_free (not (is_as_asked out.asked p.what.head)) (fault.Takes o n) (none.taken o n)) tt))
 
-    all_passed_free : (out : OutputJob) (o g n : ℕ) (is : List InPad) → AllByRecursion (Comes inside.heads inside.made) is → IsFree (all_passed rules out o g n is)
+    all_passed_free : (out : OutputJob) (o g n : ℕ) (is : List InPad) → AllByRecursion (Comes (all_streams inside.heads) inside.made) is → IsFree (all_passed rules out o g n is)
     all_passed_free out o g n [] all = tt
     all_passed_free out o g n (i ∷ is) all =
         behind_free (passed rules out o g n i) (λ p. front_with (p ∷ []) (all_passed rules out o (g + length (graph_of p)) (n + 1) is)) (passed_free out o g n i all.0)
         (λ p e. front_free (p ∷ []) (all_passed rules out o (g + length (graph_of p)) (n + 1) is) (all_passed_free out o (g + length (graph_of p)) (n + 1) is all.1))
 
-    outputs_free : (o g : ℕ) (used : List (List ℕ)) (before : List InPad) (outs : List OutputJob) → AllByRecursion (Comes inside.heads inside.made) before → IsFree (outputs_from rules inside o g used before outs)
+    outputs_free : (o g : ℕ) (used : List (List ℕ)) (before : List InPad) (outs : List OutputJob) → AllByRecursion (Comes (all_streams inside.heads) inside.made) before → IsFree (outputs_from rules inside o g used before outs)
     outputs_free o g used before [] all = tt
     outputs_free o g used before (out ∷ outs) all =
         behind_free (chosen inside out o used before) (λ pads. behind (all_passed rules out o g 0 pads) (λ ps. front_with (ps ∷ []) (outputs_from rules inside (o + 1) (g + graphs_of ps) (labels_of out ++ used) [] outs)))
@@ -247,6 +261,20 @@ module _ (rules : Rules) (such : PlanError → Bool) (none : AreNone rules such)
         (λ pads e. behind_free (all_passed rules out o g 0 pads) (λ ps. front_with (ps ∷ []) (outputs_from rules inside (o + 1) (g + graphs_of ps) (labels_of out ++ used) [] outs))
         (all_passed_free out o g 0 pads (chosen_come inside out used before pads (chosen_is inside out o used before pads e) all))
         (λ ps f. front_free (ps ∷ []) (outputs_from rules inside (o + 1) (g + graphs_of ps) (labels_of out ++ used) [] outs) (outputs_free (o + 1) (g + graphs_of ps) (labels_of out ++ used) [] outs tt)))
+
+  -- ---- source filters
+
+  refused_at_free : (n : ℕ) (g : Graph) (o : Option Refused) → rules.source_fault g ≡ o → IsFreeFault (refused_at n o)
+  refused_at_free n g None e = tt
+  refused_at_free n g (Some r) e = none.source n g r e
+
+  first_free : (a b : Option PlanError) → IsFreeFault a → IsFreeFault b → IsFreeFault (or_refusal a b)
+  first_free None b fa fb = fb
+  first_free (Some e) b fa fb = fa
+
+  sources_free : (n : ℕ) (gs : List Graph) → IsFreeFault (sources_fault rules n gs)
+  sources_free n [] = tt
+  sources_free n (g ∷ gs) = first_free (refused_at n (rules.source_fault g)) (sources_fault rules (n + 1) gs) (refused_at_free n g (rules.source_fault g) refl) (sources_free (n + 1) gs)
 
   -- ---- the plan
 
@@ -258,22 +286,25 @@ module _ (rules : Rules) (such : PlanError → Bool) (none : AreNone rules such)
   limited_free job heads made rows =
       unless_free (unused_label job) _ (unused_free (find (λ l. not (is_one_of l (taken_labels job.graphs ++ flat_map labels_of job.outputs))) (flat_map given_in job.graphs)))
       (unless_free (where_so (nat_lt 16 (length (flat_map (λ ps. ps) rows))) fault.TooManyStreams) _ (where_free (nat_lt 16 (length (flat_map (λ ps. ps) rows))) fault.TooManyStreams none.streams)
-      (unless_free (where_so (nat_lt 16 (length job.graphs + simple_graphs rows)) fault.TooManyGraphs) (Ok (layout_of rules job heads made rows))
-      (where_free (nat_lt 16 (length job.graphs + simple_graphs rows)) fault.TooManyGraphs none.graphs) tt))
+      (unless_free (where_so (nat_lt 16 (length job.graphs + simple_graphs rows)) fault.TooManyGraphs) _ (where_free (nat_lt 16 (length job.graphs + simple_graphs rows)) fault.TooManyGraphs none.graphs)
+      (unless_free (where_so (nat_lt 16 (length heads + length (sources_of rules job.graphs))) fault.TooManySources) (Ok (layout_of rules job heads made rows))
+      (where_free (nat_lt 16 (length heads + length (sources_of rules job.graphs))) fault.TooManySources none.sources) tt)))
 
   laid_free : (job : Job) (heads : List (List StreamHead)) → IsFree (laid_out rules job heads)
   laid_free job heads =
       let out_of : List Made → Planned (List (List Passed)) = λ made.
       outputs_from rules (inside_of heads job made) 0 (length job.graphs) (taken_labels job.graphs) (unlabelled made (numbers job.graphs)) job.outputs in
       let last : Planned Layout = behind (make_all rules heads job.graphs) (λ made. behind (out_of made) (λ outs. limited rules job heads made outs)) in
-      unless_free (labels_fault rules heads job.graphs) (unless (loop_fault rules job.graphs) last)
+      let sound : Planned Layout = unless (sources_fault rules 0 job.graphs) last in
+      unless_free (labels_fault rules heads job.graphs) (unless (loop_fault rules job.graphs) sound)
       (refused_free (graphs_fault rules.known (λ label. is_some (stream_of_label rules heads label)) (all_given job.graphs) 0 [] [] job.graphs)
       (graphs_free rules.known (λ label. is_some (stream_of_label rules heads label)) (all_given job.graphs) 0 [] [] job.graphs))
-      (unless_free (loop_fault rules job.graphs) last (loop_free _)
+      (unless_free (loop_fault rules job.graphs) sound (loop_free _)
+      (unless_free (sources_fault rules 0 job.graphs) last (sources_free 0 job.graphs)
       (behind_free (make_all rules heads job.graphs) (λ made. behind (out_of made) (λ outs. limited rules job heads made outs)) (make_free job.graphs (all_wants rules heads job.graphs) [] (graph_order job.graphs))
       (λ made e. behind_free (out_of made) (λ outs. limited rules job heads made outs)
-      (outputs_free (inside_of heads job made) 0 (length job.graphs) (taken_labels job.graphs) (unlabelled made (numbers job.graphs)) job.outputs (unlabelled_come heads made (numbers job.graphs)))
-      (λ rows f. limited_free job heads made rows))))
+      (outputs_free (inside_of heads job made) 0 (length job.graphs) (taken_labels job.graphs) (unlabelled made (numbers job.graphs)) job.outputs (unlabelled_come (all_streams heads) made (numbers job.graphs)))
+      (λ rows f. limited_free job heads made rows)))))
 
   planned_free : (job : Job) (heads : List (List StreamHead)) → IsFree (planned rules job heads)
   planned_free job heads = behind_free (laid_out rules job heads) (λ l. Ok (plan_of l)) (laid_free job heads) (λ l e. tt)
@@ -301,6 +332,8 @@ never_memory rules job heads h = never_such rules wants_memory (record {
   taken = λ o n. refl;
   streams = refl;
   graphs = refl;
+  sources = refl;
+  source = λ n g r e. refl;
 }) job heads fault.NoMemory refl h
 
 abbrev is_memory : ConfigError → Bool
@@ -325,8 +358,10 @@ never_in_filters rules job heads g f free h = never_such rules filter_wants_memo
   loop = λ g. refl;
   filter = λ g f. refl;
   pads = λ g f. refl;
-  configured = λ n g hs r e. other_kind r.kind (free g hs r e);
+  configured = λ n g hs r e. other_kind r.kind (free.configured g hs r e);
   taken = λ o n. refl;
   streams = refl;
   graphs = refl;
+  sources = refl;
+  source = λ n g r e. other_kind r.kind (free.sources g r e);
 }) job heads (fault.Config g f config.NoMemory) refl h

@@ -5,7 +5,7 @@ use Rattle.std.specs.List.{range_with_len}
 use Rattle.ff_plan.specs.declared.planned.PlanNode.{PlanNode}
 use Rattle.ff_plan.specs.declared.planned.PlanNode.TheVariants as node
 use Rattle.ff_plan_layout.specs.Layout.{Layout, used, used_inputs, placed}
-use Rattle.ff_plan.specs.Nodes.{nodes_of, output_numbers, mux_at}
+use Rattle.ff_plan.specs.Nodes.{start_node, nodes_of, output_numbers, mux_at}
 use Rattle.ff_plan_layout.proofs.Sizes.{map_length, range_length}
 
 get_behind : {A : Type 0} (xs ys : List A) (m n : ℕ) → m ≡ length xs + n → slice_get (xs ++ ys) m ≡ slice_get ys n
@@ -20,9 +20,9 @@ get_number f a (suc n) (suc i) lt = get_number f (a + 1) n i (omega (arith, lt))
 
 pub mux_is : (l : Layout) (o : ℕ) → o < length l.outputs → slice_get (nodes_of l) (mux_at l o) ≡ Some (node.Mux o)
 mux_is l o lt =
-    let a = map (λ i. node.Demux i) (used_inputs l) in let b = map (λ k. node.Dec k.at) (used l) in let c = map (λ g. node.Graph g.graph) l.graphs in
+    let a = map (λ i. node.Demux i) (used_inputs l) in let b = map (start_node (length l.heads)) (used l) in let c = map (λ g. node.Graph g.graph) l.graphs in
     let d = map (λ o. node.Shortest o) (output_numbers l) in let e = map (λ p. node.Enc p.output p.stream) (placed l) in let f = map (λ o. node.Mux o) (output_numbers l) in
-    let la = map_length (λ i. node.Demux i) (used_inputs l) in let lb = map_length (λ k. node.Dec k.at) (used l) in let lc = map_length (λ g. node.Graph g.graph) l.graphs in
+    let la = map_length (λ i. node.Demux i) (used_inputs l) in let lb = map_length (start_node (length l.heads)) (used l) in let lc = map_length (λ g. node.Graph g.graph) l.graphs in
     let ld = map_length (λ o. node.Shortest o) (output_numbers l) in let le = map_length (λ p. node.Enc p.output p.stream) (placed l) in
     let lr = range_length 0 (length l.outputs) in let m4 = length e + o in let m3 = length d + m4 in let m2 = length c + m3 in let m1 = length b + m2 in
     get_behind a (b ++ (c ++ (d ++ (e ++ f)))) (mux_at l o) m1 (omega (arith, la, lb, lc, ld, lr, le))

@@ -10,6 +10,8 @@ use Rattle.ff_stream.specs.edges.Ports.{tally, shape_of, IsFed, HasOuts}
 use Rattle.ff_frame.specs.declared.head.StreamHead.{StreamHead}
 use Rattle.ff_graph_links.specs.labels.Order.{ComeInOrder, HasNoLoop, graph_order, feeds, is_in}
 use Rattle.ff_words.specs.declared.job.Job.{Job}
+use Rattle.ff_words.specs.declared.maps.streams.Stream.{Stream}
+use Rattle.ff_words.specs.maps.Choice.{all_streams}
 use Rattle.ff_words.specs.declared.job.OutputJob.{OutputJob}
 use Rattle.ff_plan_layout.specs.declared.layout.InPad.{InPad}
 use Rattle.ff_plan_layout.specs.declared.layout.Origin.{Origin}
@@ -42,7 +44,7 @@ use Rattle.ff_plan_layout.proofs.Kept.{among_at, at_below, below_at}
 use Rattle.ff_plan.proofs.Layouts.{counted, fed}
 use Rattle.ff_plan_layout.proofs.Sizes.{joined_length, less_or}
 use Rattle.ff_plan_layout.proofs.Tests.{nat_self}
-use Rattle.ff_plan_layout.proofs.Makings.{Comes, comes_left}
+use Rattle.ff_plan_layout.proofs.Makings.{Comes, comes_left, shown_in}
 use Rattle.ff_plan_layout.proofs.Once.{once_in, low_in, numbers_are, placed_sources, standing, used_once, label_is_open, complex_none, complex_own, streams_are}
 use Rattle.ff_plan_layout.proofs.Outs.{IsPassed, AllPassed, AreOutputs, Passes, outputs_pass}
 use Rattle.ff_plan_layout.proofs.Results.{same_ok, behind_ok}
@@ -75,11 +77,15 @@ module _ (rules : Rules) (are : AreRules rules) (job : Job) (heads : List (List 
   abbrev n : ℕ
   n = length job.graphs
 
+  -- the streams that inputs of complex graphs can show
+  abbrev shown : List Stream
+  shown = shown_in rules heads job.graphs
+
   abbrev Passing : Passed → Type 0
   Passing p = Passes rules (inside_of heads job w.made) p
 
   pub passing : AllByRecursion (λ ps. AllByRecursion Passing ps) w.rows
-  passing = outputs_pass rules (inside_of heads job w.made) (length job.graphs) (taken_labels job.graphs) (unlabelled w.made (numbers job.graphs)) job.outputs w.rows w.outputs (unlabelled_come heads w.made (numbers job.graphs))
+  passing = outputs_pass rules (inside_of heads job w.made) (length job.graphs) (taken_labels job.graphs) (unlabelled w.made (numbers job.graphs)) job.outputs w.rows w.outputs (unlabelled_come (all_streams heads) w.made (numbers job.graphs))
 
   abbrev sources : List Laid → List Origin
   sources gs = flat_map (λ (x : Laid). map (λ (i : InPad). i.source) x.ins) gs
@@ -125,9 +131,9 @@ module _ (rules : Rules) (are : AreRules rules) (job : Job) (heads : List (List 
 
     -- ---- a simple graph's number is that of no complex one
 
-    comes_low : (i : InPad) → Comes heads made i → n ≤ h → pad_is h q i.source ≡ false
-    comes_low i (inl s) le = ap (λ (j : InPad). pad_is h q j.source) (sym s.is)
-    comes_low i (inr o) le =
+    comes_low : (ks : List Stream) (i : InPad) → Comes ks made i → n ≤ h → pad_is h q i.source ≡ false
+    comes_low ks i (inl s) le = ap (λ (j : InPad). pad_is h q j.source) (sym s.is)
+    comes_low ks i (inr o) le =
         let s = each_of (Stands rules job.graphs (all_wants rules heads job.graphs) made) o.maker made (standing rules are job heads l w come all_in some_outputs) o.there in
         let low = s.low in let num = s.how.number in
         let off : ((o.maker.laid.graph == h) && (o.pad == q)) ≡ false = (let lt : o.maker.laid.graph < h = omega (arith, low, num, le) in grind (arith, nat_tests, lt)) in
@@ -142,11 +148,11 @@ module _ (rules : Rules) (are : AreRules rules) (job : Job) (heads : List (List 
         let from = ins_from rules job heads made w.rows come w.are_made m.0 s in
         subst (λ (y : Laid). tally (pad_is h q) (map (λ (i : InPad). i.source) y.ins) ≡ 0) m.2
         (tally_map (pad_is h q) (λ (i : InPad). i.source) m.0.laid.ins ∙ tally_none (shows_pad h q) m.0.laid.ins (λ j a.
-        comes_low j (subst (λ (ms : List Made). Comes heads ms j) s.is (comes_left heads s.front (m.0 ∷ s.rest) j (each_of (Comes heads s.front) j m.0.laid.ins from a))) le))))
+        comes_low shown j (subst (λ (ms : List Made). Comes shown ms j) s.is (comes_left shown s.front (m.0 ∷ s.rest) j (each_of (Comes shown s.front) j m.0.laid.ins from a))) le))))
 
     stream_low : (p : Passed) → Passing p → n ≤ h → (1 ≤ q → by_stream p ≡ false) × (q ≡ 0 → cond (by_stream p) 1 0 ≡ tally (λ (x : Laid). x.graph == h) (graph_of p))
     stream_low p t le = elim t.how [
-      | inl e ↦ (let off = ap (λ (y : Passed). pad_is h q y.what.source) (sym e) ∙ comes_low t.pad t.from le in
+      | inl e ↦ (let off = ap (λ (y : Passed). pad_is h q y.what.source) (sym e) ∙ comes_low (all_streams heads) t.pad t.from le in
           (λ pos. off, λ z. ap (λ (b : Bool). cond b 1 0) off ∙ ap (λ (y : Passed). tally (λ (x : Laid). x.graph == h) (graph_of y)) e))
       | inr f ↦ (
         λ pos. ap (λ (y : Passed). pad_is h q y.what.source) (sym f.is) ∙ (let off : ((t.graph == h) && (0 == q)) ≡ false = grind (arith, nat_tests, pos) in off),

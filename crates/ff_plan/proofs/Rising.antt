@@ -20,7 +20,7 @@ pub rises_lower : (m n : ℕ) (xs : List ℕ) → m ≤ n → Rises n xs → Ris
 rises_lower m n [] le r = tt
 rises_lower m n (x ∷ xs) le r = ((let h = r.0 in omega (arith, le, h)), r.1)
 
-rises_above : (n : ℕ) (xs : List ℕ) (i x : ℕ) → Rises n xs → slice_get xs i ≡ Some x → n ≤ x
+pub rises_above : (n : ℕ) (xs : List ℕ) (i x : ℕ) → Rises n xs → slice_get xs i ≡ Some x → n ≤ x
 rises_above n [] i x r at = absurd (nothing x at)
 rises_above n (y ∷ ys) zero x r at = (let e = same_some y x at in let h = r.0 in omega (arith, e, h))
 rises_above n (y ∷ ys) (suc i) x r at = (let h = r.0 in let g = rises_above (suc y) ys i x r.1 at in omega (arith, h, g))

@@ -21,7 +21,7 @@ use Rattle.ff_plan.specs.declared.planned.Plan.{Plan}
 use Rattle.ff_plan_layout.specs.declared.layout.GraphText.TheVariants.{Complex}
 use Rattle.ff_plan_layout.specs.Graphs.{AreRules}
 use Rattle.ff_plan_layout.specs.Labels.{taken_labels}
-use Rattle.ff_plan_layout.specs.Layout.{IsLaid, IsAmong, Layout, placed, used}
+use Rattle.ff_plan_layout.specs.Layout.{IsLaid, IsAmong, Layout, placed, used, read}
 use Rattle.ff_plan.specs.Laws.{GoUpward, GraphsHaveOuts}
 use Rattle.ff_plan.specs.Nodes.{before_muxes, node_count, output_numbers, demux_wire, pad_wire, pad_wires, shortest_wire, enc_wire, mux_wire, nodes_of, wires_of, way_to, ways_in, routes_of, plan_of}
 use Rattle.ff_plan.specs.Numbers.{leads_between, streams_between, HasFewStreams}
@@ -39,7 +39,7 @@ use Rattle.ff_plan.proofs.EndFits.{rows_count}
 use Rattle.ff_plan_layout.proofs.Graphed.{Stands, Walked, walked, walked_laid, inside_of, of_map}
 use Rattle.ff_plan.proofs.GraphFits.{graphs_fit, row_long}
 use Rattle.ff_plan_layout.proofs.Kept.{below_at}
-use Rattle.ff_plan.proofs.Layouts.{counted, number_in, output_in, dec_below, graph_below, wires_up, outs_all}
+use Rattle.ff_plan.proofs.Layouts.{counted, number_in, output_in, read_below, graph_below, wires_up, outs_all}
 use Rattle.ff_plan_layout.proofs.Sizes.{joined_length, map_length, range_length}
 use Rattle.ff_plan_layout.proofs.Makings.{found_is, fit_length, wants_fit}
 use Rattle.ff_plan_layout.proofs.GraphNumbers.{all_once, none_above}
@@ -91,10 +91,10 @@ module _ (l : Layout) (laid : IsLaid l) (high : ℕ) where
   abbrev Q : Wire → Bool
   Q w = enters_between (before_muxes l) high w
 
-  demuxes_none : tally Q (map (demux_wire l) (used l)) ≡ 0
-  demuxes_none = tally_none Q (map (demux_wire l) (used l)) (λ w i.
-      (let s = of_map (demux_wire l) w (used l) i in subst (λ (v : Wire). Q v ≡ false) s.2
-      (below_test (before_muxes l) high (demux_wire l s.0) (let lt = dec_below l s.0 s.1 in omega (arith, lt)))))
+  demuxes_none : tally Q (map (demux_wire l) (read l)) ≡ 0
+  demuxes_none = tally_none Q (map (demux_wire l) (read l)) (λ w i.
+      (let s = of_map (demux_wire l) w (read l) i in subst (λ (v : Wire). Q v ≡ false) s.2
+      (below_test (before_muxes l) high (demux_wire l s.0) (let lt = read_below l s.0 s.1 in omega (arith, lt)))))
 
   pads_none : tally Q (flat_map (pad_wires l) l.graphs) ≡ 0
   pads_none = tally_none Q (flat_map (pad_wires l) l.graphs) (λ w i.
@@ -113,7 +113,7 @@ module _ (l : Layout) (laid : IsLaid l) (high : ℕ) where
 
   few_enter : tally Q (wires_of l) ≤ length (placed l)
   few_enter =
-      let demuxes = map (demux_wire l) (used l) in let pads = flat_map (pad_wires l) l.graphs in let shorts = map (shortest_wire l) (placed l) in
+      let demuxes = map (demux_wire l) (read l) in let pads = flat_map (pad_wires l) l.graphs in let shorts = map (shortest_wire l) (placed l) in
       let encs = map (enc_wire l) (placed l) in let muxes = map (mux_wire l) (placed l) in
       let j1 = tally_joined Q demuxes (pads ++ (shorts ++ (encs ++ muxes))) in let j2 = tally_joined Q pads (shorts ++ (encs ++ muxes)) in
       let j3 = tally_joined Q shorts (encs ++ muxes) in let j4 = tally_joined Q encs muxes in
@@ -226,7 +226,7 @@ module _ (rules : Rules) (are : AreRules rules) (job : Job) (heads : List (List 
 
     are_routes : IsWithinLimits job heads → length (placed whole) ≤ 16 → AreRoutes (routes_of whole)
     are_routes limits small = record {
-      sources = limits.inputs;
+      sources = w.few_sources;
       streams = (let n = map_length (λ (p : Placed). way_to p.what.source) (placed whole) in omega (arith, n, small));
       graphs = (let a = routed_count in let b = graphs_count in let c = w.few_graphs in omega (arith, a, b, c));
       inputs = All-from_recursion (λ (ways : List Way). length ways ≤ 16) (routes_of whole).graphs

@@ -34,6 +34,7 @@ pub record FitsWriter (outputs : List OutputJob) (heads : List StreamHead) (edge
 -- by kind, where the streams of each output have these heads
 abbrev pub FitsEnd : List OutputJob → List (List StreamHead) → List Edge → ℕ → PlanNode → Type 0
 FitsEnd outputs heads edges k (node.Demux i) = Unit {0}
+FitsEnd outputs heads edges k (node.Gen i) = Unit {0}
 FitsEnd outputs heads edges k (node.Dec at) = Unit {0}
 FitsEnd outputs heads edges k (node.Graph g) = Unit {0}
 FitsEnd outputs heads edges k (node.Shortest o) = FitsShortest (slice_index_or heads o []) edges k

@@ -10,7 +10,12 @@ use Rattle.ff_frame.specs.declared.head.StreamHead.{StreamHead}
 use Rattle.ff_frame.specs.declared.head.StreamHead.TheVariants as stream_head
 use Rattle.ff_frame.specs.declared.video.Format.TheVariants as picture
 use Rattle.ff_stream.specs.declared.item.Lane.TheVariants.{Frames, Packets}
+use Rattle.ff_lang.specs.declared.graph.Filter.{Filter}
 use Rattle.ff_lang.specs.declared.graph.Graph.{Graph}
+use Rattle.ff_source.specs.declared.color.Color.TheVariants.{Black}
+use Rattle.ff_source.specs.declared.made.Made.{Made}
+use Rattle.ff_source.specs.declared.made.Made.TheVariants.{Pictures}
+use Rattle.ff_source.specs.Sources.{head_of}
 use Rattle.ff_format.specs.declared.format.FileFormat.{FileFormat}
 use Rattle.ff_words.specs.declared.job.Job.{Job}
 use Rattle.ff_words.specs.declared.maps.map.Kind.{Kind}
@@ -25,7 +30,8 @@ use Rattle.ff_plan.specs.declared.planned.Plan.{Plan}
 use Rattle.ff_plan.specs.declared.planned.PlanNode.TheVariants as node
 use Rattle.ff_plan_layout.specs.declared.layout.GraphText.TheVariants.{Complex, Null}
 use Rattle.ff_sched.specs.declared.routes.Way.TheVariants as way
-use Rattle.ff_graph_links.specs.labels.Labels.{taken_in, given_in}
+use Rattle.ff_graph_links.specs.labels.Labels.{filters_of, taken_in, given_in}
+use Rattle.ff_plan_layout.specs.declared.open_pads.OpenIn.{OpenIn}
 use Rattle.ff_plan_layout.specs.Rules.{Rules}
 
 -- the texts that the examples use as labels of streams
@@ -44,7 +50,8 @@ example_rules taken given k other = record {
   map_of = example_map;
   known = λ name. true;
   loops = λ g. false;
-  open_ins = λ g. record { label = taken; kind = k } ∷ [];
+  open_ins = λ g. record { label = taken; kind = k; source = None } ∷ [];
+  source_fault = λ g. None;
   configured = λ g hs. Ok (record { label = given; head = first_or other hs } ∷ []);
 }
 
@@ -95,6 +102,7 @@ pictures_plan h = record {
   edges = edge 0 0 1 0 h true ∷ edge 1 0 2 0 h false ∷ edge 2 0 3 0 h false ∷ edge 3 0 4 0 h false ∷ edge 4 0 5 0 h true ∷ [];
   routes = record { sources = 1; streams = way.Graph 0 ∷ []; graphs = (way.Source 0 ∷ []) ∷ [] };
   texts = Null kind.Video ∷ [];
+  made = [];
 }
 
 -- `-map 0:a -map 1:v`, with a sound and a picture
@@ -106,6 +114,7 @@ two_plan a v = record {
       ∷ edge 6 0 7 0 a false ∷ edge 6 1 8 0 v false ∷ edge 7 0 9 0 a true ∷ edge 8 0 9 1 v true ∷ [];
   routes = record { sources = 2; streams = way.Graph 0 ∷ way.Graph 1 ∷ []; graphs = (way.Source 0 ∷ []) ∷ (way.Source 1 ∷ []) ∷ [] };
   texts = Null kind.Audio ∷ Null kind.Video ∷ [];
+  made = [];
 }
 
 -- `[1:v]trim=end=2,setpts=PTS-STARTPTS[v]`
@@ -126,6 +135,7 @@ trimmed_plan a v = record {
       ∷ edge 6 0 7 0 a false ∷ edge 6 1 8 0 v false ∷ edge 7 0 9 0 a true ∷ edge 8 0 9 1 v true ∷ [];
   routes = record { sources = 2; streams = way.Graph 1 ∷ way.Graph 0 ∷ []; graphs = (way.Source 1 ∷ []) ∷ (way.Source 0 ∷ []) ∷ [] };
   texts = Complex 0 ∷ Null kind.Audio ∷ [];
+  made = [];
 }
 
 -- `[0:a]channelsplit[l][r];[r][l]join[o]`
@@ -155,6 +165,7 @@ turned_plan a = record {
   edges = edge 0 0 1 0 a true ∷ edge 1 0 2 0 a false ∷ edge 2 0 3 0 a false ∷ edge 3 0 4 0 a false ∷ edge 4 0 5 0 a true ∷ [];
   routes = record { sources = 1; streams = way.Graph 0 ∷ []; graphs = (way.Source 0 ∷ []) ∷ [] };
   texts = Complex 0 ∷ [];
+  made = [];
 }
 
 -- graphs of one filter, with these labels
@@ -171,7 +182,8 @@ labelled_rules other = record {
   map_of = example_map;
   known = λ name. true;
   loops = λ g. false;
-  open_ins = λ g. record { label = first_label (taken_in g); kind = kind.Audio } ∷ [];
+  open_ins = λ g. record { label = first_label (taken_in g); kind = kind.Audio; source = None } ∷ [];
+  source_fault = λ g. None;
   configured = λ g hs. Ok (record { label = first_label (given_in g); head = first_or other hs } ∷ []);
 }
 
@@ -185,6 +197,7 @@ turned_graphs_plan a = record {
   edges = edge 0 0 1 0 a true ∷ edge 1 0 2 0 a false ∷ edge 2 0 3 0 a false ∷ edge 3 0 4 0 a false ∷ edge 4 0 5 0 a false ∷ edge 5 0 6 0 a true ∷ [];
   routes = record { sources = 1; streams = way.Graph 0 ∷ []; graphs = (way.Graph 1 ∷ []) ∷ (way.Source 0 ∷ []) ∷ [] };
   texts = Complex 0 ∷ Complex 1 ∷ [];
+  made = [];
 }
 
 -- `anull` without labels, and no map: its output goes to output 0, and the automatic choice adds the pictures
@@ -196,6 +209,7 @@ unlabelled_plan a v = record {
       ∷ edge 6 0 7 0 a false ∷ edge 6 1 8 0 v false ∷ edge 7 0 9 0 a true ∷ edge 8 0 9 1 v true ∷ [];
   routes = record { sources = 2; streams = way.Graph 0 ∷ way.Graph 1 ∷ []; graphs = (way.Source 0 ∷ []) ∷ (way.Source 1 ∷ []) ∷ [] };
   texts = Complex 0 ∷ Null kind.Video ∷ [];
+  made = [];
 }
 
 -- no map and two sounds: the one with more channels, of input 1; input 0 has no node
@@ -205,6 +219,58 @@ automatic_plan a = record {
   edges = edge 0 0 1 0 a true ∷ edge 1 0 2 0 a false ∷ edge 2 0 3 0 a false ∷ edge 3 0 4 0 a false ∷ edge 4 0 5 0 a true ∷ [];
   routes = record { sources = 2; streams = way.Graph 0 ∷ []; graphs = (way.Source 1 ∷ []) ∷ [] };
   texts = Null kind.Audio ∷ [];
+  made = [];
+}
+
+-- a graph whose first filter is `color` takes pictures, and one such picture is made at its open input; other graphs take sound
+abbrev pub first_name : List Filter → List ℕ
+first_name [] = []
+first_name (f ∷ fs) = f.name
+
+abbrev pub is_color : Graph → Bool
+is_color g = bytes_eq (first_name (filters_of g)) (codes "color")
+
+abbrev pub color_made : Fraction → Made
+color_made t = Pictures (record { color = Black; base = t; width = 2; height = 2; count = 1 })
+
+abbrev pub color_pad : Bool → Made → OpenIn
+color_pad true made = record { label = None; kind = kind.Video; source = Some (record { filter = 0; made = Some made }) }
+color_pad false made = record { label = None; kind = kind.Audio; source = None }
+
+abbrev pub color_rules : Made → Rules
+color_rules made = record {
+  map_of = example_map;
+  known = λ name. true;
+  loops = λ g. false;
+  open_ins = λ g. color_pad (is_color g) made ∷ [];
+  source_fault = λ g. None;
+  configured = λ g hs. Ok (record { label = None; head = first_or (head_of made) hs } ∷ []);
+}
+
+-- `color`
+abbrev pub color_graph : Graph
+color_graph = record { chains = record { filters = record { ins = []; name = codes "color"; args = []; outs = [] } ∷ [] } ∷ [] }
+
+-- no input: a Gen, and no Demux and no Dec
+abbrev pub color_plan : Made → Plan
+color_plan made = record {
+  nodes = node.Gen 0 ∷ node.Graph 0 ∷ node.Shortest 0 ∷ node.Enc 0 0 ∷ node.Mux 0 ∷ [];
+  edges = edge 0 0 1 0 (head_of made) false ∷ edge 1 0 2 0 (head_of made) false ∷ edge 2 0 3 0 (head_of made) false ∷ edge 3 0 4 0 (head_of made) true ∷ [];
+  routes = record { sources = 1; streams = way.Graph 0 ∷ []; graphs = (way.Source 0 ∷ []) ∷ [] };
+  texts = Complex 0 ∷ [];
+  made = made ∷ [];
+}
+
+-- `-map 0:a` with it: the source has number 1, behind the input
+abbrev pub sounded_plan : StreamHead → Made → Plan
+sounded_plan a made = record {
+  nodes = node.Demux 0 ∷ node.Gen 1 ∷ node.Dec (record { input = 0; stream = 0 }) ∷ node.Graph 0 ∷ node.Graph 1 ∷ node.Shortest 0
+      ∷ node.Enc 0 0 ∷ node.Enc 0 1 ∷ node.Mux 0 ∷ [];
+  edges = edge 0 0 2 0 a true ∷ edge 1 0 3 0 (head_of made) false ∷ edge 2 0 4 0 a false ∷ edge 3 0 5 0 (head_of made) false ∷ edge 4 0 5 1 a false
+      ∷ edge 5 0 6 0 (head_of made) false ∷ edge 5 1 7 0 a false ∷ edge 6 0 8 0 (head_of made) true ∷ edge 7 0 8 1 a true ∷ [];
+  routes = record { sources = 2; streams = way.Graph 0 ∷ way.Graph 1 ∷ []; graphs = (way.Source 1 ∷ []) ∷ (way.Source 0 ∷ []) ∷ [] };
+  texts = Complex 0 ∷ Null kind.Audio ∷ [];
+  made = made ∷ [];
 }
 
 -- the same stream twice: the Dec has two outputs
@@ -216,4 +282,5 @@ twice_plan a = record {
       ∷ edge 4 0 5 0 a false ∷ edge 4 1 6 0 a false ∷ edge 5 0 7 0 a true ∷ edge 6 0 7 1 a true ∷ [];
   routes = record { sources = 1; streams = way.Graph 0 ∷ way.Graph 1 ∷ []; graphs = (way.Source 0 ∷ []) ∷ (way.Source 0 ∷ []) ∷ [] };
   texts = Null kind.Audio ∷ Null kind.Audio ∷ [];
+  made = [];
 }

@@ -1,5 +1,5 @@
 -- Numbers of nodes, and the wires between them.
-use Rattle.std.specs.Prelude.{ℕ, ◌+◌, ◌==◌, Bool, true, false, not, cond, List, [], ◌++◌, length, map, Option, Some, None}
+use Rattle.std.specs.Prelude.{ℕ, ◌+◌, ◌==◌, nat_lt, Bool, true, false, not, cond, List, [], ◌++◌, length, map, Option, Some, None}
 use Rattle.std.specs.List.{filter, flat_map, find, position_or_len, range_with_len}
 use Rattle.ff_stream.specs.declared.item.Lane.TheVariants.{Frames, Packets}
 use Rattle.ff_words.specs.declared.maps.streams.StreamRef.{StreamRef}
@@ -16,15 +16,19 @@ use Rattle.ff_plan_layout.specs.declared.layout.Origin.TheVariants as origin
 use Rattle.ff_plan_layout.specs.declared.layout.InPad.{InPad}
 use Rattle.ff_plan_layout.specs.declared.layout.Placed.{Placed}
 use Rattle.ff_plan_layout.specs.declared.layout.Laid.{Laid}
-use Rattle.ff_plan_layout.specs.Layout.{Layout, same_ref, placed, used, is_used, used_inputs}
+use Rattle.ff_plan_layout.specs.Layout.{Layout, same_ref, placed, read, used, is_used, used_inputs}
 
 -- the numbers of all outputs
 abbrev pub output_numbers : Layout → List ℕ
 output_numbers l = range_with_len 0 (length l.outputs)
 
+-- the node of a stream that is used, behind so many inputs: a source filter's or a decoder
+abbrev pub start_node : ℕ → Stream → PlanNode
+start_node n k = cond (nat_lt k.at.input n) (node.Dec k.at) (node.Gen k.at.input)
+
 -- the nodes in the order of their numbers
 abbrev pub nodes_of : Layout → List PlanNode
-nodes_of l = map (λ i. node.Demux i) (used_inputs l) ++ (map (λ k. node.Dec k.at) (used l) ++ (map (λ g. node.Graph g.graph) l.graphs
+nodes_of l = map (λ i. node.Demux i) (used_inputs l) ++ (map (start_node (length l.heads)) (used l) ++ (map (λ g. node.Graph g.graph) l.graphs
     ++ (map (λ o. node.Shortest o) (output_numbers l) ++ (map (λ p. node.Enc p.output p.stream) (placed l) ++ map (λ o. node.Mux o) (output_numbers l)))))
 
 -- how many nodes stand before those of a kind
@@ -98,7 +102,7 @@ abbrev pub mux_wire : Layout → Placed → Wire
 mux_wire l p = record { from = enc_at l p.number; port = None; to = mux_at l p.output; lane = Packets p.what.packed }
 
 abbrev pub wires_of : Layout → List Wire
-wires_of l = map (demux_wire l) (used l) ++ (flat_map (pad_wires l) l.graphs ++ (map (shortest_wire l) (placed l) ++ (map (enc_wire l) (placed l)
+wires_of l = map (demux_wire l) (read l) ++ (flat_map (pad_wires l) l.graphs ++ (map (shortest_wire l) (placed l) ++ (map (enc_wire l) (placed l)
     ++ map (mux_wire l) (placed l))))
 
 -- the scheduler's way to a source
@@ -110,13 +114,13 @@ abbrev pub ways_in : Option Laid → List Way
 ways_in None = []
 ways_in (Some g) = map (λ i. way_to i.source) g.ins
 
--- every input is a source; streams by their number, graphs by theirs
+-- every input is a source, and so is every source filter; streams by their number, graphs by theirs
 abbrev pub routes_of : Layout → Routes
 routes_of l = record {
-  sources = length l.heads;
+  sources = length l.heads + length l.made;
   streams = map (λ p. way_to p.what.source) (placed l);
   graphs = map (λ g. ways_in (find (λ x. x.graph == g) l.graphs)) (range_with_len 0 (length l.graphs));
 }
 
 abbrev pub plan_of : Layout → Plan
-plan_of l = record { nodes = nodes_of l; edges = edges_of (wires_of l); routes = routes_of l; texts = l.texts }
+plan_of l = record { nodes = nodes_of l; edges = edges_of (wires_of l); routes = routes_of l; texts = l.texts; made = l.made }

@@ -19,10 +19,12 @@ use Rattle.ff_plan.specs.declared.numbering.Drawing.{Drawing}
 use Rattle.ff_plan_layout.specs.declared.layout.GraphText.{GraphText}
 use Rattle.ff_plan.specs.declared.planned.Plan.{Plan}
 use Rattle.ff_sched.specs.declared.routes.Routes.{Routes}
+use Rattle.ff_source.specs.declared.made.Made.{Made}
 use Rattle.ff_frame.specs.declared.head.StreamHead.{StreamHead}
 use Rattle.ff_words.specs.maps.Choice.{all_streams}
 use Rattle.ff_plan_layout.specs.Layout.{same_ref, shows}
-use Rattle.ff_plan.specs.Nodes.{origin_port, way_to, ways_in}
+use Rattle.ff_plan_layout.specs.Sources.{source_streams}
+use Rattle.ff_plan.specs.Nodes.{origin_port, start_node, way_to, ways_in}
 use Rattle.ff_plan.specs.Wires.{edges_of}
 
 -- whether one of these streams is the input's
@@ -39,9 +41,10 @@ sources_of g = map (λ i. i.source) g.ins
 abbrev pub all_sources : List Laid → List Placed → List Origin
 all_sources graphs placed = flat_map sources_of graphs ++ map (λ p. p.what.source) placed
 
-abbrev pub nodes_in : List ℕ → List Stream → List Laid → List Placed → ℕ → List PlanNode
-nodes_in inputs streams graphs placed outputs =
-    map (λ i. node.Demux i) inputs ++ (map (λ k. node.Dec k.at) streams ++ (map (λ g. node.Graph g.graph) graphs
+-- of streams of so many inputs, and behind these of sources
+abbrev pub nodes_in : ℕ → List ℕ → List Stream → List Laid → List Placed → ℕ → List PlanNode
+nodes_in count inputs streams graphs placed outputs =
+    map (λ i. node.Demux i) inputs ++ (map (start_node count) streams ++ (map (λ g. node.Graph g.graph) graphs
     ++ (map (λ o. node.Shortest o) (range_with_len 0 outputs) ++ (map (λ p. node.Enc p.output p.stream) placed
     ++ map (λ o. node.Mux o) (range_with_len 0 outputs)))))
 
@@ -105,22 +108,30 @@ mux_wire_in f p = record { from = f.encs + p.number; port = None; to = f.muxes +
 abbrev pub frame_wires_in : Firsts → List Stream → List Laid → List Placed → List Wire
 frame_wires_in f streams graphs placed = map (shortest_wire_in f streams graphs) placed ++ map (enc_wire_in f) placed
 
-abbrev pub wires_in : Firsts → List ℕ → List Stream → List Laid → List Placed → List Wire
-wires_in f inputs streams graphs placed =
-    map (demux_wire_in f inputs streams) streams ++ (flat_map (pad_wires_in f streams graphs) graphs
+-- where these of the streams are read
+abbrev pub wires_in : Firsts → List ℕ → List Stream → List Stream → List Laid → List Placed → List Wire
+wires_in f inputs read streams graphs placed =
+    map (demux_wire_in f inputs streams) read ++ (flat_map (pad_wires_in f streams graphs) graphs
     ++ (frame_wires_in f streams graphs placed ++ map (mux_wire_in f) placed))
 
--- the streams of inputs that are used, and their inputs
-abbrev pub streams_in : List (List StreamHead) → List Laid → List Placed → List Stream
-streams_in heads graphs placed = filter (λ s. list_any (shows s.at) (all_sources graphs placed)) (all_streams heads)
+-- those of some streams that are used
+abbrev pub used_of : List Stream → List Laid → List Placed → List Stream
+used_of streams graphs placed = filter (λ s. list_any (shows s.at) (all_sources graphs placed)) streams
+
+-- those of inputs, these behind those of sources, and their inputs
+abbrev pub read_in : List (List StreamHead) → List Laid → List Placed → List Stream
+read_in heads graphs placed = used_of (all_streams heads) graphs placed
+
+abbrev pub streams_in : List (List StreamHead) → List Made → List Laid → List Placed → List Stream
+streams_in heads made graphs placed = used_of (source_streams (length heads) made ++ all_streams heads) graphs placed
 
 abbrev pub inputs_in : List (List StreamHead) → List Laid → List Placed → List ℕ
-inputs_in heads graphs placed = filter (has_stream (streams_in heads graphs placed)) (range_with_len 0 (length heads))
+inputs_in heads graphs placed = filter (has_stream (read_in heads graphs placed)) (range_with_len 0 (length heads))
 
 -- the wires of so many outputs
-abbrev pub outputs_wires : List ℕ → List Stream → List Laid → List Placed → ℕ → List Wire
-outputs_wires inputs streams graphs placed outputs =
-    wires_in (firsts_at (length inputs) (length streams) (length graphs) outputs (length placed)) inputs streams graphs placed
+abbrev pub outputs_wires : List ℕ → List Stream → List Stream → List Laid → List Placed → ℕ → List Wire
+outputs_wires inputs read streams graphs placed outputs =
+    wires_in (firsts_at (length inputs) (length streams) (length graphs) outputs (length placed)) inputs read streams graphs placed
 
 abbrev pub routes_in : ℕ → List Laid → List Placed → Routes
 routes_in sources graphs placed = record {
@@ -130,16 +141,17 @@ routes_in sources graphs placed = record {
 }
 
 -- the nodes of these rows and the edges between them
-abbrev pub drawing_of : List ℕ → List Stream → List Laid → List Placed → ℕ → Drawing
-drawing_of inputs streams graphs placed outputs = record {
-  nodes = nodes_in inputs streams graphs placed outputs;
-  edges = edges_of (outputs_wires inputs streams graphs placed outputs);
+abbrev pub drawing_of : ℕ → List ℕ → List Stream → List Stream → List Laid → List Placed → ℕ → Drawing
+drawing_of count inputs read streams graphs placed outputs = record {
+  nodes = nodes_in count inputs streams graphs placed outputs;
+  edges = edges_of (outputs_wires inputs read streams graphs placed outputs);
 }
 
-abbrev pub with_drawing : Drawing → Routes → List GraphText → Plan
-with_drawing drawing routes texts = record { nodes = drawing.nodes; edges = drawing.edges; routes = routes; texts = texts }
+abbrev pub with_drawing : Drawing → Routes → List GraphText → List Made → Plan
+with_drawing drawing routes texts made = record { nodes = drawing.nodes; edges = drawing.edges; routes = routes; texts = texts; made = made }
 
 -- the plan of so many outputs
-abbrev pub plan_in : List (List StreamHead) → List Laid → List Placed → ℕ → List GraphText → Plan
-plan_in heads graphs placed outputs texts =
-    with_drawing (drawing_of (inputs_in heads graphs placed) (streams_in heads graphs placed) graphs placed outputs) (routes_in (length heads) graphs placed) texts
+abbrev pub plan_in : List (List StreamHead) → List Made → List Laid → List Placed → ℕ → List GraphText → Plan
+plan_in heads made graphs placed outputs texts =
+    with_drawing (drawing_of (length heads) (inputs_in heads graphs placed) (read_in heads graphs placed) (streams_in heads made graphs placed) graphs placed outputs)
+    (routes_in (length heads + length made) graphs placed) texts made

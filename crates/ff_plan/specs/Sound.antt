@@ -1,5 +1,5 @@
 -- What is sound of every plan, and what the rules of graphs owe for it.
-use Rattle.std.specs.Prelude.{◌≡◌, ◌≢◌, ℕ, ◌<◌, ◌≤◌, true, List, [], ◌∷◌, length, slice_get, slice_index_or, Option, Some, Ok, Err}
+use Rattle.std.specs.Prelude.{◌≡◌, ◌≢◌, ℕ, ◌+◌, ◌<◌, ◌≤◌, true, List, [], ◌∷◌, length, slice_get, slice_index_or, Option, Some, Ok, Err}
 use Rattle.ff_stream.specs.edges.Ports.{lanes_into, lanes_out_of, HasIns, HasOuts}
 use Rattle.ff_lang.specs.declared.graph.Graph.{Graph}
 use Rattle.ff_plan_layout.specs.Graphs.{IsHad}
@@ -28,16 +28,17 @@ KeepsTaken rules = (out : OutputJob) (g : Graph) (head : StreamHead) (made : Ope
     → takes_head out head ≡ true → takes_head out made.head ≡ true
 
 -- the rules never refuse a graph for want of memory
-abbrev pub NeverWantsMemory : Rules → Type 0
-NeverWantsMemory rules = (g : Graph) (heads : List (Option StreamHead)) (r : Refused) → rules.configured g heads ≡ Err r → r.kind ≢ config.NoMemory
+pub record NeverWantsMemory (rules : Rules) : Type 0 where
+  pub configured : (g : Graph) (heads : List (Option StreamHead)) (r : Refused) → rules.configured g heads ≡ Err r → r.kind ≢ config.NoMemory
+  pub sources : (g : Graph) (r : Refused) → rules.source_fault g ≡ Some r → r.kind ≢ config.NoMemory
 
--- Of the plan of a job and the heads of its inputs: what stands at its outputs, its routes, one source for each input, few streams, a
--- text for each graph, a use of each input that has a node, an encoder of each stream that is written, and edges that go upward and of
--- which one stands at each port.
+-- Of the plan of a job and the heads of its inputs: what stands at its outputs, its routes, one source for each input and each source filter,
+-- few streams, a text for each graph, a use of each input that has a node, an encoder of each stream that is written, and edges that go upward
+-- and of which one stands at each port.
 pub record IsSoundPlan (rules : Rules) (job : Job) (heads : List (List StreamHead)) (p : Plan) : Type 0 where
   pub outputs : OutputsFit job.outputs p
   pub routes : AreRoutes p.routes
-  pub sources : p.routes.sources ≡ length heads
+  pub sources : p.routes.sources ≡ length heads + length p.made
   pub few : HasFewStreams (length job.outputs) p
   pub texts : length p.texts ≡ length p.routes.graphs
   pub graphs : (k g : ℕ) → slice_get p.nodes k ≡ Some (node.Graph g) → g < length p.texts

@@ -6,7 +6,7 @@ ghost use Rattle.ff_words.specs.declared.maps.map.Kind.TheVariants as kind;
 ghost use Rattle.ff_plan_layout.specs.declared.error.PlanError.TheVariants as fault;
 ghost use Rattle.ff_plan.specs.Examples.{example_rules, example_job, sound, pictures, map_in, map_nth, map_label, pictures_plan, two_plan};
 ghost use Rattle.ff_plan.specs.Examples.{trim_graph, trimmed_plan, turned_graph, turned_plan, null_between, labelled_rules, turned_graphs, turned_graphs_plan};
-ghost use Rattle.ff_plan.specs.Examples.{unlabelled_plan, automatic_plan, twice_plan};
+ghost use Rattle.ff_plan.specs.Examples.{unlabelled_plan, automatic_plan, twice_plan, color_made, color_rules, color_graph, color_plan, sounded_plan};
 ghost use Rattle.ff_plan.specs.Planned.{planned};
 ghost use Rattle.ff_time.specs.declared.cut.TimeCut.{TimeCut};
 
@@ -75,4 +75,13 @@ pub fn one_sound()
         ≡ Ok (twice_plan (sound t 1)) }
     ensures none { (c : TimeCut) (t : Fraction)
         → planned (labelled_rules (sound t 1)) (example_job c [] format.Y4m []) ((sound t 1 ∷ []) ∷ []) ≡ Err (fault.NoStreams 0) }
+{}
+
+/// A source filter, without an input and with one.
+pub fn one_source()
+    ensures alone { (c : TimeCut) (t : Fraction)
+        → planned (color_rules (color_made t)) (example_job c (color_graph ∷ []) format.Y4m []) [] ≡ Ok (color_plan (color_made t)) }
+    ensures behind { (c : TimeCut) (t u : Fraction)
+        → planned (color_rules (color_made t)) (example_job c (color_graph ∷ []) format.FrameHash (map_in 0 kind.Audio ∷ [])) ((sound u 1 ∷ []) ∷ [])
+        ≡ Ok (sounded_plan (sound u 1) (color_made t)) }
 {}

@@ -60,7 +60,7 @@ pub fn ends_fit()
     orders_go_upward();
 }
 
-/// The nodes of every plan within the limits stand row by row: Demux, Dec, graphs, Shortest, Enc, Mux.
+/// The nodes of every plan within the limits stand row by row: Demux, Gen, Dec, graphs, Shortest, Enc, Mux.
 pub fn nodes_have_rows()
     ensures { (rules : Rules) (job : Job) (heads : List (List StreamHead)) (p : Plan) → IsWithinLimits job heads
         → planned rules job heads ≡ Ok p → HasRows (length heads) (length job.outputs) p.nodes }
@@ -69,7 +69,8 @@ pub fn nodes_have_rows()
     orders_are_whole();
 }
 
-/// What stands at the ports of Demux and Dec nodes: the packets of streams of their input, and the frames of each for each use.
+/// What stands at the ports of Demux, Gen and Dec nodes: the packets of streams of their input, the frames of their source, and the frames of
+/// each stream for each use.
 pub fn starts_fit()
     ensures { (rules : Rules) (job : Job) (heads : List (List StreamHead)) (p : Plan) → AreRules rules → 1 ≤ length job.outputs
         → planned rules job heads ≡ Ok p → StartsFit heads p }

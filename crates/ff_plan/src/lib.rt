@@ -38,7 +38,7 @@ pub use graph_laws::{
 pub use number::{Wire, number_ports};
 pub use plan_laws::{
     HeadFact, frames_are_kept, graph_inputs_are_routes, outputs_fit, plans_are_sound,
-    plans_never_want_memory,
+    plans_never_want_memory, sources_are_asked,
 };
 pub use planned::{Plan, PlanNode};
 pub use planning::plan;

@@ -6,6 +6,7 @@ ghost use Rattle.ff_plan_layout.specs.declared.layout.Laid.{Laid};
 ghost use Rattle.ff_plan_layout.specs.declared.layout.Placed.{Placed};
 ghost use Rattle.ff_plan.specs.declared.planned.PlanNode.TheVariants as node;
 ghost use Rattle.ff_plan_layout.specs.Layout.{place_row as row_placed, place_from};
+ghost use Rattle.ff_plan.specs.Nodes.{start_node as node_of_stream};
 ghost use Rattle.ff_plan.specs.Numbering.{nodes_in};
 ghost use Rattle.ff_plan_layout.specs.Rows.{rows};
 
@@ -59,11 +60,24 @@ fn add_demuxes(nodes: &mut Vec<PlanNode>, inputs: &[u32]) -> Result<(), AllocErr
     Ok(())
 }
 
-fn add_decs(nodes: &mut Vec<PlanNode>, streams: &[Stream]) -> Result<(), AllocError>
-    ensures { OnOk result (nodes.new.items ≡ nodes.old.items ++ map (λ (k : Stream). node.Dec k.at) streams.now) }
+// The node of a stream, behind so many inputs.
+fn start_node(inputs: u32, stream: &Stream) -> PlanNode
+    ensures { result ≡ node_of_stream inputs stream.now }
+{
+    if stream.at.input < inputs {
+        PlanNode::Dec { stream: stream.at }
+    } else {
+        PlanNode::Gen {
+            source: stream.at.input,
+        }
+    }
+}
+
+fn add_starts(nodes: &mut Vec<PlanNode>, inputs: u32, streams: &[Stream]) -> Result<(), AllocError>
+    ensures { OnOk result (nodes.new.items ≡ nodes.old.items ++ map (node_of_stream inputs) streams.now) }
 {
     for stream in streams {
-        nodes.push(PlanNode::Dec { stream: stream.at })?;
+        nodes.push(start_node(inputs, stream))?;
     }
     Ok(())
 }
@@ -107,20 +121,21 @@ fn add_muxes(nodes: &mut Vec<PlanNode>, outputs: u32) -> Result<(), AllocError>
     Ok(())
 }
 
-/// The nodes of these inputs, streams, graphs and outputs.
+/// The nodes of these of so many inputs, and of these streams, graphs and outputs.
 pub(crate) fn all_nodes(
     alloc: Global,
+    count: u32,
     inputs: &[u32],
     streams: &[Stream],
     graphs: &[Laid],
     placed: &[Placed],
     outputs: u32,
 ) -> Result<Vec<PlanNode>, AllocError>
-    ensures { IfOk result (λ ns. ns.items ≡ nodes_in inputs.now streams.now graphs.now placed.now outputs) }
+    ensures { IfOk result (λ ns. ns.items ≡ nodes_in count inputs.now streams.now graphs.now placed.now outputs) }
 {
     let mut nodes = Vec::new(alloc);
     add_demuxes(&mut nodes, inputs)?;
-    add_decs(&mut nodes, streams)?;
+    add_starts(&mut nodes, count, streams)?;
     add_graphs(&mut nodes, graphs)?;
     add_shortests(&mut nodes, outputs)?;
     add_encs(&mut nodes, placed)?;

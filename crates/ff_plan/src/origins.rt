@@ -1,15 +1,18 @@
-//! The origins of graph inputs and output streams, and the streams and inputs that are used.
-ghost use Rattle.std.specs.Prelude.{◌≡◌, ◌^◌, ◌<◌, ◌++◌, ◌∷◌, [], IfOk, OnOk, vec_len, length, map};
+//! The origins of graph inputs and output streams, and the streams, sources and inputs that are used.
+ghost use Rattle.std.specs.Prelude.{◌≡◌, ◌+◌, ◌^◌, ◌<◌, ◌++◌, ◌∷◌, [], IfOk, OnOk, vec_len, length, map};
 ghost use Rattle.std.specs.List.{AllByRecursion, filter, flat_map, list_any, range_with_len};
 ghost use Rattle.ff_words.specs.maps.Choice.{lists, all_streams, streams_of};
 ghost use Rattle.ff_words.specs.declared.maps.streams.Stream.{Stream};
 ghost use Rattle.ff_plan_layout.specs.declared.layout.InPad.{InPad};
 ghost use Rattle.ff_plan_layout.specs.declared.layout.Placed.{Placed};
 ghost use Rattle.ff_plan_layout.specs.Layout.{shows as is_shown_by};
+ghost use Rattle.ff_plan_layout.specs.Sources.{source_streams};
+ghost use Rattle.ff_source.specs.declared.made.Made.{Made};
 ghost use Rattle.ff_plan.specs.Numbering.{sources_of, all_sources, has_stream as input_has};
 
 use ff_frame::StreamHead;
 use ff_plan_layout::{InPad, Laid, Origin, Placed, same_ref, stream_at};
+use ff_source::Made;
 use ff_words::maps::{Stream, StreamRef};
 use std::alloc::{AllocError, Global};
 
@@ -116,6 +119,32 @@ pub(crate) fn used_streams(
         add_used(&mut used, input as u32, streams.as_slice(), origins)?;
     }
     Ok(used)
+}
+
+/// The streams of sources from which something comes, behind so many inputs.
+pub(crate) fn used_sources(
+    alloc: Global,
+    inputs: u32,
+    made: &[Made],
+    origins: &[Origin],
+) -> Result<Vec<Stream>, AllocError>
+    requires { inputs + length made.now < 2 ^ 32 }
+    ensures { IfOk result (λ ss. ss.items ≡ filter (λ (s : Stream). list_any (is_shown_by s.at) origins.now) (source_streams inputs made.now)) }
+{
+    let mut used = Vec::new(alloc);
+    for (number, source) in made.iter().enumerate() {
+        let stream = stream_at(inputs + number as u32, 0, source.head());
+        add_shown(&mut used, origins, &stream)?;
+    }
+    Ok(used)
+}
+
+/// The streams of sources, and those of inputs behind them.
+pub(crate) fn behind(mut sources: Vec<Stream>, read: &[Stream]) -> Result<Vec<Stream>, AllocError>
+    ensures { IfOk result (λ ss. ss.items ≡ sources.items ++ read.now) }
+{
+    sources.extend_from_slice(read)?;
+    Ok(sources)
 }
 
 fn has_stream(streams: &[Stream], input: u32) -> bool

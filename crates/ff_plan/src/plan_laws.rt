@@ -5,12 +5,15 @@ ghost use Rattle.ff_plan_layout.specs.Graphs.{AreRules};
 ghost use Rattle.ff_plan_layout.specs.Limits.{IsWithinLimits};
 ghost use Rattle.ff_plan.specs.Planned.{planned};
 ghost use Rattle.ff_plan_layout.specs.Rules.{Rules};
+ghost use Rattle.ff_plan_layout.specs.Sources.{sources_of};
 ghost use Rattle.ff_plan.specs.Taken.{AllFrames, AreKeptBy, OutputsFit};
 ghost use Rattle.ff_plan.specs.declared.planned.Plan.{Plan};
 ghost use Rattle.ff_plan_layout.specs.declared.error.PlanError.TheVariants as fault;
 ghost use Rattle.ff_plan.specs.Sound.{AreRouted, HasFewIns, IsSoundPlan, KeepsTaken, NeverWantsMemory};
 ghost use Rattle.ff_frame.specs.declared.config.ConfigError.TheVariants as config;
 ghost use Rattle.ff_frame.specs.declared.head.StreamHead.{StreamHead};
+ghost use Rattle.ff_source.specs.declared.made.Made.{Made};
+ghost use Rattle.ff_source.specs.Sources.{head_of};
 ghost use Rattle.ff_words.specs.declared.job.Job.{Job};
 
 use ff_graph_links::{orders_are_whole, orders_go_upward};
@@ -42,6 +45,12 @@ pub fn graph_inputs_are_routes()
     orders_are_whole();
 }
 
+/// The sources of a plan are what the source filters of its complex graphs give, by graph and pad.
+pub fn sources_are_asked()
+    ensures { (rules : Rules) (job : Job) (heads : List (List StreamHead)) (p : Plan) → planned rules job heads ≡ Ok p
+        → p.made ≡ sources_of rules job.graphs }
+{}
+
 /// No plan is refused for want of memory: that answer says nothing of the job. Nor is a filter of it, where the rules refuse none so.
 pub fn plans_never_want_memory()
     ensures plan { (rules : Rules) (job : Job) (heads : List (List StreamHead)) → planned rules job heads ≡ Err fault.NoMemory → ⊥ }
@@ -62,10 +71,11 @@ impl HeadFact for Brand {
     ghost is_so = { λ head. Unit {0} };
 }
 
-/// What is so of the heads of all streams of inputs, and of what graphs make of such heads, is so of all frames.
+/// What is so of the heads of all streams of inputs and of all sources, and of what graphs make of such heads, is so of all frames.
 pub fn frames_are_kept<K: HeadFact>()
     ensures { (rules : Rules) (job : Job) (heads : List (List StreamHead)) (p : Plan) → AreRules rules → AreKeptBy rules K.is_so
-        → AllByRecursion (λ hs. AllByRecursion K.is_so hs) heads → 1 ≤ length job.outputs → planned rules job heads ≡ Ok p → AllFrames K.is_so p.edges }
+        → AllByRecursion (λ hs. AllByRecursion K.is_so hs) heads → AllByRecursion (λ (m : Made). K.is_so (head_of m)) p.made
+        → 1 ≤ length job.outputs → planned rules job heads ≡ Ok p → AllFrames K.is_so p.edges }
 {
     orders_go_upward();
     orders_are_whole();

@@ -2,6 +2,7 @@
 use ff_lang::Sequence;
 use ff_plan_layout::GraphText;
 use ff_sched::Routes;
+use ff_source::Made;
 use ff_stream::Edge;
 use ff_words::maps::StreamRef;
 
@@ -10,6 +11,8 @@ use ff_words::maps::StreamRef;
 pub enum PlanNode {
     /// Cuts the bytes of an input into packets.
     Demux { input: u32 },
+    /// Makes the frames of a source filter. Sources have numbers behind those of the inputs.
+    Gen { source: u32 },
     /// Decodes a stream of an input.
     Dec { stream: StreamRef },
     /// Filters frames.
@@ -33,4 +36,6 @@ pub struct Plan {
     pub routes: Routes,
     /// Where the string of each graph stands, by the number of the graph.
     pub texts: Sequence<GraphText>,
+    /// What the source filters give, by the number of the source. That behind the inputs comes first.
+    pub made: Sequence<Made>,
 }

@@ -30,19 +30,20 @@ fn add_wire(
     Ok(())
 }
 
-// From each Demux to its Decs.
+// From each Demux to the Decs of the streams that are read.
 fn add_demux_wires(
     wires: &mut Vec<Wire>,
     firsts: Firsts,
     inputs: &[u32],
+    read: &[Stream],
     streams: &[Stream],
 ) -> Result<(), AllocError>
     requires low { firsts.decs ≤ 65536 }
     requires inputs { length inputs.now < 2 ^ 32 }
     requires streams { length streams.now ≤ 65536 }
-    ensures { OnOk result (wires.new.items ≡ wires.old.items ++ map (demux_wire_in firsts inputs.now streams.now) streams.now) }
+    ensures { OnOk result (wires.new.items ≡ wires.old.items ++ map (demux_wire_in firsts inputs.now streams.now) read.now) }
 {
-    for stream in streams {
+    for stream in read {
         let from = demux_number(inputs, stream.at.input);
         let to = dec_number(firsts, streams, stream.at);
         add_wire(wires, from, None, to, Lane::Packets(stream.head))?;
@@ -166,11 +167,12 @@ fn add_mux_wires(wires: &mut Vec<Wire>, firsts: Firsts, placed: &[Placed]) -> Re
     Ok(())
 }
 
-/// The wires between the nodes of these inputs, streams, graphs and outputs' streams.
+/// The wires between the nodes of these inputs, streams, graphs and outputs' streams, where these streams are read.
 pub(crate) fn wire_up(
     alloc: Global,
     firsts: Firsts,
     inputs: &[u32],
+    read: &[Stream],
     streams: &[Stream],
     graphs: &[Laid],
     placed: &[Placed],
@@ -178,10 +180,10 @@ pub(crate) fn wire_up(
     requires inputs { length inputs.now < 2 ^ 32 }
     requires low { IsLow firsts streams.now graphs.now }
     requires small { AllByRecursion IsSmall placed.now }
-    ensures { IfOk result (λ ws. ws.items ≡ wires_in firsts inputs.now streams.now graphs.now placed.now) }
+    ensures { IfOk result (λ ws. ws.items ≡ wires_in firsts inputs.now read.now streams.now graphs.now placed.now) }
 {
     let mut wires = Vec::new(alloc);
-    add_demux_wires(&mut wires, firsts, inputs, streams)?;
+    add_demux_wires(&mut wires, firsts, inputs, read, streams)?;
     add_graph_wires(&mut wires, firsts, streams, graphs)?;
     add_frame_wires(&mut wires, firsts, streams, graphs, placed)?;
     add_mux_wires(&mut wires, firsts, placed)?;

@@ -16,6 +16,7 @@ use Rattle.ff_plan_layout.specs.Labels.{refused}
 use Rattle.ff_plan_layout.specs.Limits.{HasFewIns}
 use Rattle.ff_plan_layout.specs.LaidOut.{outputs_from, labels_of, graphs_of}
 use Rattle.ff_plan_layout.specs.Rules.{Rules, OpenOut, behind, where_so}
+use Rattle.ff_plan_layout.specs.Sources.{source_pad}
 use Rattle.ff_plan_layout.specs.Streams.{Inside, Passed, through, configured_simple, simply, as_it_is, passed_by, passed_from, as_asked, passed, all_passed, graph_of, null_graph, simple_of, chosen, takes, front_with}
 use Rattle.ff_plan_layout.proofs.Among.{all_joined}
 use Rattle.ff_plan_layout.proofs.AsAsked.{asked_ok}
@@ -36,7 +37,8 @@ module _ (rules : Rules) where
       let known = unless_ok (refused (unknown_filter rules.known g 0 (filters_of graph))) _ p named in
       let straight = unless_ok (where_so (rules.loops graph) (fault.Loop g)) _ p known in
       let single = unless_ok (where_so (not (length (rules.open_ins graph) == 1)) (fault.Config g 0 config.Pads)) _ p straight in
-      let last = behind_ok (configured_simple g (rules.configured graph (Some i.head ∷ []))) (through out g i) p single in
+      let plain = unless_ok (source_pad g (rules.open_ins graph)) _ p single in
+      let last = behind_ok (configured_simple g (rules.configured graph (Some i.head ∷ []))) (through out g i) p plain in
       through_few out g i last.0 p last.2
 
   bare_few : (out : OutputJob) (i : InPad) (p : Passed) → as_it_is out i ≡ Ok p → Few p

@@ -7,6 +7,8 @@ use Rattle.std.proofs.lemmas.Bool.Decides.{nat_tests}
 use Rattle.ff_frame.specs.declared.head.StreamHead.{StreamHead}
 use Rattle.ff_lang.specs.declared.graph.Graph.{Graph}
 use Rattle.ff_words.specs.declared.job.Job.{Job}
+use Rattle.ff_words.specs.declared.maps.streams.Stream.{Stream}
+use Rattle.ff_words.specs.maps.Choice.{all_streams}
 use Rattle.ff_graph_links.specs.labels.Order.{ComeInOrder, graph_order, feeds, is_in}
 use Rattle.ff_plan_layout.specs.declared.layout.InPad.{InPad}
 use Rattle.ff_plan_layout.specs.declared.layout.Origin.{Origin}
@@ -20,11 +22,12 @@ use Rattle.ff_plan_layout.specs.Order.{loop_fault, numbers}
 use Rattle.ff_plan_layout.specs.Pads.{Want, Made, made_at, all_wants, make_all, unlabelled, outs_of_made, unlabelled_from}
 use Rattle.ff_plan_layout.specs.LaidOut.{layout_of, limited, laid_out, outputs_from, unused_label, simple_graphs}
 use Rattle.ff_plan_layout.specs.Rules.{Rules, OpenOut, Planned, behind, unless, where_so}
+use Rattle.ff_plan_layout.specs.Sources.{sources_of, sources_fault, source_streams}
 use Rattle.ff_plan_layout.specs.Streams.{Inside, Passed, graph_of}
 use Rattle.ff_plan_layout.proofs.Among.{all_map, all_flat, place_among, among_right, among_either, among_map, among_flat, each_of, of_flat}
 use Rattle.ff_plan_layout.proofs.Tests.{nat_self, hit, miss, is_same}
 use Rattle.ff_plan_layout.proofs.Sizes.{joined_length, map_length, place_holds}
-use Rattle.ff_plan_layout.proofs.Makings.{Comes, IsShown, IsOpen, IsMade, AreMade, found_is, made_all, ins_come, wants_fit}
+use Rattle.ff_plan_layout.proofs.Makings.{Comes, IsShown, IsOpen, IsMade, AreMade, found_is, made_all, shown_in, shown_right, comes_right, ins_come, wants_fit}
 use Rattle.ff_plan_layout.proofs.Outs.{was_false, IsFiltered, AreOutputs, Passes, outputs_are, outputs_pass}
 use Rattle.ff_plan_layout.proofs.Results.{not_ok, same_ok, behind_ok, unless_ok}
 
@@ -118,8 +121,10 @@ pub record Walked (rules : Rules) (job : Job) (heads : List (List StreamHead)) (
   pub rows_are : outputs_from rules (inside_of heads job made) 0 (length job.graphs) (taken_labels job.graphs) (unlabelled made (numbers job.graphs)) job.outputs ≡ Ok rows
   pub labels : labels_fault rules heads job.graphs ≡ None
   pub loops : loop_fault rules job.graphs ≡ None
+  pub sources : sources_fault rules 0 job.graphs ≡ None
   pub used : unused_label job ≡ None
   pub few_graphs : length job.graphs + simple_graphs rows ≤ 16
+  pub few_sources : length heads + length (sources_of rules job.graphs) ≤ 16
 
 not_many : {Y : Type 0} (k : ℕ) (e : PlanError) (r : Planned Y) (y : Y) → unless (where_so (nat_lt 16 k) e) r ≡ Ok y → k ≤ 16
 not_many k e r y h = (let off : nat_lt 16 k ≡ false = was_false (nat_lt 16 k) e r y h in grind (arith, nat_tests, off))
@@ -134,36 +139,45 @@ module _ (rules : Rules) (job : Job) (heads : List (List StreamHead)) (l : Layou
       let out_of : List Made → Planned (List (List Passed)) = λ made.
       outputs_from rules (inside_of heads job made) 0 (length job.graphs) (taken_labels job.graphs) (unlabelled made (numbers job.graphs)) job.outputs in
       let last : Planned Layout = behind (make_all rules heads job.graphs) (λ made. behind (out_of made) (λ outs. limited rules job heads made outs)) in
-      let next : Planned Layout = unless (loop_fault rules job.graphs) last in
+      let sound : Planned Layout = unless (sources_fault rules 0 job.graphs) last in
+      let next : Planned Layout = unless (loop_fault rules job.graphs) sound in
       let second = unless_ok (labels_fault rules heads job.graphs) next l h in
-      let third = unless_ok (loop_fault rules job.graphs) last l second in
+      let unlooped = unless_ok (loop_fault rules job.graphs) sound l second in
+      let third = unless_ok (sources_fault rules 0 job.graphs) last l unlooped in
       let made = behind_ok (make_all rules heads job.graphs) (λ made. behind (out_of made) (λ outs. limited rules job heads made outs)) l third in
       let outs = behind_ok (out_of made.0) (λ outs. limited rules job heads made.0 outs) l made.2 in
       let all = made_all rules job.graphs (all_wants rules heads job.graphs) [] (graph_order job.graphs) made.0 (below_all job.graphs [] (graph_order job.graphs) come) made.1 in
       let many = where_so (nat_lt 16 (length (flat_map (λ ps. ps) outs.0))) fault.TooManyStreams in
       let wide = where_so (nat_lt 16 (length job.graphs + simple_graphs outs.0)) fault.TooManyGraphs in
+      let deep = where_so (nat_lt 16 (length heads + length (sources_of rules job.graphs))) fault.TooManySources in
       let done : Planned Layout = Ok (layout_of rules job heads made.0 outs.0) in
-      let narrow : Planned Layout = unless wide done in
+      let shallow : Planned Layout = unless deep done in
+      let narrow : Planned Layout = unless wide shallow in
       let few : Planned Layout = unless many narrow in
+      let used = unless_ok (unused_label job) few l outs.2 in
+      let streamed = unless_ok many narrow l used in
+      let graphed = unless_ok wide shallow l streamed in
       record {
         made = made.0;
         are_made = subst (λ (ms : List Made). AreMade rules job.graphs (all_wants rules heads job.graphs) [] (graph_order job.graphs) ms) all.1 all.2;
         rows = outs.0;
         outputs = outputs_are rules (inside_of heads job made.0) 0 (length job.graphs) (taken_labels job.graphs) (unlabelled made.0 (numbers job.graphs)) job.outputs outs.0 outs.1;
-        is = same_ok (layout_of rules job heads made.0 outs.0) l (unless_ok wide done l (unless_ok many narrow l (unless_ok (unused_label job) few l outs.2)));
+        is = same_ok (layout_of rules job heads made.0 outs.0) l (unless_ok deep done l graphed);
         made_is = made.1;
         rows_are = outs.1;
         labels = none_of (labels_fault rules heads job.graphs) next l h;
-        loops = none_of (loop_fault rules job.graphs) last l second;
+        loops = none_of (loop_fault rules job.graphs) sound l second;
+        sources = none_of (sources_fault rules 0 job.graphs) last l unlooped;
         used = none_of (unused_label job) few l outs.2;
-        few_graphs = not_many (length job.graphs + simple_graphs outs.0) fault.TooManyGraphs done l (unless_ok many narrow l (unless_ok (unused_label job) few l outs.2));
+        few_graphs = not_many (length job.graphs + simple_graphs outs.0) fault.TooManyGraphs shallow l streamed;
+        few_sources = not_many (length heads + length (sources_of rules job.graphs)) fault.TooManySources done l graphed;
       }
 
 -- ---- unlabelled open output pads
 
-module _ (heads : List (List StreamHead)) (made : List Made) where
+module _ (streams : List Stream) (made : List Made) where
   abbrev Held : InPad → Type 0
-  Held i = Comes heads made i
+  Held i = Comes streams made i
 
   open_in : (m : Made) → IsAmong m made → (done outs : List OpenOut) → done ++ outs ≡ m.outs → AllByRecursion Held (unlabelled_from m.laid.graph (length done) outs)
   open_in m there done [] e = tt
@@ -207,7 +221,13 @@ module _ (rules : Rules) (job : Job) (heads : List (List StreamHead)) (made : Li
   abbrev has : ℕ → Laid → Bool
   has g x = x.graph == g
 
-  shown_there : (before : ℕ) (i : InPad) → IsShown heads i → IsThere whole before i.source
+  abbrev shown : List Stream
+  shown = shown_in rules heads job.graphs
+
+  abbrev sources : List Stream
+  sources = source_streams (length heads) (sources_of rules job.graphs)
+
+  shown_there : (before : ℕ) (i : InPad) → IsShown shown i → IsThere whole before i.source
   shown_there before i s = subst (λ (j : InPad). IsThere whole before j.source) s.is (s.stream, s.there, refl)
 
   in_front : (front rest : List Made) → front ++ rest ≡ made → whole.graphs ≡ map (λ m. m.laid) front ++ (map (λ m. m.laid) rest ++ simples)
@@ -224,7 +244,7 @@ module _ (rules : Rules) (job : Job) (heads : List (List StreamHead)) (made : Li
       let here : position_or_len (has g) whole.graphs < length front = subst (λ (ls : List Laid). position_or_len (has g) ls < length front) (sym (in_front front rest e)) (omega (arith, lt, long)) in
       subst (λ (j : InPad). IsThere whole (length front) j.source) o.is here
 
-  comes_there : (front rest : List Made) (i : InPad) → front ++ rest ≡ made → Comes heads front i → IsThere whole (length front) i.source
+  comes_there : (front rest : List Made) (i : InPad) → front ++ rest ≡ made → Comes shown front i → IsThere whole (length front) i.source
   comes_there front rest i e (inl s) = shown_there (length front) i s
   comes_there front rest i e (inr o) = open_there front rest i e o
 
@@ -237,14 +257,14 @@ module _ (rules : Rules) (job : Job) (heads : List (List StreamHead)) (made : Li
     stand = all_stand rules job.graphs (all_wants rules heads job.graphs) [] (graph_order job.graphs) made are come made refl
 
     -- inputs of a complex graph
-    pub ins_from : (m : Made) (s : Stands rules job.graphs (all_wants rules heads job.graphs) made m) → AllByRecursion (Comes heads s.front) m.laid.ins
-    ins_from m s = subst (λ (is : List InPad). AllByRecursion (Comes heads s.front) is) (sym s.how.ins)
+    pub ins_from : (m : Made) (s : Stands rules job.graphs (all_wants rules heads job.graphs) made m) → AllByRecursion (Comes shown s.front) m.laid.ins
+    ins_from m s = subst (λ (is : List InPad). AllByRecursion (Comes shown s.front) is) (sym s.how.ins)
         (ins_come rules heads job.graphs s.front (rules.open_ins s.how.text) (slice_index_or (all_wants rules heads job.graphs) s.number []) (wants_fit rules heads job.graphs [] job.graphs s.number s.how.text s.how.there))
 
     complex_there : (m : Made) (i : InPad) → IsAmong m made → IsAmong i m.laid.ins → IsThere whole (position_or_len (has m.laid.graph) whole.graphs) i.source
     complex_there m i im ii =
         let s = each_of (Stands rules job.graphs (all_wants rules heads job.graphs) made) m made stand im in
-        let from = each_of (Comes heads s.front) i m.laid.ins (ins_from m s) ii in
+        let from = each_of (Comes shown s.front) i m.laid.ins (ins_from m s) ii in
         let there = comes_there s.front (m ∷ s.rest) i s.is from in
         let low = place_right (has s.number) (map (λ m. m.laid) s.front) (map (λ m. m.laid) (m ∷ s.rest) ++ simples) (fresh_laid s.number s.front s.fresh) in
         let long = map_length (λ (m : Made). m.laid) s.front in
@@ -260,7 +280,7 @@ module _ (rules : Rules) (job : Job) (heads : List (List StreamHead)) (made : Li
       is_stream (origin.Stream r) = Unit {0}
       is_stream (origin.Pad x y) = ⊥
 
-    simple_shown : (out : _) (g : ℕ) (i : InPad) (p : Passed) → IsFiltered rules out g i p → Comes heads made i → IsShown heads i
+    simple_shown : (out : _) (g : ℕ) (i : InPad) (p : Passed) → IsFiltered rules out g i p → Comes (all_streams heads) made i → IsShown (all_streams heads) i
     simple_shown out g i p f (inl s) = s
     simple_shown out g i p f (inr o) = absurd (no_pad i.source f.at f.from o.maker.laid.graph o.pad (sym (ap (λ (j : InPad). j.source) o.is)))
 
@@ -272,7 +292,7 @@ module _ (rules : Rules) (job : Job) (heads : List (List StreamHead)) (made : Li
       | inl e ↦ absurd (subst (λ (q : Passed). IsAmong x (graph_of q)) (sym e) ix)
       | inr f ↦ elim (subst (λ (q : Passed). IsAmong x (graph_of q)) (sym f.is) ix) [
         | inl same ↦ elim (subst (λ (y : Laid). IsAmong i y.ins) (sym same) ii) [
-          | inl e ↦ subst (λ (j : InPad). IsThere whole before j.source) e (shown_there before w.pad (simple_shown w.out w.graph w.pad p f w.from))
+          | inl e ↦ subst (λ (j : InPad). IsThere whole before j.source) e (shown_there before w.pad (shown_right sources (all_streams heads) w.pad (simple_shown w.out w.graph w.pad p f w.from)))
           | inr none ↦ absurd none
         ]
         | inr none ↦ absurd none
@@ -282,7 +302,7 @@ module _ (rules : Rules) (job : Job) (heads : List (List StreamHead)) (made : Li
     passed_there : (ps : List Passed) (p : Passed) → IsAmong ps rows → IsAmong p ps → Passing p → IsThere whole (length whole.graphs) p.what.source
     passed_there ps p ips ip w = elim w.how [
       | inl e ↦ subst (λ (q : Passed). IsThere whole (length whole.graphs) q.what.source) e
-          (let low = comes_there made [] w.pad (append-nil made) w.from in
+          (let low = comes_there made [] w.pad (append-nil made) (comes_right sources (all_streams heads) made w.pad w.from) in
           let long = joined_length (map (λ (m : Made). m.laid) made) simples in let same = map_length (λ (m : Made). m.laid) made in
           there_more whole (length made) (length whole.graphs) w.pad.source (omega (arith, long, same)) low)
       | inr f ↦ subst (λ (q : Passed). IsThere whole (length whole.graphs) q.what.source) f.is
@@ -310,7 +330,7 @@ module _ (rules : Rules) (job : Job) (heads : List (List StreamHead)) (l : Layou
   pub walked_laid : Walked rules job heads l → IsLaid l
   walked_laid w =
       let pass = outputs_pass rules (inside_of heads job w.made) (length job.graphs) (taken_labels job.graphs) (unlabelled w.made (numbers job.graphs)) job.outputs w.rows w.outputs
-      (unlabelled_come heads w.made (numbers job.graphs)) in
+      (unlabelled_come (all_streams heads) w.made (numbers job.graphs)) in
       subst IsLaid w.is (all_laid rules job heads w.made w.rows come w.are_made pass)
 
   pub laid : laid_out rules job heads ≡ Ok l → IsLaid l

@@ -20,6 +20,7 @@ pub mod Results
 pub mod Rowed
 pub mod Sizes
 pub mod Small
+pub mod Sourced
 pub mod Tests
 pub mod UsedLabels
 pub mod Uses

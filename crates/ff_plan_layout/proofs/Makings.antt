@@ -16,11 +16,15 @@ use Rattle.ff_plan_layout.specs.Labels.{giver, stream_of_label, stream_of_spec, 
 use Rattle.ff_plan_layout.specs.Layout.{IsAmong}
 use Rattle.ff_plan_layout.specs.declared.layout.Want.{Want}
 use Rattle.ff_plan_layout.specs.declared.layout.Want.TheVariants.{KnownStream, Labelled, Nothing}
-use Rattle.ff_plan_layout.specs.Pads.{known_or_nothing, want_of_giver, want_of, wants_of, wants_from, is_taken, Made, has_label, out_origin, labelled_out, made_at, pad_in, head_in, made_of, configure, make_from}
+use Rattle.ff_plan_layout.specs.Pads.{known_or_nothing, want_of_giver, want_of, want_by, want_at, wants_of, wants_from, is_source, is_taken, Made, has_label, out_origin, labelled_out, made_at, pad_in, head_in, made_of, configure, make_from}
 use Rattle.ff_plan_layout.specs.Rules.{Rules, OpenIn, OpenOut, Refused}
+use Rattle.ff_plan_layout.specs.Sources.{made_for, made_at_pad, sources_of, source_streams}
 use Rattle.ff_plan_layout.specs.Streams.{as_pad}
-use Rattle.ff_plan_layout.proofs.Among.{among_left}
-use Rattle.ff_plan_layout.proofs.Kept.{nothing, same_some}
+use Rattle.ff_plan_layout.specs.declared.open_pads.SourcePad.{SourcePad}
+use Rattle.ff_source.specs.declared.made.Made.{Made as SourceMade}
+use Rattle.ff_stream.specs.edges.Ports.{tally}
+use Rattle.ff_plan_layout.proofs.Among.{among_left, among_right}
+use Rattle.ff_plan_layout.proofs.Kept.{nothing, same_some, among_at}
 use Rattle.ff_plan_layout.proofs.Known.{known_among}
 use Rattle.ff_plan_layout.proofs.Tests.{hit, miss}
 use Rattle.ff_plan_layout.proofs.Results.{not_ok, same_ok, behind_ok}
@@ -44,10 +48,14 @@ module _ {A : Type 0} (p : A → Bool) where
 
 -- ---- what an input shows
 
--- a stream of an input
-pub record IsShown (heads : List (List StreamHead)) (i : InPad) : Type 0 where
+-- the streams that there are: those of source filters, then those of inputs
+abbrev pub shown_in : Rules → List (List StreamHead) → List Graph → List Stream
+shown_in rules heads graphs = source_streams (length heads) (sources_of rules graphs) ++ all_streams heads
+
+-- one of these streams
+pub record IsShown (streams : List Stream) (i : InPad) : Type 0 where
   pub stream : Stream
-  pub there : IsAmong stream (all_streams heads)
+  pub there : IsAmong stream streams
   pub is : as_pad stream ≡ i
 
 -- an open output pad of one of these graphs
@@ -59,15 +67,23 @@ pub record IsOpen (made : List Made) (i : InPad) : Type 0 where
   pub at : slice_get maker.outs pad ≡ Some out
   pub is : record { source = origin.Pad maker.laid.graph pad; head = out.head } ≡ i
 
-abbrev pub Comes : List (List StreamHead) → List Made → InPad → Type 0
-Comes heads made i = IsShown heads i ⊎ IsOpen made i
+abbrev pub Comes : List Stream → List Made → InPad → Type 0
+Comes streams made i = IsShown streams i ⊎ IsOpen made i
 
-pub shown_among : (heads : List (List StreamHead)) (made : List Made) (k : Stream) → IsAmong k (all_streams heads) → Comes heads made (as_pad k)
-shown_among heads made k i = inl (record { stream = k; there = i; is = refl })
+pub shown_among : (streams : List Stream) (made : List Made) (k : Stream) → IsAmong k streams → Comes streams made (as_pad k)
+shown_among streams made k i = inl (record { stream = k; there = i; is = refl })
 
-pub comes_left : (heads : List (List StreamHead)) (made more : List Made) (i : InPad) → Comes heads made i → Comes heads (made ++ more) i
-comes_left heads made more i (inl s) = inl s
-comes_left heads made more i (inr o) =
+-- the same, where there are further streams in front
+pub shown_right : (more streams : List Stream) (i : InPad) → IsShown streams i → IsShown (more ++ streams) i
+shown_right more streams i s = record { stream = s.stream; there = among_right s.stream more streams s.there; is = s.is }
+
+pub comes_right : (more streams : List Stream) (made : List Made) (i : InPad) → Comes streams made i → Comes (more ++ streams) made i
+comes_right more streams made i (inl s) = inl (shown_right more streams i s)
+comes_right more streams made i (inr o) = inr o
+
+pub comes_left : (streams : List Stream) (made more : List Made) (i : InPad) → Comes streams made i → Comes streams (made ++ more) i
+comes_left streams made more i (inl s) = inl s
+comes_left streams made more i (inr o) =
     inr (record { maker = o.maker; there = among_left o.maker made more o.there; pad = o.pad; out = o.out; at = o.at; is = o.is })
 
 out_step : (m : Made) (label : List ℕ) (made : List Made) (o : Option OpenOut) (i : InPad) → find (has_label label) m.outs ≡ o → IsAmong m made
@@ -104,11 +120,22 @@ first_among : (ks : List Stream) (k : Stream) → first_known ks ≡ Some k → 
 first_among [] k h = absurd (nothing k h)
 first_among (j ∷ js) k h = inl (same_some j k h)
 
+-- a pad at which a source filter makes something has no label
+no_label : (o : Option (List ℕ)) (s : Option SourcePad) (m : SourceMade) → made_for o s ≡ Some m → o ≡ None
+no_label None s m e = refl
+no_label (Some label) s m e = absurd (nothing m e)
+
 module _ (rules : Rules) (heads : List (List StreamHead)) (graphs : List Graph) where
-  -- by its label, or by its kind a stream or nothing
+  abbrev sources : List Stream
+  sources = source_streams (length heads) (sources_of rules graphs)
+
+  abbrev shown : List Stream
+  shown = shown_in rules heads graphs
+
+  -- by its label, or the stream of a source filter, or by its kind a stream or nothing
   pub data Fits (i : OpenIn) (w : Want) : Type 0 where
     By_label : (label : List ℕ) → i.label ≡ Some label → w ≡ want_of_giver (stream_of_label rules heads label) label (giver graphs label) → Fits i w
-    By_kind : i.label ≡ None → (o : Option Stream) → ((k : Stream) → o ≡ Some k → IsAmong k (all_streams heads)) → w ≡ known_or_nothing o → Fits i w
+    By_kind : i.label ≡ None → (o : Option Stream) → ((k : Stream) → o ≡ Some k → IsAmong k (shown_in rules heads graphs)) → w ≡ known_or_nothing o → Fits i w
 
   abbrev pub AllFit : List OpenIn → List Want → Type 0
   AllFit [] [] = Unit {0}
@@ -116,10 +143,16 @@ module _ (rules : Rules) (heads : List (List StreamHead)) (graphs : List Graph) 
   AllFit (i ∷ is) [] = ⊥
   AllFit (i ∷ is) (w ∷ ws) = Fits i w × AllFit is ws
 
-  pad_fits : (before : List Want) (i : OpenIn) (o : Option (List ℕ)) → i.label ≡ o → Fits i (want_of rules heads graphs before i.kind o)
-  pad_fits before i (Some label) e = By_label label e refl
-  pad_fits before i None e =
-      By_kind e (find (λ s. has_kind i.kind s.head && not (is_taken before s)) (all_streams heads)) (λ k h. (found_is (λ s. has_kind i.kind s.head && not (is_taken before s)) (all_streams heads) k h).0) refl
+  plain_fits : (before : List Want) (i : OpenIn) (o : Option (List ℕ)) → i.label ≡ o → Fits i (want_of rules heads graphs before i.kind o)
+  plain_fits before i (Some label) e = By_label label e refl
+  plain_fits before i None e =
+      By_kind e (find (λ s. has_kind i.kind s.head && not (is_taken before s)) (all_streams heads)) (λ k h. among_right k sources (all_streams heads) (found_is (λ s. has_kind i.kind s.head && not (is_taken before s)) (all_streams heads) k h).0) refl
+
+  pad_fits : (before : List Want) (i : OpenIn) (m : Option SourceMade) → made_at_pad i ≡ m → Fits i (want_by rules sources heads graphs before i m)
+  pad_fits before i None e = plain_fits before i i.label refl
+  pad_fits before i (Some m) e =
+      let n = tally (is_source (length heads)) before in
+      By_kind (no_label i.label i.source m e) (slice_get sources n) (λ k h. among_left k sources (all_streams heads) (among_at k sources n h)) refl
 
   pub fit_length : (is : List OpenIn) (ws : List Want) → AllFit is ws → length ws ≡ length is
   fit_length [] [] fit = refl
@@ -127,49 +160,49 @@ module _ (rules : Rules) (heads : List (List StreamHead)) (graphs : List Graph) 
   fit_length (i ∷ is) [] fit = absurd fit
   fit_length (i ∷ is) (w ∷ ws) fit = ap suc (fit_length is ws fit.1)
 
-  pads_fit : (before : List Want) (is : List OpenIn) → AllFit is (wants_of rules heads graphs before is)
+  pads_fit : (before : List Want) (is : List OpenIn) → AllFit is (wants_of rules sources heads graphs before is)
   pads_fit before [] = tt
-  pads_fit before (i ∷ is) = (pad_fits before i i.label refl, pads_fit (before ++ want_of rules heads graphs before i.kind i.label ∷ []) is)
+  pads_fit before (i ∷ is) = (pad_fits before i (made_at_pad i) refl, pads_fit (before ++ want_at rules sources heads graphs before i ∷ []) is)
 
   pub wants_fit : (before : List Want) (gs : List Graph) (g : ℕ) (text : Graph) → slice_get gs g ≡ Some text
-      → AllFit (rules.open_ins text) (slice_index_or (wants_from rules heads graphs before gs) g [])
+      → AllFit (rules.open_ins text) (slice_index_or (wants_from rules sources heads graphs before gs) g [])
   wants_fit before [] g text at = absurd (nothing text at)
   wants_fit before (x ∷ xs) zero text at =
-      subst (λ (t : Graph). AllFit (rules.open_ins t) (wants_of rules heads graphs before (rules.open_ins x))) (same_some x text at) (pads_fit before (rules.open_ins x))
-  wants_fit before (x ∷ xs) (suc g) text at = wants_fit (before ++ wants_of rules heads graphs before (rules.open_ins x)) xs g text at
+      subst (λ (t : Graph). AllFit (rules.open_ins t) (wants_of rules sources heads graphs before (rules.open_ins x))) (same_some x text at) (pads_fit before (rules.open_ins x))
+  wants_fit before (x ∷ xs) (suc g) text at = wants_fit (before ++ wants_of rules sources heads graphs before (rules.open_ins x)) xs g text at
 
   stream_is : (label : List ℕ) (k : Stream) → stream_of_label rules heads label ≡ Some k → IsAmong k (all_streams heads)
   stream_is label k h = map_among heads (rules.map_of label) k (first_among (stream_of_spec heads (rules.map_of label)) k h)
 
-  -- where it is a stream, that of an input
+  -- where it is a stream, one that is there
   abbrev Streams : Want → Type 0
-  Streams (KnownStream k) = IsAmong k (all_streams heads)
+  Streams (KnownStream k) = IsAmong k shown
   Streams (Labelled g l) = Unit {0}
   Streams Nothing = Unit {0}
 
-  some_streams : (o : Option Stream) → ((k : Stream) → o ≡ Some k → IsAmong k (all_streams heads)) → Streams (known_or_nothing o)
+  some_streams : (o : Option Stream) → ((k : Stream) → o ≡ Some k → IsAmong k shown) → Streams (known_or_nothing o)
   some_streams None each = tt
   some_streams (Some k) each = each k refl
 
   giver_streams : (label : List ℕ) (o : Option ℕ) → Streams (want_of_giver (stream_of_label rules heads label) label o)
-  giver_streams label None = some_streams (stream_of_label rules heads label) (λ k h. stream_is label k h)
+  giver_streams label None = some_streams (stream_of_label rules heads label) (λ k h. among_right k sources (all_streams heads) (stream_is label k h))
   giver_streams label (Some g) = tt
 
   pub fits_streams : (i : OpenIn) (w : Want) → Fits i w → Streams w
   fits_streams i w (By_label label e is) = subst Streams (sym is) (giver_streams label (giver graphs label))
   fits_streams i w (By_kind e o each is) = subst Streams (sym is) (some_streams o each)
 
-  want_comes : (made : List Made) (w : Want) (i : InPad) → Streams w → pad_in made w ≡ Some i → Comes heads made i
+  want_comes : (made : List Made) (w : Want) (i : InPad) → Streams w → pad_in made w ≡ Some i → Comes shown made i
   want_comes made (KnownStream k) i s h = inl (record { stream = k; there = s; is = same_some _ i h })
   want_comes made (Labelled g l) i s h = inr (labelled_open l made g i h)
   want_comes made Nothing i s h = absurd (nothing i h)
 
-  ins_step : (made : List Made) (w : Want) (ws : List Want) (o : Option InPad) → pad_in made w ≡ o → Streams w → AllByRecursion (Comes heads made) (filter_map (pad_in made) ws)
-      → AllByRecursion (Comes heads made) (cons_option o (filter_map (pad_in made) ws))
+  ins_step : (made : List Made) (w : Want) (ws : List Want) (o : Option InPad) → pad_in made w ≡ o → Streams w → AllByRecursion (Comes shown made) (filter_map (pad_in made) ws)
+      → AllByRecursion (Comes shown made) (cons_option o (filter_map (pad_in made) ws))
   ins_step made w ws None e s rest = rest
   ins_step made w ws (Some i) e s rest = (want_comes made w i s e, rest)
 
-  pub ins_come : (made : List Made) (is : List OpenIn) (ws : List Want) → AllFit is ws → AllByRecursion (Comes heads made) (filter_map (pad_in made) ws)
+  pub ins_come : (made : List Made) (is : List OpenIn) (ws : List Want) → AllFit is ws → AllByRecursion (Comes shown made) (filter_map (pad_in made) ws)
   ins_come made [] [] fit = tt
   ins_come made [] (w ∷ ws) fit = absurd fit
   ins_come made (i ∷ is) [] fit = absurd fit

@@ -197,7 +197,7 @@ not_on true h = absurd (never h)
 not_on false h = refl
 
 asks_own : (label : List ℕ) (i : OpenIn) → i.label ≡ Some label → asks label i ≡ true
-asks_own label i e = ap (λ (o : Option (List ℕ)). asks label (record { label = o; kind = i.kind })) e ∙ text_self label
+asks_own label i e = ap (λ (o : Option (List ℕ)). asks label (record { label = o; kind = i.kind; source = i.source })) e ∙ text_self label
 
 meets : (label : List ℕ) (taken given : List (List ℕ)) → is_one_of label taken ≡ true → is_one_of label given ≡ true → meet taken given ≡ true
 meets label [] given h on = absurd (never h)
@@ -404,9 +404,9 @@ module _ (rules : Rules) (are : AreRules rules) (job : Job) (heads : List (List 
 
       -- a pad with this label
       module _ (own : List ℕ) (is_own : (label : List ℕ) → has_at At label ≡ bytes_eq own label) where
-        asks_same : (o : Option (List ℕ)) (k : _) → asked_by (λ label. has_at At label) o ≡ asks own (record { label = o; kind = k })
-        asks_same None k = refl
-        asks_same (Some label) k = is_own label ∙ turn_text own label
+        asks_same : (o : Option (List ℕ)) (k : _) (s : _) → asked_by (λ label. has_at At label) o ≡ asks own (record { label = o; kind = k; source = s })
+        asks_same None k s = refl
+        asks_same (Some label) k s = is_own label ∙ turn_text own label
 
         own_open : (is_one_of own (given_in s.how.text) ≡ true) × (is_one_of own (taken_in s.how.text) ≡ false)
         own_open = label_is_open own (is_own own ∙ text_self own)
@@ -425,7 +425,7 @@ module _ (rules : Rules) (are : AreRules rules) (job : Job) (heads : List (List 
         ins_own : tally (shows_pad h q) n.laid.ins ≡ often own (taken_in t.how.text)
         ins_own =
             ins_are
-            ∙ (tally_same (λ (i : OpenIn). asked_by (λ label. has_at At label) i.label) (asks own) (rules.open_ins t.how.text) (λ i a. asks_same i.label i.kind)
+            ∙ (tally_same (λ (i : OpenIn). asked_by (λ label. has_at At label) i.label) (asks own) (rules.open_ins t.how.text) (λ i a. asks_same i.label i.kind i.source)
             ∙ (ins_named own ∙ open_is_all (is_one_of own (given_in t.how.text)) refl))
 
     -- ---- at the inputs of all complex graphs

@@ -28,6 +28,7 @@ use Rattle.ff_plan_layout.specs.Layout.{IsAmong}
 use Rattle.ff_plan_layout.specs.Pads.{made_at, labelled_out}
 use Rattle.ff_plan_layout.specs.LaidOut.{labels_of, graphs_of, outputs_from}
 use Rattle.ff_plan_layout.specs.Rules.{Rules, OpenOut, Refused, Planned, behind, unless, where_so}
+use Rattle.ff_plan_layout.specs.Sources.{source_pad}
 use Rattle.ff_plan_layout.specs.Streams.{Inside, Passed, as_pad, is_kept, is_wanted, label_pad, mapped, all_mapped, label_in, front_with, automatic, asked, some_or, chosen, takes, through, configured_simple, simply, null_graph, passed_by, passed_from, as_asked, passed, graph_of, all_passed, simple_of, packed_as}
 use Rattle.ff_plan_layout.proofs.Among.{all_joined, all_map, was_among}
 use Rattle.ff_plan_layout.proofs.Known.{known_among}
@@ -131,10 +132,10 @@ module _ (inside : Inside) where
   -- ---- where they come from
 
   abbrev From : InPad → Type 0
-  From i = Comes inside.heads inside.made i
+  From i = Comes (all_streams inside.heads) inside.made i
 
   streams_come : (pads : List InPad) → AreStreams inside.heads pads → AllByRecursion From pads
-  streams_come pads s = subst (λ (ps : List InPad). AllByRecursion From ps) s.2 (all_map From as_pad s.0 (λ k i. shown_among inside.heads inside.made k (s.1 k i)))
+  streams_come pads s = subst (λ (ps : List InPad). AllByRecursion From ps) s.2 (all_map From as_pad s.0 (λ k i. shown_among (all_streams inside.heads) inside.made k (s.1 k i)))
 
   label_come : (label : List ℕ) (g : ℕ) (o : Option InPad) → labelled_out label (made_at inside.made g) ≡ o → AllByRecursion From (cons_option o [])
   label_come label g None e = tt
@@ -214,12 +215,14 @@ module _ (rules : Rules) where
       let unknown_ = refused (unknown_filter rules.known g 0 (filters_of text)) in
       let loop_ = where_so (rules.loops text) (fault.Loop g) in
       let one = where_so (not (length (rules.open_ins text) == 1)) (fault.Config g 0 config.Pads) in
-      let made = behind (configured_simple g (rules.configured text (Some i.head ∷ []))) (through out g i) in
+      let plain = source_pad g (rules.open_ins text) in
+      let last = behind (configured_simple g (rules.configured text (Some i.head ∷ []))) (through out g i) in
+      let made = unless plain last in
       let r1 = unless_ok twice_ (unless unknown_ (unless loop_ (unless one made))) p h in
       let r2 = unless_ok unknown_ (unless loop_ (unless one made)) p r1 in
       let r3 = unless_ok loop_ (unless one made) p r2 in
       let clear_ = own_clear text (no_refusal (twice_in [] [] (filters_of text)) (unless_none twice_ (unless unknown_ (unless loop_ (unless one made))) p h)) in
-      simple_is out g i at text (rules.configured text (Some i.head ∷ [])) p e t (not_so (rules.loops text) (fault.Loop g) (unless_none loop_ (unless one made) p r2), clear_, is_one (length (rules.open_ins text)) (not_so (not (length (rules.open_ins text) == 1)) (fault.Config g 0 config.Pads) (unless_none one made p r3))) refl (unless_ok one made p r3)
+      simple_is out g i at text (rules.configured text (Some i.head ∷ [])) p e t (not_so (rules.loops text) (fault.Loop g) (unless_none loop_ (unless one made) p r2), clear_, is_one (length (rules.open_ins text)) (not_so (not (length (rules.open_ins text) == 1)) (fault.Config g 0 config.Pads) (unless_none one made p r3))) refl (unless_ok plain last p (unless_ok one made p r3))
 
   by_is : (out : OutputJob) (g : ℕ) (i : InPad) (at : StreamRef) (given : Option Graph) (p : Passed) → i.source ≡ origin.Stream at → simple_of out (kind_of i.head) ≡ given
       → passed_by rules out g i given ≡ Ok p → IsPassed out g i p
@@ -263,16 +266,16 @@ module _ (rules : Rules) where
       pub graph : ℕ
       pub pad : InPad
       pub how : IsPassed out graph pad p
-      pub from : Comes inside.heads inside.made pad
+      pub from : Comes (all_streams inside.heads) inside.made pad
 
-    all_pass : (out : OutputJob) (g : ℕ) (is : List InPad) (ps : List Passed) → AllPassed out g is ps → AllByRecursion (Comes inside.heads inside.made) is → AllByRecursion Passes ps
+    all_pass : (out : OutputJob) (g : ℕ) (is : List InPad) (ps : List Passed) → AllPassed out g is ps → AllByRecursion (Comes (all_streams inside.heads) inside.made) is → AllByRecursion Passes ps
     all_pass out g [] [] h all = tt
     all_pass out g [] (p ∷ ps) h all = absurd h
     all_pass out g (i ∷ is) [] h all = absurd h
     all_pass out g (i ∷ is) (p ∷ ps) h all = (record { out = out; graph = g; pad = i; how = h.0; from = all.0 }, all_pass out (g + length (graph_of p)) is ps h.1 all.1)
 
     pub outputs_pass : (g : ℕ) (used : List (List ℕ)) (before : List InPad) (outs : List OutputJob) (rows : List (List Passed)) → AreOutputs g used before outs rows
-        → AllByRecursion (Comes inside.heads inside.made) before → AllByRecursion (λ ps. AllByRecursion Passes ps) rows
+        → AllByRecursion (Comes (all_streams inside.heads) inside.made) before → AllByRecursion (λ ps. AllByRecursion Passes ps) rows
     outputs_pass g used before [] [] h all = tt
     outputs_pass g used before [] (ps ∷ rows) h all = absurd h
     outputs_pass g used before (out ∷ outs) [] h all = absurd h

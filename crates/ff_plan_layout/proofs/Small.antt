@@ -13,6 +13,7 @@ use Rattle.ff_plan_layout.specs.Order.{numbers, loop_fault}
 use Rattle.ff_plan_layout.specs.Pads.{Made, make_all, unlabelled}
 use Rattle.ff_plan_layout.specs.LaidOut.{outputs_from, layout_of, limited, laid_out, unused_label, simple_graphs}
 use Rattle.ff_plan_layout.specs.Rules.{Rules, Planned, behind, unless, where_so}
+use Rattle.ff_plan_layout.specs.Sources.{sources_of, sources_fault}
 use Rattle.ff_plan_layout.specs.Streams.{Inside, Passed}
 use Rattle.ff_plan_layout.proofs.Sizes.{joined_length, row_length, map_length}
 use Rattle.ff_plan_layout.proofs.Results.{not_ok, same_ok, behind_ok, unless_ok}
@@ -48,11 +49,22 @@ pub few : (rules : Rules) (job : Job) (heads : List (List StreamHead)) (l : Layo
 few rules job heads l h =
     let inside : List Made → Inside = λ made. record { heads = heads; graphs = job.graphs; made = made } in
     let outs_of : List Made → Planned (List (List Passed)) = λ made. outputs_from rules (record { heads = heads; graphs = job.graphs; made = made }) 0 (length job.graphs) (taken_labels job.graphs) (unlabelled made (numbers job.graphs)) job.outputs in
-    let m = behind_ok (make_all rules heads job.graphs) (λ made. behind (outs_of made) (λ outs. limited rules job heads made outs)) l (unless_ok (loop_fault rules job.graphs) _ l (unless_ok (labels_fault rules heads job.graphs) _ l h)) in
+    let last : Planned Layout = behind (make_all rules heads job.graphs) (λ made. behind (outs_of made) (λ outs. limited rules job heads made outs)) in
+    let sound : Planned Layout = unless (sources_fault rules 0 job.graphs) last in
+    let next : Planned Layout = unless (loop_fault rules job.graphs) sound in
+    let named = unless_ok (labels_fault rules heads job.graphs) next l h in
+    let unlooped = unless_ok (loop_fault rules job.graphs) sound l named in
+    let m = behind_ok (make_all rules heads job.graphs) (λ made. behind (outs_of made) (λ outs. limited rules job heads made outs)) l (unless_ok (sources_fault rules 0 job.graphs) last l unlooped) in
     let o = behind_ok (outs_of m.0) (λ outs. limited rules job heads m.0 outs) l m.2 in
     let count = length (flat_map (λ (ps : List Passed). ps) o.0) in
-    let at = unless_ok (unused_label job) _ l o.2 in
-    let small : count ≤ 16 = where_none count fault.TooManyStreams (unless_none (where_so (nat_lt 16 count) fault.TooManyStreams) _ l at) in
-    let is = unless_ok (where_so (nat_lt 16 (length job.graphs + simple_graphs o.0)) fault.TooManyGraphs) _ l (unless_ok (where_so (nat_lt 16 count) fault.TooManyStreams) _ l at) in
+    let streams = where_so (nat_lt 16 count) fault.TooManyStreams in
+    let wide = where_so (nat_lt 16 (length job.graphs + simple_graphs o.0)) fault.TooManyGraphs in
+    let deep = where_so (nat_lt 16 (length heads + length (sources_of rules job.graphs))) fault.TooManySources in
+    let done : Planned Layout = Ok (layout_of rules job heads m.0 o.0) in
+    let shallow : Planned Layout = unless deep done in
+    let narrow : Planned Layout = unless wide shallow in
+    let at = unless_ok (unused_label job) (unless streams narrow) l o.2 in
+    let small : count ≤ 16 = where_none count fault.TooManyStreams (unless_none streams narrow l at) in
+    let is = unless_ok deep done l (unless_ok wide shallow l (unless_ok streams narrow l at)) in
     let many = as_many 0 0 o.0 in
     subst (λ (l : Layout). length (placed l) ≤ 16) (same_ok (layout_of rules job heads m.0 o.0) l is) (omega (arith, many, small))

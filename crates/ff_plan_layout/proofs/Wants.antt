@@ -1,5 +1,5 @@
 -- Which streams pads took, and the first that passes a test.
-use Rattle.std.proofs.Common.{◌≡◌, ℕ, ◌+◌, ◌<◌, ◌||◌, Bool, true, false, List, [], ◌∷◌, ◌++◌, drop, length, get_or, refl, sym, ap, ◌∙◌}
+use Rattle.std.proofs.Common.{◌≡◌, ℕ, ◌+◌, ◌<◌, ◌||◌, Bool, true, false, List, [], ◌∷◌, ◌++◌, drop, length, get_or, refl, sym, ap, ◌∙◌, arith}
 use Rattle.std.proofs.lemmas.List.Folds.{find-append}
 use Rattle.std.specs.Prelude.{Option}
 use Rattle.std.specs.Option.{option_or}
@@ -13,6 +13,8 @@ use Rattle.ff_plan_layout.specs.Layout.{same_ref}
 use Rattle.ff_plan_layout.specs.Pads.{Want, is_taken}
 use Rattle.ff_plan_layout.specs.declared.layout.Want.TheVariants.{KnownStream, Labelled, Nothing}
 use Rattle.ff_plan_layout.specs.Rows.{flat}
+use Rattle.ff_stream.specs.edges.Ports.{tally}
+use Rattle.ff_plan_layout.proofs.Counts.{tally_joined}
 use Rattle.ff_plan_layout.proofs.Fronts.{drop_next}
 
 or_step : (a b c d : Bool) → b ≡ (c || d) → (a || b) ≡ ((a || c) || d)
@@ -32,6 +34,16 @@ rows_next rows n row k b whole lt at here w =
     let rest = drop (n + 1) rows in
     ap (λ (x : Bool). x || is_taken (flat rest) k) (sym here) ∙ (sym (taken_append row (flat rest) k)
     ∙ (ap (λ (r : List Want). is_taken (r ++ flat rest) k) at ∙ (ap (λ (rs : List (List Want)). is_taken (flat rs) k) (sym (drop_next rows n row lt)) ∙ w)))
+
+-- how many pass a test, with the next row
+pub rows_counted : (p : Want → Bool) (rows : List (List Want)) (n : ℕ) (row : List Want) (before here whole : ℕ) → n < length rows → row ≡ get_or rows n row → here ≡ tally p row
+    → before + tally p (flat (drop n rows)) ≡ whole → (before + here) + tally p (flat (drop (n + 1) rows)) ≡ whole
+rows_counted p rows n row before here whole lt at is w =
+    let rest = flat (drop (n + 1) rows) in
+    let next : tally p (flat (drop n rows)) ≡ tally p (row ++ rest) =
+    ap (λ (rs : List (List Want)). tally p (flat rs)) (drop_next rows n row lt) ∙ ap (λ (r : List Want). tally p (r ++ rest)) (sym at) in
+    let both = tally_joined p row rest in
+    omega (arith, is, w, next, both)
 
 -- the first of an input's streams, else of those behind
 pub streams_next : (p : Stream → Bool) (heads : List (Vec StreamHead Global)) (n : ℕ) (x : Vec StreamHead Global) (hs : List StreamHead) (found whole : Option Stream) → n < length heads → x ≡ get_or heads n x

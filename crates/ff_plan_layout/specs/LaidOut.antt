@@ -13,6 +13,7 @@ use Rattle.ff_plan_layout.specs.Layout.{Layout}
 use Rattle.ff_plan_layout.specs.Order.{numbers, loop_fault}
 use Rattle.ff_plan_layout.specs.Pads.{Made, make_all, unlabelled}
 use Rattle.ff_plan_layout.specs.Rules.{Rules, Planned, behind, unless, where_so}
+use Rattle.ff_plan_layout.specs.Sources.{sources_of, sources_fault}
 use Rattle.ff_plan_layout.specs.Texts.{Complex, texts_from}
 use Rattle.ff_plan_layout.specs.Streams.{Inside, Passed, chosen, all_passed, graph_of, label_in, front_with}
 
@@ -44,6 +45,7 @@ simple_graphs outs = length (flat_map (λ ps. flat_map graph_of ps) outs)
 abbrev pub layout_of : Rules → Job → List (List StreamHead) → List Made → List (List Passed) → Layout
 layout_of rules job heads made outs = record {
   heads = heads;
+  made = sources_of rules job.graphs;
   graphs = map (λ m. m.laid) made ++ flat_map (λ ps. flat_map graph_of ps) outs;
   outputs = map (λ ps. map (λ p. p.what) ps) outs;
   texts = map (λ g. Complex g) (numbers job.graphs) ++ texts_from 0 job.outputs outs;
@@ -54,17 +56,19 @@ limited rules job heads made outs =
     unless (unused_label job)
     (unless (where_so (nat_lt 16 (length (flat_map (λ ps. ps) outs))) fault.TooManyStreams)
     (unless (where_so (nat_lt 16 (length job.graphs + simple_graphs outs)) fault.TooManyGraphs)
-    (Ok (layout_of rules job heads made outs))))
+    (unless (where_so (nat_lt 16 (length heads + length (sources_of rules job.graphs))) fault.TooManySources)
+    (Ok (layout_of rules job heads made outs)))))
 
--- names and labels of complex graphs, loops, their heads, the outputs, and the limits
+-- names and labels of complex graphs, loops, source filters, their heads, the outputs, and the limits
 abbrev pub laid_out : Rules → Job → List (List StreamHead) → Planned Layout
 laid_out rules job heads =
     unless (labels_fault rules heads job.graphs)
     (unless (loop_fault rules job.graphs)
+    (unless (sources_fault rules 0 job.graphs)
     (behind (make_all rules heads job.graphs) (λ made.
     behind (outputs_from rules (record {
       heads = heads;
       graphs = job.graphs;
       made = made;
     }) 0 (length job.graphs) (taken_labels job.graphs) (unlabelled made (numbers job.graphs)) job.outputs) (λ outs.
-    limited rules job heads made outs))))
+    limited rules job heads made outs)))))

@@ -5,6 +5,8 @@ use Rattle.ff_frame.specs.declared.head.StreamHead.{StreamHead}
 use Rattle.ff_words.specs.declared.maps.streams.Stream.{Stream}
 use Rattle.ff_words.specs.declared.maps.streams.StreamRef.{StreamRef}
 use Rattle.ff_words.specs.maps.Choice.{all_streams}
+use Rattle.ff_source.specs.declared.made.Made.{Made}
+use Rattle.ff_plan_layout.specs.Sources.{source_streams}
 pub use Rattle.ff_plan_layout.specs.declared.layout.Laid.{Laid}
 use Rattle.ff_plan_layout.specs.declared.layout.Origin.{Origin}
 use Rattle.ff_plan_layout.specs.declared.layout.Origin.TheVariants as origin
@@ -23,10 +25,11 @@ pub record EachOnce (ps : List ℕ) : Type 0 where
   pub below : (q : ℕ) → IsAmong q ps → q < length ps
   pub distinct : IsDistinct (λ p q. p == q) ps
 
--- Heads by input and stream; graphs in the order of their nodes; streams by output; by number where the text of each graph
--- stands.
+-- Heads by input and stream; what source filters make; graphs in the order of their nodes; streams by output; by number where
+-- the text of each graph stands.
 pub record Layout : Type 0 where
   pub heads : List (List StreamHead)
+  pub made : List Made
   pub graphs : List Laid
   pub outputs : List (List OutStream)
   pub texts : List GraphText
@@ -55,20 +58,31 @@ abbrev pub shows : StreamRef → Origin → Bool
 shows s (origin.Stream r) = same_ref s r
 shows s (origin.Pad g p) = false
 
--- the streams that are used, by input and stream
+-- the streams of source filters, then those of inputs, by input and stream
+abbrev pub streams : Layout → List Stream
+streams l = source_streams (length l.heads) l.made ++ all_streams l.heads
+
+abbrev pub is_shown : Layout → Stream → Bool
+is_shown l s = list_any (shows s.at) (origins l)
+
+-- those that are used
 abbrev pub used : Layout → List Stream
-used l = filter (λ s. list_any (shows s.at) (origins l)) (all_streams l.heads)
+used l = filter (is_shown l) (streams l)
+
+-- those of inputs that are used
+abbrev pub read : Layout → List Stream
+read l = filter (is_shown l) (all_streams l.heads)
 
 abbrev pub is_used : Layout → ℕ → Bool
-is_used l i = list_any (λ s. s.at.input == i) (used l)
+is_used l i = list_any (λ s. s.at.input == i) (read l)
 
 -- the inputs that are used
 abbrev pub used_inputs : Layout → List ℕ
 used_inputs l = filter (is_used l) (range_with_len 0 (length l.heads))
 
--- the origin is there: a stream by its input's heads, a graph before this one in the order of nodes
+-- the origin is there: a stream of an input or of a source filter, a graph before this one in the order of nodes
 abbrev pub IsThere : Layout → ℕ → Origin → Type 0
-IsThere l before (origin.Stream s) = (k : Stream) × IsAmong k (all_streams l.heads) × (k.at ≡ s)
+IsThere l before (origin.Stream s) = (k : Stream) × IsAmong k (streams l) × (k.at ≡ s)
 IsThere l before (origin.Pad g p) = position_or_len (λ x. x.graph == g) l.graphs < before
 
 -- a layout whose origins are all there, each graph after those that feed it

@@ -13,5 +13,6 @@ pub mod Picking
 pub mod Refusals
 pub mod Rows
 pub mod Rules
+pub mod Sources
 pub mod Streams
 pub mod Texts

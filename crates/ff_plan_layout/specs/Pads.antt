@@ -1,9 +1,11 @@
 -- Which stream each open input pad of the complex graphs gets, and the graphs with their heads.
-use Rattle.std.specs.Prelude.{ℕ, suc, ◌==◌, ◌&&◌, ◌||◌, Bool, false, not, List, [], ◌∷◌, ◌++◌, map, slice_get, slice_index_or, Option, Some, None, Result, Ok, Err}
+use Rattle.std.specs.Prelude.{ℕ, suc, ◌==◌, ◌&&◌, ◌||◌, nat_le, Bool, false, not, List, [], ◌∷◌, ◌++◌, length, map, slice_get, slice_index_or, Option, Some, None, Result, Ok, Err}
 use Rattle.std.specs.List.{find, filter_map, flat_map, position_or_len, cons_option}
 use Rattle.std.specs.Str.{bytes_eq}
 use Rattle.ff_frame.specs.declared.head.StreamHead.{StreamHead}
 use Rattle.ff_lang.specs.declared.graph.Graph.{Graph}
+use Rattle.ff_source.specs.declared.made.Made.{Made as SourceMade}
+use Rattle.ff_stream.specs.edges.Ports.{tally}
 use Rattle.ff_words.specs.declared.maps.map.Kind.{Kind}
 use Rattle.ff_plan_layout.specs.declared.error.PlanError.TheVariants as fault
 use Rattle.ff_plan_layout.specs.Labels.{giver, stream_of_label}
@@ -17,6 +19,7 @@ use Rattle.ff_plan_layout.specs.declared.layout.Origin.TheVariants as origin
 use Rattle.ff_plan_layout.specs.Layout.{same_ref}
 use Rattle.ff_graph_links.specs.labels.Order.{graph_order}
 use Rattle.ff_plan_layout.specs.Rules.{Rules, OpenIn, OpenOut, Refused, Planned, behind}
+use Rattle.ff_plan_layout.specs.Sources.{made_at_pad, sources_of, source_streams}
 
 abbrev pub known_or_nothing : Option Stream → Want
 known_or_nothing None = Nothing
@@ -41,19 +44,34 @@ abbrev pub want_of : Rules → List (List StreamHead) → List Graph → List Wa
 want_of rules heads graphs before k (Some label) = want_of_giver (stream_of_label rules heads label) label (giver graphs label)
 want_of rules heads graphs before k None = known_or_nothing (find (is_free k before) (all_streams heads))
 
-abbrev pub wants_of : Rules → List (List StreamHead) → List Graph → List Want → List OpenIn → List Want
-wants_of rules heads graphs before [] = []
-wants_of rules heads graphs before (i ∷ is) = want_of rules heads graphs before i.kind i.label ∷ wants_of rules heads graphs (before
-    ++ want_of rules heads graphs before i.kind i.label ∷ []) is
+-- whether this is a stream of a source filter, behind so many inputs
+abbrev pub is_source : ℕ → Want → Bool
+is_source n (KnownStream k) = nat_le n k.at.input
+is_source n (Labelled g l) = false
+is_source n Nothing = false
+
+-- where a source filter makes something at the pad, the stream of the next of them
+abbrev pub want_by : Rules → List Stream → List (List StreamHead) → List Graph → List Want → OpenIn → Option SourceMade → Want
+want_by rules sources heads graphs before i None = want_of rules heads graphs before i.kind i.label
+want_by rules sources heads graphs before i (Some m) = known_or_nothing (slice_get sources (tally (is_source (length heads)) before))
+
+abbrev pub want_at : Rules → List Stream → List (List StreamHead) → List Graph → List Want → OpenIn → Want
+want_at rules sources heads graphs before i = want_by rules sources heads graphs before i (made_at_pad i)
+
+abbrev pub wants_of : Rules → List Stream → List (List StreamHead) → List Graph → List Want → List OpenIn → List Want
+wants_of rules sources heads graphs before [] = []
+wants_of rules sources heads graphs before (i ∷ is) =
+    want_at rules sources heads graphs before i ∷ wants_of rules sources heads graphs (before ++ want_at rules sources heads graphs before i ∷ []) is
 
 -- of all graphs by number
-abbrev pub wants_from : Rules → List (List StreamHead) → List Graph → List Want → List Graph → List (List Want)
-wants_from rules heads graphs before [] = []
-wants_from rules heads graphs before (g ∷ gs) =
-    wants_of rules heads graphs before (rules.open_ins g) ∷ wants_from rules heads graphs (before ++ wants_of rules heads graphs before (rules.open_ins g)) gs
+abbrev pub wants_from : Rules → List Stream → List (List StreamHead) → List Graph → List Want → List Graph → List (List Want)
+wants_from rules sources heads graphs before [] = []
+wants_from rules sources heads graphs before (g ∷ gs) =
+    wants_of rules sources heads graphs before (rules.open_ins g)
+    ∷ wants_from rules sources heads graphs (before ++ wants_of rules sources heads graphs before (rules.open_ins g)) gs
 
 abbrev pub all_wants : Rules → List (List StreamHead) → List Graph → List (List Want)
-all_wants rules heads graphs = wants_from rules heads graphs [] graphs
+all_wants rules heads graphs = wants_from rules (source_streams (length heads) (sources_of rules graphs)) heads graphs [] graphs
 
 -- whether a pad's label is this one
 abbrev pub label_is : List ℕ → Option (List ℕ) → Bool

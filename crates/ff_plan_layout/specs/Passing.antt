@@ -16,6 +16,7 @@ use Rattle.ff_plan_layout.specs.Order.{numbers}
 use Rattle.ff_plan_layout.specs.Pads.{Made, unlabelled}
 use Rattle.ff_plan_layout.specs.LaidOut.{outputs_from, simple_graphs}
 use Rattle.ff_plan_layout.specs.Rules.{Rules, Planned, or_else, where_so}
+use Rattle.ff_plan_layout.specs.Sources.{source_pad}
 use Rattle.ff_plan_layout.specs.Streams.{Passed, graph_of}
 
 -- what is wrong with a simple graph of this number before its filters are had
@@ -23,13 +24,18 @@ abbrev pub simple_fault : Rules → ℕ → Graph → Option PlanError
 simple_fault rules g graph =
     or_else (refused (twice_in [] [] (filters_of graph)))
     (or_else (refused (unknown_filter rules.known g 0 (filters_of graph)))
-    (or_else (where_so (rules.loops graph) (fault.Loop g)) (where_so (not (length (rules.open_ins graph) == 1)) (fault.Config g 0 config.Pads))))
+    (or_else (where_so (rules.loops graph) (fault.Loop g))
+    (or_else (where_so (not (length (rules.open_ins graph) == 1)) (fault.Config g 0 config.Pads)) (source_pad g (rules.open_ins graph)))))
 
 -- too many streams of outputs, or with so many complex ones too many graphs
 abbrev pub count_fault : ℕ → List (List Passed) → Option PlanError
 count_fault graphs outs =
     or_else (where_so (nat_lt 16 (length (flat_map (λ ps. ps) outs))) fault.TooManyStreams)
     (where_so (nat_lt 16 (graphs + simple_graphs outs)) fault.TooManyGraphs)
+
+-- inputs and sources that are too many together
+abbrev pub source_count_fault : ℕ → ℕ → Option PlanError
+source_count_fault inputs sources = where_so (nat_lt 16 (inputs + sources)) fault.TooManySources
 
 -- the simple graphs and the streams of outputs
 abbrev pub laid_by : List (List Passed) → List Laid

@@ -18,4 +18,4 @@ rows outs = map (λ (v : Vec OutStream Global). v.items) outs
 
 -- as a layout, for inputs with these heads
 abbrev pub layout_in : List (List StreamHead) → Laying → Layout
-layout_in heads l = record { heads = heads; graphs = l.graphs.items; outputs = rows l.outputs.items; texts = l.texts.items }
+layout_in heads l = record { heads = heads; made = l.made.items; graphs = l.graphs.items; outputs = rows l.outputs.items; texts = l.texts.items }

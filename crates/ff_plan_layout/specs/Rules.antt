@@ -9,13 +9,15 @@ pub use Rattle.ff_plan_layout.specs.declared.open_pads.Refused.{Refused}
 use Rattle.ff_plan_layout.specs.declared.error.PlanError.{PlanError}
 
 -- Of ff_words the map that a text is, of ff_graph the rest: whether a filter's name is known, whether the filters of a graph
--- feed each other in a loop, its open input pads in the order of writing, and its open output pads with their heads where the
--- open input pads have these heads (None where a pad found no stream), or the refusal that comes first.
+-- feed each other in a loop, its open input pads in the order of writing, the refusal of its first source filter whose
+-- arguments are refused, and its open output pads with their heads where the open input pads have these heads (None where a pad
+-- found no stream), or the refusal that comes first.
 pub record Rules : Type 0 where
   pub map_of : List ℕ → Option MapSpec
   pub known : List ℕ → Bool
   pub loops : Graph → Bool
   pub open_ins : Graph → List OpenIn
+  pub source_fault : Graph → Option Refused
   pub configured : Graph → List (Option StreamHead) → Result (List OpenOut) Refused
 
 abbrev pub Planned : Type 0 → Type 0

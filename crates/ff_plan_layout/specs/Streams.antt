@@ -38,6 +38,7 @@ use Rattle.ff_plan_layout.specs.Asking.{is_as_asked}
 use Rattle.ff_plan_layout.specs.Layout.{Laid}
 use Rattle.ff_plan_layout.specs.Pads.{Made, made_at, labelled_out}
 use Rattle.ff_plan_layout.specs.Rules.{Rules, OpenOut, Refused, Planned, behind, unless, where_so}
+use Rattle.ff_plan_layout.specs.Sources.{source_pad}
 
 -- what was made before the outputs
 pub record Inside : Type 0 where
@@ -182,7 +183,8 @@ simply rules out g i graph =
     (unless (refused (unknown_filter rules.known g 0 (filters_of graph)))
     (unless (where_so (rules.loops graph) (fault.Loop g))
     (unless (where_so (not (length (rules.open_ins graph) == 1)) (fault.Config g 0 config.Pads))
-    (behind (configured_simple g (rules.configured graph (Some i.head ∷ []))) (through out g i)))))
+    (unless (source_pad g (rules.open_ins graph))
+    (behind (configured_simple g (rules.configured graph (Some i.head ∷ []))) (through out g i))))))
 
 abbrev pub null_name : Kind → List ℕ
 null_name kind.Audio = codes "anull"

@@ -49,6 +49,8 @@ pub enum PlanError {
     TooManyStreams,
     /// More than 16 graphs.
     TooManyGraphs,
+    /// More than 16 inputs and source filters together.
+    TooManySources,
     /// There was no memory.
     NoMemory,
 }

@@ -26,6 +26,10 @@ pub trait Filtering {
         ensures pads { IfOk result (λ pads. pads ≡ (rules self.now).open_ins graph.now) }
         ensures few { IfOk result (λ pads. length pads ≤ 2 ^ 20) };
 
+    /// The refusal of the first source filter of a graph, in the order of writing, whose arguments are refused.
+    fn source_fault(&self, alloc: Global, graph: &Graph) -> Result<Option<Refused>, AllocError>
+        ensures { IfOk result (λ fault. fault ≡ (rules self.now).source_fault graph.now) };
+
     /// The open output pads of a graph whose open input pads have these heads, none where a pad found no stream. Else
     /// it is the refusal that comes first.
     fn configured(

@@ -23,6 +23,7 @@ use crate::naming::{check_graphs, check_loops};
 use crate::output_rows::{check_counts, output_rows};
 use crate::passing::simple_graph;
 use crate::ready::Ready;
+use crate::sources::{check_source_count, check_sources, sources_of};
 use crate::takes::kind_of;
 use ff_frame::StreamHead;
 use ff_graph_links::{orders_are_whole, orders_go_upward};
@@ -154,9 +155,10 @@ fn add_streams(all: &mut Vec<Vec<OutStream>>, streams: Vec<OutStream>) -> Result
     Ok(())
 }
 
-// Complex graphs and the rows of outputs, laid apart.
+// Sources, complex graphs and the rows of outputs, laid apart.
 fn laid_apart(
     alloc: Global,
+    sources: Vec<ff_source::Made>,
     made: Vec<Made>,
     rows: Vec<Sequence<Passed>>,
     texts: Vec<GraphText>,
@@ -164,6 +166,7 @@ fn laid_apart(
     ensures graphs { IfOk result (λ l. l.graphs.items ≡ map (λ (m : Built). m.laid) made.items ++ laid_by rows.items) }
     ensures outputs { IfOk result (λ l. rows_in l.outputs.items ≡ streams_by rows.items) }
     ensures texts { IfOk result (λ l. l.texts.items ≡ texts.items) }
+    ensures made { IfOk result (λ l. l.made.items ≡ sources.items) }
 {
     let mut graphs = laid_graphs(alloc, made)?;
     let mut outputs = Vec::new(alloc);
@@ -172,6 +175,7 @@ fn laid_apart(
         add_streams(&mut outputs, streams)?;
     }
     Ok(Laying {
+        made: sources,
         graphs,
         outputs,
         texts,
@@ -209,9 +213,9 @@ fn rows_behind<F: Filtering>(
 }
 
 /// The graphs of a job, the streams of its outputs and the strings of all graphs, or the refusal that comes first.
-/// Refusals come in this order: of names and labels of complex graphs, of loops, of their heads, and of each output
-/// in turn. Then come those of labels that nothing uses, and of too many streams or graphs. `NoMemory` may come in
-/// place of any answer.
+/// Refusals come in this order: of names and labels of complex graphs, of loops, of source filters, of the heads of
+/// graphs, and of each output in turn. Then come those of labels that nothing uses, and of too many streams, graphs or
+/// sources. `NoMemory` may come in place of any answer.
 pub fn lay_out<F: Filtering>(
     alloc: Global,
     filtering: &F,
@@ -233,10 +237,13 @@ pub fn lay_out<F: Filtering>(
     let outs = job.outputs.as_slice();
     check_graphs(alloc, filtering, heads, graphs)?;
     check_loops(alloc, filtering, graphs)?;
-    let made = make_all(alloc, filtering, heads, graphs)?;
+    check_sources(alloc, filtering, graphs)?;
+    let sources = sources_of(alloc, filtering, graphs)?;
+    let made = make_all(alloc, filtering, sources.as_slice(), heads, graphs)?;
     let rows = rows_behind(alloc, filtering, heads, graphs, made.as_slice(), outs)?;
     check_unused(alloc, graphs, outs)?;
     check_counts(graphs.len(), rows.as_slice())?;
+    check_source_count(heads.len(), sources.as_slice().len())?;
     let texts = all_texts(alloc, graphs.len() as u32, outs, rows.as_slice())?;
-    Ok(laid_apart(alloc, made, rows, texts)?)
+    Ok(laid_apart(alloc, sources, made, rows, texts)?)
 }

@@ -99,6 +99,8 @@ pub enum GraphText {
 /// What a plan is made of, before its nodes are numbered.
 #[derive(Drop)]
 pub struct Laying {
+    /// What the source filters of complex graphs make, by graph and pad.
+    pub made: Vec<ff_source::Made>,
     /// The graphs in the order of their nodes.
     pub graphs: Vec<Laid>,
     /// The streams of each output.

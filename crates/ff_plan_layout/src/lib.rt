@@ -29,6 +29,7 @@ mod passing;
 mod picking;
 mod places;
 mod ready;
+mod sources;
 mod takes;
 mod wanting;
 
@@ -37,6 +38,6 @@ pub use filtering::Filtering;
 pub use laying::lay_out;
 pub use layout::{GraphText, InPad, Laid, Laying, Made, Origin, OutStream, Passed, Placed, Want};
 pub use limits::is_within_limits;
-pub use open_pads::{OpenIn, OpenOut, Refused};
+pub use open_pads::{OpenIn, OpenOut, Refused, SourcePad};
 pub use passing::simple_graph;
 pub use places::{same_ref, stream_at};

@@ -7,11 +7,13 @@ ghost use Rattle.ff_plan_layout.specs.Pads.{configure as as_configured, make_fro
 ghost use Rattle.ff_plan_layout.specs.Refusals.{IsRefused};
 ghost use Rattle.ff_plan_layout.specs.Limits.{HasFewIns, IsFewWants};
 ghost use Rattle.ff_plan_layout.specs.Limits.{HasFewPads};
+ghost use Rattle.ff_plan_layout.specs.Sources.{sources_of};
 
 use crate::error::PlanError;
 use crate::filtering::Filtering;
 use crate::layout::{InPad, Laid, Made, Origin, Want};
 use crate::open_pads::OpenOut;
+use crate::sources::source_streams;
 use crate::wanting::all_wants;
 use ff_frame::StreamHead;
 use ff_graph_links::graphs_in_order;
@@ -223,14 +225,17 @@ fn make_in_order<F: Filtering>(
     Ok(made)
 }
 
-/// All complex graphs in the order of their nodes.
+/// All complex graphs in the order of their nodes, where their source filters make these.
 pub(crate) fn make_all<F: Filtering>(
     alloc: Global,
     filtering: &F,
+    sources: &[ff_source::Made],
     heads: &[Vec<StreamHead>],
     graphs: &[Graph],
 ) -> Result<Vec<Made>, PlanError>
-    requires inputs { length heads.now < 2 ^ 32 }
+    requires sources { sources.now ≡ sources_of (F.rules filtering.now) graphs.now }
+    requires few { length sources.now ≤ 2 ^ 24 }
+    requires inputs { length heads.now ≤ 16 }
     requires streams { AllByRecursion (λ v. vec_len v < 2 ^ 32) heads.now }
     requires graphs { length graphs.now ≤ 16 }
     ensures made { IfOk result (λ made. all_made (F.rules filtering.now) (lists heads.now) graphs.now ≡ Ok made.items) }
@@ -238,7 +243,8 @@ pub(crate) fn make_all<F: Filtering>(
     ensures few { IfOk result (λ made. AllByRecursion HasFewPads made.items) }
     ensures ins { IfOk result (λ made. AllByRecursion (λ m. HasFewIns m.laid) made.items) }
 {
-    let wants = all_wants(alloc, filtering, heads, graphs)?;
+    let streams = source_streams(alloc, heads.len(), sources)?;
+    let wants = all_wants(alloc, filtering, streams.as_slice(), heads, graphs)?;
     let order = graphs_in_order(alloc, graphs)?;
     make_in_order(alloc, filtering, graphs, wants.as_slice(), order.as_slice())
 }

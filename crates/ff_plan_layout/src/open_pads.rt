@@ -1,7 +1,17 @@
 //! The open pads of a graph, and the refusal of a filter.
 use ff_frame::{ConfigError, StreamHead};
 use ff_lang::Text;
+use ff_source::Made;
 use ff_words::maps::Kind;
+
+/// The source filter that an open input pad belongs to.
+#[derive(Clone, Copy, Debug)]
+pub struct SourcePad {
+    /// The number of the filter in the order of writing, from 0.
+    pub filter: u32,
+    /// What the filter makes; none where its arguments are refused.
+    pub made: Option<Made>,
+}
 
 /// An input pad of a graph that no filter of it feeds.
 #[derive(Debug, Drop)]
@@ -10,6 +20,8 @@ pub struct OpenIn {
     pub label: Option<Text>,
     /// The kind of stream that it takes.
     pub kind: Kind,
+    /// The source filter that it belongs to, if it is one's.
+    pub source: Option<SourcePad>,
 }
 
 /// An output pad of a graph that feeds no filter of it.

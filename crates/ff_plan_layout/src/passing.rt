@@ -8,6 +8,7 @@ ghost use Rattle.ff_plan_layout.specs.Refusals.{IsRefused, IsFault};
 ghost use Rattle.ff_plan_layout.specs.Limits.{IsShort, HasShortGraphs};
 ghost use Rattle.ff_plan_layout.specs.LaidOut.{graphs_of};
 ghost use Rattle.ff_plan_layout.specs.Rules.{where_so};
+ghost use Rattle.ff_plan_layout.specs.Sources.{source_pad, pads_of};
 ghost use Rattle.ff_plan_layout.specs.Streams.{simply as simply_passed, through as through_graph, as_it_is as unchanged, null_graph as graph_of_nothing, simple_of};
 ghost use Rattle.ff_plan_layout.specs.Streams.{null_name as name_of_null, packed_as as packed_by, passed as stream_passed};
 ghost use Rattle.ff_plan_layout.specs.Asking.{is_as_asked as is_so_asked};
@@ -18,7 +19,7 @@ use crate::error::PlanError;
 use crate::filtering::Filtering;
 use crate::layout::{InPad, Laid, Origin, OutStream, Passed};
 use crate::naming::refusal;
-use crate::open_pads::OpenOut;
+use crate::open_pads::{OpenOut, SourcePad};
 use crate::takes::{accepts, kind_of, packed_as};
 use ff_frame::ConfigError;
 use ff_graph_links::{Known, check_names, check_own_labels};
@@ -115,6 +116,37 @@ fn check_input<F: Filtering>(
     }
 }
 
+// The refusal of a source filter that begins a simple graph.
+fn no_source(number: u32, source: Option<SourcePad>) -> Result<(), PlanError>
+    ensures fine { IfOk result (λ _. pads_of number source ≡ None) }
+    ensures fault { IfErr result (IsFault (pads_of number source)) }
+{
+    match source {
+        Some(source) => Err(PlanError::Config {
+            graph: number,
+            filter: source.filter,
+            kind: ConfigError::Pads,
+        }),
+        None => Ok(()),
+    }
+}
+
+fn check_source<F: Filtering>(
+    alloc: Global,
+    filtering: &F,
+    number: u32,
+    graph: &Graph,
+) -> Result<(), PlanError>
+    ensures fine { IfOk result (λ _. source_pad number ((F.rules filtering.now).open_ins graph.now) ≡ None) }
+    ensures fault { IfErr result (IsFault (source_pad number ((F.rules filtering.now).open_ins graph.now))) }
+{
+    let pads = filtering.open_inputs(alloc, graph)?;
+    match pads.as_slice().first() {
+        Some(pad) => no_source(number, pad.source),
+        None => Ok(()),
+    }
+}
+
 // Looks at a simple graph before its filters are had.
 fn check_simple<F: Filtering>(
     alloc: Global,
@@ -129,7 +161,8 @@ fn check_simple<F: Filtering>(
     check_labels(alloc, graph)?;
     check_filters(filtering, number, graph)?;
     check_loop(alloc, filtering, number, graph)?;
-    check_input(alloc, filtering, number, graph)
+    check_input(alloc, filtering, number, graph)?;
+    check_source(alloc, filtering, number, graph)
 }
 
 fn shown(out: &OutputJob, pad: &InPad) -> OutStream

@@ -24,7 +24,7 @@ use Rattle.ff_graph.specs.Drawings.{seen_as, seen_chain, seen_chains, seen_graph
 use Rattle.ff_graph.specs.Opens as of_graph
 use Rattle.ff_graph.specs.Opens.{feeders_in, filter_order, sources_in, open_pads, open_in, open_ins_at}
 use Rattle.ff_graph.specs.Configured as of_graph_made
-use Rattle.ff_graph.specs.Configured.{Made, heads_into, leaves_over, stands_at, is_misfit, is_surplus, made_on, made_as, made_of, with_made, behind, make_from, none_made, make_all}
+use Rattle.ff_graph.specs.Configured.{Made, heads_into, leaves_over, stands_at, is_fed_source, is_misfit, is_surplus, made_on, made_as, made_of, with_made, behind, make_from, none_made, make_all}
 use Rattle.ff_graph.specs.Configured.{feeds_one, unless_fed, outs_at, outs_from, open_outs, outs_of as outs_by}
 use Rattle.ff_plan_layout.specs.declared.open_pads.OpenOut.{OpenOut}
 use Rattle.ff_plan_layout.specs.declared.open_pads.Refused.{Refused}
@@ -132,7 +132,9 @@ record IsFit (ds : List Seen) (k : ℕ) (d : Seen) : Type 0 where
 
 has_fit : (ds : List Seen) (k : ℕ) (d : Seen) → is_misfit ds (open_pads ds) k d ≡ false → IsFit ds k d
 has_fit ds k d e =
-    let last = or_false ((nat_lt d.inputs (length d.filter.ins) || leaves_over d (slice_get ds (k - 1))) || (k == 64)) (stands_at k (slice_get (open_pads ds) 16)) e in
+    let own = or_false ((nat_lt d.inputs (length d.filter.ins) || leaves_over d (slice_get ds (k - 1))) || (k == 64) || stands_at k (slice_get (open_pads ds) 16))
+    (is_fed_source (sources_in ds) k d) e in
+    let last = or_false ((nat_lt d.inputs (length d.filter.ins) || leaves_over d (slice_get ds (k - 1))) || (k == 64)) (stands_at k (slice_get (open_pads ds) 16)) own.0 in
     let front = or_false (nat_lt d.inputs (length d.filter.ins) || leaves_over d (slice_get ds (k - 1))) (k == 64) last.0 in
     let first = or_false (nat_lt d.inputs (length d.filter.ins)) (leaves_over d (slice_get ds (k - 1))) front.0 in
     let few : nat_lt d.inputs (length d.filter.ins) ≡ false = first.0 in
@@ -214,4 +216,4 @@ module _ (ds : List Seen) (given : List (Option StreamHead)) (m : Made) (order :
 
 pub opens_size : (g : Graph) → length (open_ins g) ≡ length (open_pads (seen_graph g))
 opens_size g =
-    length-map (of_graph.open_ins g) input_as ∙ length-map (open_pads (seen_graph g)) (λ (p : Pad). open_in p.pad (slice_get (seen_graph g) p.filter))
+    length-map (of_graph.open_ins g) input_as ∙ length-map (open_pads (seen_graph g)) (λ (p : Pad). open_in p (slice_get (seen_graph g) p.filter))

@@ -14,6 +14,7 @@ use Rattle.ff_graph.specs.Configured.{OpenOut, feeds_one, unless_fed, outs_at, o
 use Rattle.ff_plan_layout.specs.Graphs.{asks}
 use Rattle.ff_plan_layout.specs.Pads.{has_label, label_is}
 use Rattle.ff_plan_layout.specs.declared.open_pads.OpenIn.{OpenIn}
+use Rattle.ff_plan_layout.specs.declared.open_pads.SourcePad.{SourcePad}
 use Rattle.ff_plan_rules.specs.Rules.{input_as, output_as}
 use Rattle.ff_plan_rules.proofs.Lists.{never, tally_joined, tally_map, tally_left, turn_text}
 use Rattle.ff_plan_rules.proofs.Given.{all_ins, all_outs, HasPads, giver_some}
@@ -31,14 +32,15 @@ both_of false m n = refl
 
 module _ (ds : List Seen) (label : List ℕ) where
   abbrev asked_at : Pad → Bool
-  asked_at p = asks label (input_as (open_in p.pad (slice_get ds p.filter)))
+  asked_at p = asks label (input_as (open_in p (slice_get ds p.filter)))
 
   at_pad : (k i : ℕ) (d : Seen) (l : Option (List ℕ)) → slice_get ds k ≡ Some d → slice_get d.filter.ins i ≡ l
-      → (r : Bool) → ((x : Kind) → (let o : OpenIn = record { label = l; kind = x } in asks label o) ≡ r) → asked_at (record { filter = k; pad = i }) ≡ r
+      → (r : Bool) → ((x : Kind) (s : Option SourcePad) → (let o : OpenIn = record { label = l; kind = x; source = s } in asks label o) ≡ r) → asked_at (record { filter = k; pad = i }) ≡ r
   at_pad k i d l e f r is =
-      ap (λ (o : Option Seen). asks label (input_as (open_in i o))) e
-      ∙ (ap (λ (o : Option (List ℕ)). let n : OpenIn = record { label = o; kind = (input_as (open_in i (Some d))).kind } in asks label n) f
-      ∙ is (input_as (open_in i (Some d))).kind)
+      let p : Pad = record { filter = k; pad = i } in
+      let own : OpenIn = input_as (open_in p (Some d)) in
+      ap (λ (o : Option Seen). asks label (input_as (open_in p o))) e
+      ∙ (ap (λ (o : Option (List ℕ)). let n : OpenIn = record { label = o; kind = own.kind; source = own.source } in asks label n) f ∙ is own.kind own.source)
 
   -- one pad more, which has this label
   with_label : (k i : ℕ) (l : List ℕ) (ss : List (Option Pad)) (rest : List (List ℕ)) → asked_at (record { filter = k; pad = i }) ≡ bytes_eq label l
@@ -64,7 +66,7 @@ module _ (ds : List Seen) (label : List ℕ) where
   ins_up k d i (suc n) [] e same long =
       let here : i + 0 ≡ i = omega arith in
       let none : slice_get d.filter.ins i ≡ None = subst (λ (m : ℕ). slice_get d.filter.ins m ≡ None) here (same 0) in
-      without_label k i (sources_up ds k d (suc i) n) 0 (at_pad k i d None e none false (λ x. refl))
+      without_label k i (sources_up ds k d (suc i) n) 0 (at_pad k i d None e none false (λ x s. refl))
       (ins_up k d (suc i) n [] e (λ j. let more : i + suc j ≡ suc i + j = omega arith in
       subst (λ (m : ℕ). slice_get d.filter.ins m ≡ None) more (same (suc j))) (omega arith)) (source_of ds k d i)
   ins_up k d i (suc n) (l ∷ ls) e same long =
@@ -72,7 +74,7 @@ module _ (ds : List Seen) (label : List ℕ) where
       let own : slice_get d.filter.ins i ≡ Some l = subst (λ (m : ℕ). slice_get d.filter.ins m ≡ Some l) here (same 0) in
       ap (λ (o : Option Pad). tally asked_at (opens_at k i (o ∷ sources_up ds k d (suc i) n))) (ap (λ (o : Option (List ℕ)). source_by ds k d i o) own)
       ∙ with_label k i l (sources_up ds k d (suc i) n) (filter (λ t. not (is_one_of t (all_outs ds))) ls)
-      (at_pad k i d (Some l) e own (bytes_eq label l) (λ x. turn_text l label))
+      (at_pad k i d (Some l) e own (bytes_eq label l) (λ x s. turn_text l label))
       (ins_up k d (suc i) n ls e (λ j. let more : i + suc j ≡ suc i + j = omega arith in
       subst (λ (m : ℕ). slice_get d.filter.ins m ≡ slice_get ls j) more (same (suc j))) (omega (arith, long)))
       (giver_from 0 ds l) (is_one_of l (all_outs ds)) (giver_some 0 ds l)
@@ -100,7 +102,7 @@ module _ (ds : List Seen) (label : List ℕ) where
       → tally (asks label) (map input_as (open_ins_at ds (open_pads ds))) ≡ tally (bytes_eq label) (filter (λ l. not (is_one_of l (all_outs ds))) (all_ins ds))
   ins_are all =
       tally_map (asks label) input_as (open_ins_at ds (open_pads ds))
-      ∙ (tally_map (λ i. asks label (input_as i)) (λ (p : Pad). open_in p.pad (slice_get ds p.filter)) (open_pads ds)
+      ∙ (tally_map (λ i. asks label (input_as i)) (λ (p : Pad). open_in p (slice_get ds p.filter)) (open_pads ds)
       ∙ (ins_from 0 ds (λ j. let z : 0 + j ≡ j = omega arith in ap (λ (m : ℕ). slice_get ds m) z) all
       ∙ sym (tally_left label (λ l. is_one_of l (all_outs ds)) (all_ins ds))))
 

@@ -1,5 +1,5 @@
 -- The rules of filters and maps that the product's plans go by.
-use Rattle.std.specs.Prelude.{Bool, true, false, ◌||◌, nat_eq, if◌then◌else◌, List, length, map, Option, Result, Ok, Err}
+use Rattle.std.specs.Prelude.{Bool, true, false, ◌||◌, nat_eq, if◌then◌else◌, List, length, map, Option, None, Result, Ok, Err}
 use Rattle.ff_frame.specs.declared.config.ConfigError.TheVariants.{Pads}
 use Rattle.ff_frame.specs.declared.head.StreamHead.{StreamHead}
 use Rattle.ff_lang.specs.declared.graph.Graph.{Graph}
@@ -20,7 +20,7 @@ kind_by true = Audio
 kind_by false = Video
 
 abbrev pub input_as : of_graph.OpenIn → OpenIn
-input_as i = record { label = i.label; kind = kind_by i.sound }
+input_as i = record { label = i.label; kind = kind_by i.sound; source = None }
 
 abbrev pub output_as : of_graph_made.OpenOut → OpenOut
 output_as o = record { label = o.label; head = o.head }
@@ -51,5 +51,6 @@ graph_rules = record {
   known = of_graph.is_known;
   loops = of_graph.loops;
   open_ins = open_ins;
+  source_fault = λ g. None;
   configured = configured;
 }

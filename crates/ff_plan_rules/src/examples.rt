@@ -16,7 +16,7 @@ pub fn some_maps()
 /// Video side by side, and video of which one has no stream.
 pub fn two_pictures()
     ensures inputs { graph_rules.open_ins (alone (codes "hstack"))
-        ≡ record { label = None; kind = kind.Video } ∷ record { label = None; kind = kind.Video } ∷ [] }
+        ≡ record { label = None; kind = kind.Video; source = None } ∷ record { label = None; kind = kind.Video; source = None } ∷ [] }
     ensures stacked { graph_rules.configured (alone (codes "hstack")) (Some (pictures 2) ∷ Some (pictures 4) ∷ [])
         ≡ Ok (record { label = None; head = pictures 6 } ∷ []) }
     ensures missing { graph_rules.configured (alone (codes "hstack")) (Some (pictures 2) ∷ None ∷ []) ≡ Err (record { filter = 0; kind = Pads }) }

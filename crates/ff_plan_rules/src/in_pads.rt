@@ -1,11 +1,10 @@
 //! The open input pads of a graph, as plans have them.
 ghost use Rattle.std.specs.Prelude.{◌≡◌, ◌≤◌, ◌^◌, IfOk, length};
-ghost use Rattle.std.specs.Option.{option_copied};
 ghost use Rattle.ff_graph.specs.Pads.{input_of};
 ghost use Rattle.ff_plan_rules.specs.Rules.{kind_by as kind_of, input_as, open_ins};
 
 use ff_graph::{OpenInput, open_inputs};
-use ff_lang::{Graph, Sequence, Text};
+use ff_lang::{Graph, Sequence};
 use ff_plan_layout::OpenIn;
 use ff_words::maps::Kind;
 use ff_words::text_of;
@@ -21,21 +20,17 @@ fn kind_by(sound: bool) -> Kind
     if sound { Kind::Audio } else { Kind::Video }
 }
 
-fn label_of(alloc: Global, label: Option<&str>) -> Result<Option<Text>, AllocError>
-    ensures { IfOk result (λ l. l ≡ option_copied label.entry) }
+fn input_pad(alloc: Global, input: &OpenInput) -> Result<OpenIn, AllocError>
+    ensures { IfOk result (λ pad. pad ≡ input_as (input_of input.now)) }
 {
-    match label {
-        None => Ok(None),
-        Some(label) => Ok(Some(text_of(alloc, label)?)),
-    }
-}
-
-fn input_pad(alloc: Global, input: OpenInput<'_>) -> Result<OpenIn, AllocError>
-    ensures { IfOk result (λ pad. pad ≡ input_as (input_of input.entry)) }
-{
+    let label = match &input.label {
+        None => None,
+        Some(label) => Some(text_of(alloc, label.as_str())?),
+    };
     Ok(OpenIn {
-        label: label_of(alloc, input.label)?,
+        label,
         kind: kind_by(input.sound),
+        source: None,
     })
 }
 
@@ -50,7 +45,7 @@ pub(crate) fn input_pads(alloc: Global, graph: &Graph) -> Result<Sequence<OpenIn
     }
     let mut pads = Vec::new(alloc);
     'pads: for at in 0..inputs.len() {
-        pads.push(input_pad(alloc, inputs[at])?)?;
+        pads.push(input_pad(alloc, &inputs[at])?)?;
     }
     Ok(Sequence::of(pads))
 }

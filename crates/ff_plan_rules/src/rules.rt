@@ -31,6 +31,10 @@ impl Filtering for GraphRules {
         input_pads(alloc, graph)
     }
 
+    fn source_fault(&self, _alloc: Global, _graph: &Graph) -> Result<Option<Refused>, AllocError> {
+        Ok(None)
+    }
+
     fn configured(
         &self,
         alloc: Global,

@@ -21,6 +21,7 @@ fn tell_numbered(told: &mut Told, what: &str, number: u32) {
 fn tell_node(told: &mut Told, node: PlanNode) {
     match node {
         PlanNode::Demux { input } => tell_numbered(told, "demux ", input),
+        PlanNode::Gen { source } => tell_numbered(told, "gen ", source),
         PlanNode::Dec { stream } => {
             tell_numbered(told, "dec ", stream.input);
             tell_numbered(told, ":", stream.stream);
@@ -127,6 +128,7 @@ fn tell_error(told: &mut Told, error: PlanError) {
         }
         PlanError::TooManyStreams => told.text("too many streams"),
         PlanError::TooManyGraphs => told.text("too many graphs"),
+        PlanError::TooManySources => told.text("too many sources"),
         PlanError::NoMemory => told.fail(Stop::Broken),
     }
 }

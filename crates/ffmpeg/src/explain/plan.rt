@@ -174,6 +174,9 @@ pub(crate) fn tell_plan(told: &mut Told, line: &CommandLine, why: &PlanError) {
         PlanError::TooManyGraphs => {
             told.text("there are more than 16 graphs; each stream of an output has one, too");
         }
+        PlanError::TooManySources => {
+            told.text("there are more than 16 inputs and source filters together");
+        }
         PlanError::NoMemory => told.text("memory ran out"),
     }
 }

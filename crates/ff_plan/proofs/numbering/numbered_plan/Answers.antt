@@ -31,5 +31,5 @@ returns c =
     let places = c.as_slice-3.ensures.value ∙ (c.in_ok-placed.ensures ∙ ap (λ (l : List (Vec OutStream Global)). place_from 0 0 (rows l)) c.as_slice.ensures.value) in
     let long : c.len.result ≡ length (rows all) = (let a = c.len.ensures in let b = c.args.laying.outputs.ok.0 in let d = map_length (λ (v : Vec OutStream Global). v.items) all in omega (arith, a, b, d)) in
     subst (λ (q : Plan). IfOk c.plan_placed.result (λ p. p ≡ q))
-    (plan_by (lists c.args.heads.now) c.args.laying.graphs.items (rows all) c.args.laying.texts.items c.as_slice-2.result.now c.as_slice-3.result.now c.len.result c.as_slice-2.ensures.value places long)
+    (plan_by (lists c.args.heads.now) c.args.laying.made.items c.args.laying.graphs.items (rows all) c.args.laying.texts.items c.as_slice-2.result.now c.as_slice-3.result.now c.len.result c.as_slice-2.ensures.value places long)
     c.plan_placed.ensures

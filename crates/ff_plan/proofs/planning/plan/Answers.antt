@@ -1,4 +1,4 @@
-use Rattle.std.proofs.Common.{◌≡◌, sym, ap, ◌∙◌}
+use Rattle.std.proofs.Common.{◌≡◌, sym, ap, ◌∙◌, arith}
 use Rattle.ff_words.specs.maps.Choice.{lists}
 use Rattle.ff_plan.specs.declared.planned.Plan.{Plan}
 use Rattle.ff_plan_layout.specs.Layout.{Layout}
@@ -9,8 +9,16 @@ use Rattle.ff_plan_layout.specs.Rules.{Planned, behind}
 use Rattle.ff_plan_layout.specs.Rows.{layout_in}
 use Rattle.ff_plan_layout.proofs.Fronts.{fine, refused_behind}
 use Rattle.ff_plan_layout.proofs.LaidOut.{handed_on}
-use Rattle.ff_plan_layout.proofs.Bounds.{few_in_lists}
+use Rattle.ff_plan_layout.proofs.Bounds.{few_in_lists, lists_length}
+use Rattle.ff_plan.proofs.Sourced.{are_few}
 use Rattle.ff_plan.proofs.planning.plan.Goals as goal
+
+pub numbered_plan-requires-clause-inputs : goal.numbered_plan-requires-clause-inputs
+numbered_plan-requires-clause-inputs g c =
+    let heads = lists c.args.heads.now in
+    let few = (are_few (g.F.Filtering.rules c.args.filtering.now) c.args.job.now heads (layout_in heads c.in_ok-laying.laying) c.in_ok-laying.ensures.made).1 in
+    let long = lists_length c.args.heads.now in
+    omega (arith, few, long)
 
 pub numbered_plan-requires-clause-streams : goal.numbered_plan-requires-clause-streams
 numbered_plan-requires-clause-streams g c = few_in_lists c.args.heads.now c.requires.limits.streams

@@ -11,12 +11,13 @@ loop-stream-preserved c =
     let n = c.loop-stream.stream-index in
     let inputs = c.args.inputs.now in
     let streams = c.args.streams.now in
+    let read = c.args.read.now in
     let wire : Stream → Wire = demux_wire_in c.args.firsts inputs streams in
     let x = c.stream-item.result in
     let front = c.loop-stream.wires.items in
-    let rest = drop (n + 1) streams in
-    let lt : n < length streams = c.loop-stream-test.true in
-    let here : drop n streams ≡ x ∷ rest = drop_next streams n x lt ∙ ap (λ (y : Stream). y ∷ rest) (sym c.stream-item.is) in
+    let rest = drop (n + 1) read in
+    let lt : n < length read = c.loop-stream-test.true in
+    let here : drop n read ≡ x ∷ rest = drop_next read n x lt ∙ ap (λ (y : Stream). y ∷ rest) (sym c.stream-item.is) in
     let made : c.add_wire.new.wires.items ≡ front ++ wire x ∷ [] =
     c.in_ok-add_wire.ensures
     ∙ (ap (λ (a : ℕ). front ++ wire_of a None c.dec_number-to.result (Packets x.head) ∷ []) c.demux_number-from.ensures

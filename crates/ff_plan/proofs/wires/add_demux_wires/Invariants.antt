@@ -3,4 +3,4 @@ use Rattle.ff_plan.specs.Numbering.{demux_wire_in}
 use Rattle.ff_plan.proofs.wires.add_demux_wires.Given as goal
 
 abbrev pub invariant-loop-stream : goal.invariant-loop-stream
-invariant-loop-stream l = l.wires.items ++ map (demux_wire_in l.firsts l.inputs l.streams) (drop l.stream-index l.streams) ≡ l.initial.wires.items ++ map (demux_wire_in l.firsts l.inputs l.streams) l.streams
+invariant-loop-stream l = l.wires.items ++ map (demux_wire_in l.firsts l.inputs l.streams) (drop l.stream-index l.read) ≡ l.initial.wires.items ++ map (demux_wire_in l.firsts l.inputs l.streams) l.read
