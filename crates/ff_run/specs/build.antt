@@ -1,7 +1,9 @@
 pub mod PartViews
 pub mod Parts
 pub mod Events
+pub mod Exits
 pub mod Held
+pub mod Sources
 pub mod Takes
 pub mod Throughs
 pub mod Graphs

@@ -159,15 +159,15 @@ pub fn ffmpeg<R: Threads + Wait + Sync, H: Host, E: Sink>(
 
     // The history of what the scheduler of the run granted and was told, from the opening state of the plan on. The
     // trace holds it where the arguments ask for one. It is legal. Where the files are told it has the times of each
-    // output's packets and then its end. It has the exit of each input that is read, after all its grants.
+    // output's packets and then its end. It has the exit of each source that is read, after all its grants.
     ensures history { result.status ≡ Status.Fine → AsksAlone (texts words.now) ⊎ ReportsHistory job_means IsJobHistory (texts words.now) (H.files host.old) result.history }
     ensures trace { result.status ≡ Status.Fine → AsksAlone (texts words.now) ⊎ HoldsTrace (texts words.now) (H.files host.old) (H.files host.new) result.history }
     ensures no_history { result.status ≢ Status.Fine → result.history ≡ [] }
 
-    // For each input the places in that history of the grants under which its source tried a packet or found the end.
-    // They are the first grants of the input, in order, and none where no stream asks for it. Where the files are
-    // told they are enough. What comes of the packets read under them is at each output the whole stream already.
-    // Each input has at most one more than packets.
+    // For each source the places in that history of the grants under which it tried a packet or found the end: for the
+    // inputs, and then for the source filters, which give frames. They are the first grants of the source, in order,
+    // and none where no stream asks for it. Where the files are told they are enough. What comes of the packets read
+    // under them is at each output the whole stream already. Each source has at most one more than packets.
     ensures reads { result.status ≡ Status.Fine → AsksAlone (texts words.now)
         ⊎ ReportsReads job_means AreJobReads (texts words.now) (H.files host.old) result.history (places_in result.reads.items) }
     ensures no_reads { (result.status ≢ Status.Fine) ⊎ AsksText (texts words.now) → result.reads.items ≡ [] }

@@ -6,7 +6,7 @@ use Rattle.ff_plan.specs.declared.planned.PlanNode.TheVariants as node
 use Rattle.ff_stream.specs.declared.edges.edge.Edge.{Edge}
 use Rattle.ff_net.specs.Views.{View}
 use Rattle.ff_run_plan.specs.Asked.{Asked}
-use Rattle.ff_run_plan.specs.Kinds.{KindsOf, IsSourceOf, IsSinkOf}
+use Rattle.ff_run_plan.specs.Kinds.{KindsOf, IsEndOf, IsSinkOf}
 use Rattle.ff_run_plan.specs.Parts.{IsBefore, IsAside, AllAside, AreParts, AreBack}
 use Rattle.ff_run_plan.proofs.Numbers.{there, ordered, demux_before, mux_before}
 
@@ -71,7 +71,7 @@ module _ {H S K M : Type 0} (is : KindsOf H) (left named : S → Option (List �
     (asked : Asked) (heads : List H) (edges : List Edge) (nodes : List PlanNode) (srcs : List S) (snks : List K) (olds news : List M)
     (sp sp' : List (Option S)) (kp kp' : List (Option K))
     (parts : AreParts is left named failed holds called faulted view asked heads edges nodes srcs snks olds sp kp) (many : length news ≡ length olds)
-    (sources : (k i : ℕ) (m : M) → slice_get nodes k ≡ Some (node.Demux i) → slice_get news k ≡ Some m → (s : S) × (slice_get sp' i ≡ Some (Some s)) × IsSourceOf named failed (view m) s)
+    (sources : (k i : ℕ) (m : M) → slice_get nodes k ≡ Some (node.Demux i) → slice_get news k ≡ Some m → (s : S) × (slice_get sp' i ≡ Some (Some s)) × IsEndOf named failed (view m) s)
     (sinks : (k o : ℕ) (m : M) → slice_get nodes k ≡ Some (node.Mux o) → slice_get news k ≡ Some m → (s : K) × (slice_get kp' o ≡ Some (Some s)) × IsSinkOf is holds called faulted (view m) s)
     (other_srcs : (i : ℕ) → (IsBefore nodes (length news) (node.Demux i) → ⊥) → slice_get sp' i ≡ slice_get sp i)
     (other_snks : (o : ℕ) → (IsBefore nodes (length news) (node.Mux o) → ⊥) → slice_get kp' o ≡ slice_get kp o)

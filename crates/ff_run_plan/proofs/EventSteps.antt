@@ -1,4 +1,4 @@
--- Events of one output stream or input, among those that all nodes of a plan have to tell.
+-- Events of one output stream or source, among those that all nodes of a plan have to tell.
 use Rattle.std.proofs.Common.{◌≡◌, ◌≢◌, ◌⊎◌, inl, inr, ℕ, ◌+◌, ◌-◌, ◌<◌, ◌≤◌, Bool, true, false, cond, List, [], ◌∷◌, filter, length, slice_get, slice_index_or, Option, None, Some, refl, ap, ◌∙◌, arith}
 use Rattle.std.specs.Prelude.{All, nat_eq}
 use Rattle.std.proofs.lemmas.Bool.Decides.{nat_tests}
@@ -15,6 +15,7 @@ use Rattle.ff_frame.specs.declared.event.Event.TheVariants.{Grant, Sent, Finishe
 use Rattle.ff_stream.specs.declared.edges.edge.Edge.{Edge}
 use Rattle.ff_stream.specs.edges.Ports.{lanes_into, lanes_out_of}
 use Rattle.ff_lang.specs.declared.graph.Graph.{Graph}
+use Rattle.ff_source.specs.declared.made.Made.{Made}
 use Rattle.ff_words.specs.declared.job.OutputJob.{OutputJob}
 use Rattle.ff_net.specs.Pasts.{Feed}
 use Rattle.ff_plan.specs.declared.planned.PlanNode.{PlanNode}
@@ -22,9 +23,10 @@ use Rattle.ff_plan.specs.declared.planned.PlanNode.TheVariants as node
 use Rattle.ff_run_plan.specs.Asked.{Asked}
 use Rattle.ff_run_plan.specs.Kinds.{KindsOf, is_of_stream}
 use Rattle.ff_run_plan.specs.Meaning.{task_by}
-use Rattle.ff_run_plan.specs.Tasks.{first_at, cuts_at, first_head, heads_on, demux_by, dec_by, graph_by, shortest_by, enc_by, mux_by}
+use Rattle.ff_run_plan.specs.Tasks.{first_at, cuts_at, first_head, heads_on, demux_by, gen_by, dec_by, graph_by, shortest_by, enc_by, mux_by}
 use Rattle.ff_run_plan.specs.Events.{is_among, is_of_streams, is_best_of, ChangeBest, is_exit_of, TellOfThemselves, PlansTellAlone}
-use Rattle.ff_run_plan.specs.Parts.{AreOrdered}
+use Rattle.ff_run_plan.specs.Parts.{AreOrdered, source_at}
+use Rattle.ff_run_plan.proofs.Gathering.{source_once}
 use Rattle.ff_run_plan.proofs.StreamNumbers.{numbers_apart}
 
 -- ---- kinds of events
@@ -113,6 +115,11 @@ module _ {H : Type 0} (is : KindsOf H) (own : TellOfThemselves is) (asked : Aske
   demux_none kind i apart (Some head) text =
       ap (filter kind) (own.demuxer i head text feeds) ∙ ap (λ (b : Bool). cond b (Exited i ∷ []) []) apart
 
+  gen_none : (kind : Event → Bool) (i : ℕ) → kind (Exited i) ≡ false → (made : Option Made) → filter kind ((gen_by is i made).tells feeds) ≡ []
+  gen_none kind i apart None = refl
+  gen_none kind i apart (Some made) =
+      ap (filter kind) (own.generator i made feeds) ∙ ap (λ (b : Bool). cond b (Exited i ∷ []) []) apart
+
   dec_none : (kind : Event → Bool) (head : Option StreamHead) (cut : TimeCut) (n : ℕ) → filter kind ((dec_by is head cut n).tells feeds) ≡ []
   dec_none kind None cut n = refl
   dec_none kind (Some head) cut n = ap (filter kind) (own.decoder head cut n feeds)
@@ -142,6 +149,7 @@ module _ {H : Type 0} (is : KindsOf H) (own : TellOfThemselves is) (asked : Aske
       → filter (is_of_stream t) ((task_by is asked heads bytes nodes edges n j).tells feeds) ≡ []
   none_of_stream t j None other = refl
   none_of_stream t j (Some (node.Demux i)) other = demux_none (is_of_stream t) i refl (slice_get heads i) (slice_index_or bytes i [])
+  none_of_stream t j (Some (node.Gen i)) other = gen_none (is_of_stream t) i refl (asked.made i)
   none_of_stream t j (Some (node.Dec at)) other = dec_none (is_of_stream t) (first_head (lanes_into edges j)) (asked.cut at.input) (length (lanes_out_of edges j))
   none_of_stream t j (Some (node.Graph g)) other = graph_none (is_of_stream t) g (asked.text g) (heads_on (lanes_into edges j)) (cuts_at asked nodes edges j) (λ i. refl)
   none_of_stream t j (Some (node.Shortest p)) other = shortest_none (is_of_stream t) (slice_get asked.outputs p) (heads_on (lanes_into edges j))
@@ -150,23 +158,26 @@ module _ {H : Type 0} (is : KindsOf H) (own : TellOfThemselves is) (asked : Aske
       mux_none (is_of_stream t) (first_at asked nodes edges j) (slice_get asked.outputs p) (heads_on (lanes_into edges j))
       (other_stream t (first_at asked nodes edges j) (length (heads_on (lanes_into edges j))) (other p refl))
 
-  -- nor that an input has exited
-  none_of_input : (i j : ℕ) (n : Option PlanNode) → n ≢ Some (node.Demux i)
+  -- nor that a source has exited
+  none_of_source : (i j : ℕ) (n : Option PlanNode) → (source_at n ≡ Some i → ⊥)
       → filter (is_exit_of i) ((task_by is asked heads bytes nodes edges n j).tells feeds) ≡ []
-  none_of_input i j None other = refl
-  none_of_input i j (Some (node.Demux p)) other =
-      demux_none (is_exit_of i) p (other_number p i p (λ e. other (ap (λ (m : ℕ). Some (node.Demux m)) e)) (itself p p refl)) (slice_get heads p) (slice_index_or bytes p [])
-  none_of_input i j (Some (node.Dec at)) other = dec_none (is_exit_of i) (first_head (lanes_into edges j)) (asked.cut at.input) (length (lanes_out_of edges j))
-  none_of_input i j (Some (node.Graph g)) other = graph_none (is_exit_of i) g (asked.text g) (heads_on (lanes_into edges j)) (cuts_at asked nodes edges j) (λ k. refl)
-  none_of_input i j (Some (node.Shortest p)) other = shortest_none (is_exit_of i) (slice_get asked.outputs p) (heads_on (lanes_into edges j))
-  none_of_input i j (Some (node.Enc p q)) other = enc_none (is_exit_of i) (first_head (lanes_into edges j)) (first_head (lanes_out_of edges j))
-  none_of_input i j (Some (node.Mux p)) other =
+  none_of_source i j None other = refl
+  none_of_source i j (Some (node.Demux p)) other =
+      demux_none (is_exit_of i) p (other_number p i p (λ e. other (ap (λ (m : ℕ). Some m) e)) (itself p p refl)) (slice_get heads p) (slice_index_or bytes p [])
+  none_of_source i j (Some (node.Gen p)) other =
+      gen_none (is_exit_of i) p (other_number p i p (λ e. other (ap (λ (m : ℕ). Some m) e)) (itself p p refl)) (asked.made p)
+  none_of_source i j (Some (node.Dec at)) other = dec_none (is_exit_of i) (first_head (lanes_into edges j)) (asked.cut at.input) (length (lanes_out_of edges j))
+  none_of_source i j (Some (node.Graph g)) other = graph_none (is_exit_of i) g (asked.text g) (heads_on (lanes_into edges j)) (cuts_at asked nodes edges j) (λ k. refl)
+  none_of_source i j (Some (node.Shortest p)) other = shortest_none (is_exit_of i) (slice_get asked.outputs p) (heads_on (lanes_into edges j))
+  none_of_source i j (Some (node.Enc p q)) other = enc_none (is_exit_of i) (first_head (lanes_into edges j)) (first_head (lanes_out_of edges j))
+  none_of_source i j (Some (node.Mux p)) other =
       mux_none (is_exit_of i) (first_at asked nodes edges j) (slice_get asked.outputs p) (heads_on (lanes_into edges j)) (no_exit i (first_at asked nodes edges j) (length (heads_on (lanes_into edges j))))
 
   -- nor of the best input of a graph
   none_of_best : (g j : ℕ) (n : Option PlanNode) → n ≢ Some (node.Graph g) → filter (is_best_of g) ((task_by is asked heads bytes nodes edges n j).tells feeds) ≡ []
   none_of_best g j None other = refl
   none_of_best g j (Some (node.Demux p)) other = demux_none (is_best_of g) p refl (slice_get heads p) (slice_index_or bytes p [])
+  none_of_best g j (Some (node.Gen p)) other = gen_none (is_best_of g) p refl (asked.made p)
   none_of_best g j (Some (node.Dec at)) other = dec_none (is_best_of g) (first_head (lanes_into edges j)) (asked.cut at.input) (length (lanes_out_of edges j))
   none_of_best g j (Some (node.Graph h)) other =
       graph_none (is_best_of g) h (asked.text h) (heads_on (lanes_into edges j)) (cuts_at asked nodes edges j) (λ i. other_number h g h (λ e. other (ap (λ (m : ℕ). Some (node.Graph m)) e)) (itself h h refl))
@@ -176,20 +187,6 @@ module _ {H : Type 0} (is : KindsOf H) (own : TellOfThemselves is) (asked : Aske
       mux_none (is_best_of g) (first_at asked nodes edges j) (slice_get asked.outputs p) (heads_on (lanes_into edges j)) (no_best g (first_at asked nodes edges j) (length (heads_on (lanes_into edges j))))
 
 -- ---- the numbers of a plan's nodes
-
-not_below : (m : ℕ) → m < m → ⊥
-not_below m lt = omega (arith, lt)
-
--- the muxer of an output stands at one place, and so does the demuxer of an input
-one_place : (nodes : List PlanNode) (n : ℕ → PlanNode) → ((j k m m' : ℕ) → slice_get nodes j ≡ Some (n m) → slice_get nodes k ≡ Some (n m') → j < k → m < m')
-    → (j k m : ℕ) → slice_get nodes j ≡ Some (n m) → slice_get nodes k ≡ Some (n m) → j ≢ k → ⊥
-one_place nodes n rising j k m at at' other = elim (cases_lt j k) [
-  | inl lt ↦ not_below m (rising j k m m at at' lt)
-  | inr ge ↦ elim (cases_lt k j) [
-    | inl lt ↦ not_below m (rising k j m m at' at lt)
-    | inr le ↦ other (omega (arith, ge, le))
-  ]
-]
 
 -- the streams at another Mux node have other numbers
 others_streams : (inputs : ℕ) (asked : Asked) (nodes : List PlanNode) (edges : List Edge) → AreOrdered inputs (length asked.outputs) nodes → (j k p o t : ℕ)
@@ -219,9 +216,9 @@ plans_tell_alone is own asked heads bytes nodes edges i ordered = record {
     no_grant = λ s. refl;
     no_other = λ j feeds lt other. none_of_best is own asked heads bytes nodes edges feeds g j (slice_get nodes j) (λ at'. other (ordered.graphs_once j k g at' at));
   };
-  input = λ count k m at. record {
+  source = λ count k m at. record {
     no_grant = λ s. refl;
-    no_other = λ j feeds lt other. none_of_input is own asked heads bytes nodes edges feeds m j (slice_get nodes j)
-        (λ at'. one_place nodes node.Demux ordered.rising j k m at' at other);
+    no_other = λ j feeds lt other. none_of_source is own asked heads bytes nodes edges feeds m j (slice_get nodes j)
+        (λ at'. other (source_once i (length asked.outputs) nodes ordered j k m at' at));
   };
 }

@@ -1,8 +1,8 @@
 -- Places that are filled again, one part more.
-use Rattle.std.proofs.Common.{◌≡◌, inl, inr, ℕ, zero, suc, ◌+◌, ◌<◌, ◌≤◌, List, [], ◌∷◌, length, drop, slice_get, Option, Some, ap, ◌∙◌, subst, arith, add-one}
+use Rattle.std.proofs.Common.{◌≡◌, inl, inr, ℕ, zero, suc, ◌+◌, ◌<◌, ◌≤◌, List, [], ◌∷◌, length, drop, slice_get, Option, None, Some, ◌⊎◌, ap, ◌∙◌, subst, arith, add-one}
 use Rattle.ff_plan.specs.declared.planned.PlanNode.{PlanNode}
 use Rattle.ff_plan.specs.declared.planned.PlanNode.TheVariants as node
-use Rattle.ff_run_plan.specs.Parts.{IsBefore, AreOrdered}
+use Rattle.ff_run_plan.specs.Parts.{IsBefore, AreOrdered, source_at}
 use Rattle.ff_run_plan.proofs.Numbers.{same_some, ordered}
 
 head_of_drop : {A : Type 0} (xs : List A) (n : ℕ) (m : A) (rest : List A) → drop n xs ≡ m ∷ rest → (slice_get xs n ≡ Some m) × (drop (suc n) xs ≡ rest)
@@ -31,6 +31,30 @@ pub mux_once : (inputs outputs : ℕ) (nodes : List PlanNode) → AreOrdered inp
 mux_once inputs outputs nodes o j k i a b = elim (ordered j k) [
   | inl lt ↦ (let up = o.muxes_rise j k i i a b lt in absurd (omega (arith, up)))
   | inr r ↦ elim r [ inl e ↦ e | inr lt ↦ (let up = o.muxes_rise k j i i b a lt in absurd (omega (arith, up))) ]
+]
+
+-- the kinds of source
+pub source_kind : (o : Option PlanNode) (i : ℕ) → source_at o ≡ Some i → (o ≡ Some (node.Demux i)) ⊎ (o ≡ Some (node.Gen i))
+source_kind None i e = absurd cc
+source_kind (Some (node.Demux j)) i e = inl (let same : Some j ≡ Some i = e in let is : j ≡ i = cc in ap (λ (n : ℕ). Some (node.Demux n)) is)
+source_kind (Some (node.Gen j)) i e = inr (let same : Some j ≡ Some i = e in let is : j ≡ i = cc in ap (λ (n : ℕ). Some (node.Gen n)) is)
+source_kind (Some (node.Dec at)) i e = absurd cc
+source_kind (Some (node.Graph g)) i e = absurd cc
+source_kind (Some (node.Shortest o)) i e = absurd cc
+source_kind (Some (node.Enc o j)) i e = absurd cc
+source_kind (Some (node.Mux o)) i e = absurd cc
+
+-- and a source stands there once
+pub source_once : (inputs outputs : ℕ) (nodes : List PlanNode) → AreOrdered inputs outputs nodes → (j k i : ℕ) → source_at (slice_get nodes j) ≡ Some i → source_at (slice_get nodes k) ≡ Some i → j ≡ k
+source_once inputs outputs nodes o j k i a b = elim (source_kind (slice_get nodes j) i a) [
+  | inl x ↦ elim (source_kind (slice_get nodes k) i b) [
+    | inl y ↦ demux_once inputs outputs nodes o j k i x y
+    | inr y ↦ (let lt = o.inputs_there j i x in let le = o.made_behind k i y in absurd (omega (arith, lt, le)))
+  ]
+  | inr x ↦ elim (source_kind (slice_get nodes k) i b) [
+    | inl y ↦ (let lt = o.inputs_there k i y in let le = o.made_behind j i x in absurd (omega (arith, lt, le)))
+    | inr y ↦ o.made_once j k i x y
+  ]
 ]
 
 module _ {T M : Type 0} (Back : M → T → Type 0) (mk : ℕ → PlanNode) (nodes : List PlanNode) (parts : List M) (was now : List (Option T)) (n : ℕ) (x : PlanNode) (m : M)

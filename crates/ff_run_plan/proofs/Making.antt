@@ -1,19 +1,21 @@
 -- A part that was made, as the part of its node.
-use Rattle.std.proofs.Common.{◌≡◌, ℕ, List, [], map, slice_get, slice_index_or, Option, Some, None, IfSome, sym, ap, ◌∙◌, subst}
+use Rattle.std.proofs.Common.{◌≡◌, ℕ, List, [], ◌∷◌, map, slice_get, slice_index_or, Option, Some, None, IfSome, sym, ap, ◌∙◌, subst}
 use Rattle.std.proofs.lemmas.Option.{slice_get_within, get_or_from_slice_get}
 use Rattle.ff_trim.specs.declared.counted.OutputCut.{OutputCut}
 use Rattle.ff_frame.specs.declared.head.StreamHead.{StreamHead}
 use Rattle.ff_stream.specs.declared.item.Lane.{Lane}
 use Rattle.ff_stream.specs.declared.item.Lane.TheVariants.{Frames, Packets}
 use Rattle.ff_lang.specs.declared.graph.Graph.{Graph}
+use Rattle.ff_source.specs.declared.made.Made.{Made}
+use Rattle.ff_source.specs.Sources.{head_of}
 use Rattle.ff_words.specs.declared.job.OutputJob.{OutputJob}
 use Rattle.ff_net.specs.Pasts.{start}
 use Rattle.ff_net.specs.Views.{View}
 use Rattle.ff_plan.specs.declared.planned.PlanNode.TheVariants as node
 use Rattle.ff_run_plan.specs.Asked.{Asked}
 use Rattle.ff_run_plan.specs.Kinds.{KindsOf, IsNew}
-use Rattle.ff_run_plan.specs.Tasks.{heads_on, demux_by, graph_by, shortest_by, mux_by}
-use Rattle.ff_run_plan.specs.Parts.{FitsDemux, FitsGraph, FitsShortest, FitsMux, IsPart}
+use Rattle.ff_run_plan.specs.Tasks.{heads_on, demux_by, gen_by, graph_by, shortest_by, mux_by}
+use Rattle.ff_run_plan.specs.Parts.{FitsDemux, FitsGen, FitsGraph, FitsShortest, FitsMux, IsPart}
 use Rattle.ff_run_plan.proofs.Numbers.{same_some}
 use Rattle.ff_run_plan.proofs.StreamNumbers.{coded_is, framed_is}
 
@@ -39,6 +41,18 @@ module _ {H S K : Type 0} (is : KindsOf H) (left named : S → Option (List ℕ)
     starts = λ bytes told.
         let tells : left src ≡ Some (slice_index_or bytes i []) = ap left (sym (get_or_from_slice_get srcs i src src at)) ∙ told.left_is i src (slice_get_within srcs i src at) in
         subst (λ (h : Option H). v.stands (start (demux_by is i h (slice_index_or bytes i [])))) (sym fits.there) (starts fits.head fits.there (slice_index_or bytes i []) tells);
+  }
+
+  pub gen_part : (i : ℕ) (fits : FitsGen is asked ins outs i) → IsNew (Some i) [] (Frames (head_of fits.made) ∷ []) None 0 v → v.stands (start (is.gen_task i fits.made))
+      → IsPart is left named failed holds called faulted asked heads srcs snks first cuts ins outs (node.Gen i) v
+  gen_part i fits new starts = record {
+    source_is = new.source_is;
+    in_lanes = new.in_lanes ∙ sym fits.ins_are;
+    out_lanes = new.out_lanes ∙ sym fits.outs_are;
+    sound = new.sound;
+    source = λ j s e. absurd cc;
+    sink = λ o s e. absurd cc;
+    starts = λ bytes told. subst (λ (x : Option Made). v.stands (start (gen_by is i x))) (sym fits.there) starts;
   }
 
   pub graph_part : (g : ℕ) (fits : FitsGraph is asked ins outs g) (framed : List StreamHead) → framed ≡ heads_on ins

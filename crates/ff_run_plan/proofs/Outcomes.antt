@@ -35,6 +35,7 @@ use Rattle.ff_run_plan.proofs.StreamNumbers.{coded_is, edge_count, same_streams,
 -- only a run without a fault is fine
 fine_device : (n : PlanNode) → device_end n ≡ work_end.Fine → ⊥
 fine_device (node.Demux i) e = cc
+fine_device (node.Gen i) e = cc
 fine_device (node.Dec at) e = cc
 fine_device (node.Graph g) e = cc
 fine_device (node.Shortest o) e = cc
@@ -43,6 +44,7 @@ fine_device (node.Mux o) e = cc
 
 fine_damaged : (offset : ℕ) (n : PlanNode) → damaged_end offset n ≡ work_end.Fine → ⊥
 fine_damaged offset (node.Demux i) e = cc
+fine_damaged offset (node.Gen i) e = cc
 fine_damaged offset (node.Dec at) e = cc
 fine_damaged offset (node.Graph g) e = cc
 fine_damaged offset (node.Shortest o) e = cc
@@ -51,6 +53,7 @@ fine_damaged offset (node.Mux o) e = cc
 
 fine_large : (n : PlanNode) → large_end n ≡ work_end.Fine → ⊥
 fine_large (node.Demux i) e = cc
+fine_large (node.Gen i) e = cc
 fine_large (node.Dec at) e = cc
 fine_large (node.Graph g) e = cc
 fine_large (node.Shortest o) e = cc
@@ -223,6 +226,7 @@ module _ {H S K M : Type 0} (is : KindsOf H) (left named : S → Option (List �
     device_says (node.Demux i) at c =
         let own = run.tells.own f reported (λ never. let both : Device ≡ NoMemory = sym c ∙ never in cc) in
         (has_risen named failed view node.Demux nodes srcs srcs' olds news source_ends f.node i own.0 at own.1 (own.2 ∙ ap (λ (x : Fault). Some x) c), sources_until f reported i at)
+    device_says (node.Gen i) at c = all_sources f reported (node.Gen i) 1 at (λ j e. cc)
     device_says (node.Dec s) at c = all_sources f reported (node.Dec s) 1 at (λ i e. cc)
     device_says (node.Graph g) at c = all_sources f reported (node.Graph g) 1 at (λ i e. cc)
     device_says (node.Shortest o) at c = all_sources f reported (node.Shortest o) 1 at (λ i e. cc)
@@ -237,6 +241,7 @@ module _ {H S K M : Type 0} (is : KindsOf H) (left named : S → Option (List �
     damaged_says : (offset : ℕ) (n : PlanNode) → slice_get nodes f.node ≡ Some n → f.fault ≡ Damaged offset → Says (damaged_end offset n)
     damaged_says offset (node.Demux i) at c =
         (λ bytes vouched told. (f.node, node.Demux i, at, refl, cause_of (subst IsOfInputs (sym c) tt) bytes vouched told ∙ ap (λ (x : Fault). Some x) c), sources_through f reported i at (λ d. let both : Damaged offset ≡ Device = sym c ∙ d in cc))
+    damaged_says offset (node.Gen i) at c = all_sources f reported (node.Gen i) 1 at (λ j e. cc)
     damaged_says offset (node.Dec s) at c =
         (λ bytes vouched told. (f.node, node.Dec s, at, refl, cause_of (subst IsOfInputs (sym c) tt) bytes vouched told ∙ ap (λ (x : Fault). Some x) c), all_sources f reported (node.Dec s) (s.input + 1) at (λ i e. cc))
     damaged_says offset (node.Graph g) at c = all_sources f reported (node.Graph g) 1 at (λ i e. cc)
@@ -246,6 +251,7 @@ module _ {H S K M : Type 0} (is : KindsOf H) (left named : S → Option (List �
 
     large_says : (n : PlanNode) → slice_get nodes f.node ≡ Some n → f.fault ≡ TooLarge → Says (large_end n)
     large_says (node.Demux i) at c = first_source f reported (λ d. let both : TooLarge ≡ Device = sym c ∙ d in cc)
+    large_says (node.Gen i) at c = all_sources f reported (node.Gen i) 1 at (λ j e. cc)
     large_says (node.Dec s) at c = all_sources f reported (node.Dec s) 1 at (λ i e. cc)
     large_says (node.Graph g) at c = all_sources f reported (node.Graph g) 1 at (λ i e. cc)
     large_says (node.Shortest o) at c = all_sources f reported (node.Shortest o) 1 at (λ i e. cc)
@@ -255,6 +261,7 @@ module _ {H S K M : Type 0} (is : KindsOf H) (left named : S → Option (List �
 
     before_says : (n : PlanNode) → slice_get nodes f.node ≡ Some n → f.fault ≢ Device → FailNoMore failed srcs srcs' (read_before inputs n + 1)
     before_says (node.Demux i) at other = sources_through f reported i at other
+    before_says (node.Gen i) at other = all_sources f reported (node.Gen i) (inputs + 1) at (λ j e. cc)
     before_says (node.Dec s) at other = all_sources f reported (node.Dec s) (inputs + 1) at (λ i e. cc)
     before_says (node.Graph g) at other = all_sources f reported (node.Graph g) (inputs + 1) at (λ i e. cc)
     before_says (node.Shortest o) at other = all_sources f reported (node.Shortest o) (inputs + 1) at (λ i e. cc)

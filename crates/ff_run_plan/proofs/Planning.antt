@@ -1,7 +1,7 @@
 -- What a plan's nodes and edges are to the kinds of part.
 use Rattle.std.proofs.Common.{◌≡◌, ℕ, zero, suc, ◌+◌, ◌-◌, ◌<◌, ◌≤◌, Bool, true, false, List, [], ◌∷◌, length, map, replicate, slice_get, slice_index_or, unwrap_or, Option, Some, None, refl, sym, ap, ◌∙◌, subst, arith}
-use Rattle.std.specs.Prelude.{cond}
-use Rattle.std.specs.List.{All, AllByRecursion, cons_option, filter, filter_map}
+use Rattle.std.specs.Prelude.{cond, ◌++◌, IfSome}
+use Rattle.std.specs.List.{All, AllByRecursion, cons_option, filter, filter_map, flat_map}
 use Rattle.std.proofs.lemmas.Option.{slice_get_within, get_or_from_slice_get}
 use Rattle.std.proofs.lemmas.List.{length-map, length-replicate}
 use Rattle.ff_frame.specs.declared.head.StreamHead.{StreamHead}
@@ -14,7 +14,13 @@ use Rattle.ff_words.specs.declared.job.Job.{Job}
 use Rattle.ff_words.specs.declared.job.OutputJob.{OutputJob}
 use Rattle.ff_stream.specs.declared.edges.edge.Edge.{Edge}
 use Rattle.ff_stream.specs.edges.Ports.{lane_of, lanes_into, lanes_out_of, edges_to, shape_of}
+use Rattle.ff_lang.specs.declared.graph.Graph.{Graph}
+use Rattle.ff_source.specs.declared.made.Made.{Made}
+use Rattle.ff_source.specs.Sources.{head_of}
+use Rattle.ff_plan_layout.specs.declared.open_pads.OpenIn.{OpenIn}
 use Rattle.ff_plan_layout.specs.declared.open_pads.OpenOut.{OpenOut}
+use Rattle.ff_plan_layout.specs.Rules.{Rules}
+use Rattle.ff_plan_layout.specs.Sources.{made_at_pad, sources_of}
 use Rattle.ff_plan_layout.specs.declared.layout.GraphText.{GraphText}
 use Rattle.ff_plan.specs.declared.planned.Plan.{Plan}
 use Rattle.ff_plan.specs.declared.planned.PlanNode.{PlanNode}
@@ -26,7 +32,7 @@ use Rattle.ff_plan.specs.StartFits as starts
 use Rattle.ff_plan_layout.specs.Streams.{most_streams, packed_as, takes_head}
 use Rattle.ff_plan.specs.Taken.{AllFrames, HasFrames, OutputsFit}
 use Rattle.ff_run_plan.specs.Asked.{Asked, asked_of, text_there}
-use Rattle.ff_run_plan.specs.Kinds.{KindsOf, GraphsAreHad}
+use Rattle.ff_run_plan.specs.Kinds.{KindsOf, GraphsAreHad, SourcesAreHad}
 use Rattle.ff_run_plan.specs.Parts.{IsFitting, AreOrdered, HaveNumbers}
 use Rattle.ff_run_plan.proofs.Rows.{all_at}
 use Rattle.ff_run_plan.proofs.StreamNumbers.{one_past}
@@ -68,6 +74,30 @@ module _ (P : StreamHead → Type 0) where
   -- of frames of these heads that enter a node
   frames_in : (edges : List Edge) (k : ℕ) (heads : List StreamHead) → AllFrames P edges → lanes_into edges k ≡ map (λ h. Frames h) heads → AllByRecursion P heads
   frames_in edges k heads all e = heads_have heads (subst (AllByRecursion (HasFrames P)) e (lanes_have edges (edges_to (shape_of edges) edges k) all))
+
+-- ---- what source filters give
+
+made_from : (P : Made → Type 0) (pads : List OpenIn) → AllByRecursion (λ i. IfSome (made_at_pad i) P) pads → AllByRecursion P (filter_map made_at_pad pads)
+made_from P [] all = tt
+made_from P (i ∷ is) all = step (made_at_pad i) all.0 (made_from P is all.1)
+  where
+    step : (o : Option Made) → IfSome o P → AllByRecursion P (filter_map made_at_pad is) → AllByRecursion P (cons_option o (filter_map made_at_pad is))
+    step None h rest = rest
+    step (Some m) h rest = (h, rest)
+
+joined_all : {A : Type 0} (P : A → Type 0) (xs ys : List A) → AllByRecursion P xs → AllByRecursion P ys → AllByRecursion P (xs ++ ys)
+joined_all P [] ys a b = b
+joined_all P (x ∷ xs) ys a b = (a.0, joined_all P xs ys a.1 b)
+
+pads_all : (rules : Rules) (Q : OpenIn → Type 0) → ((text : Graph) → AllByRecursion Q (rules.open_ins text)) → (graphs : List Graph) → AllByRecursion Q (flat_map rules.open_ins graphs)
+pads_all rules Q each [] = tt
+pads_all rules Q each (g ∷ gs) = joined_all Q (rules.open_ins g) (flat_map rules.open_ins gs) (each g) (pads_all rules Q each gs)
+
+-- what is so of all that source filters give is so of the sources of a job
+pub sources_all : {H : Type 0} (is : KindsOf H) → SourcesAreHad is → (graphs : List Graph) → AllByRecursion (λ m. is.CanMake m × is.IsFrames (head_of m)) (sources_of is.rules graphs)
+sources_all is had graphs =
+    let P : Made → Type 0 = λ m. is.CanMake m × is.IsFrames (head_of m) in
+    made_from P (flat_map is.rules.open_ins graphs) (pads_all is.rules (λ i. IfSome (made_at_pad i) P) had graphs)
 
 -- ---- the one stream of an input
 
@@ -126,7 +156,7 @@ module _ {H : Type 0} (stream : H → StreamHead) where
 
 module _ {H : Type 0} (is : KindsOf H) (job : Job) (heads : List H) (plan : Plan) (sound : All is.IsHead heads) (frames : AllFrames is.IsFrames plan.edges) where
   abbrev pub asked : Asked
-  asked = asked_of job plan.texts
+  asked = asked_of job plan.texts plan.made
 
   abbrev pub Fits : ℕ → PlanNode → Type 0
   Fits k n = IsFitting is asked heads (lanes_into plan.edges k) (lanes_out_of plan.edges k) n
@@ -148,6 +178,16 @@ module _ {H : Type 0} (is : KindsOf H) (job : Job) (heads : List H) (plan : Plan
         ins_are = f.ins;
         outs_are = f.outs ∙ ap (λ (ss : List Stream). map (λ (s : Stream). Packets s.head) ss) one.4;
       }
+
+  pub gen_fits : (length (singles is.stream heads) ≡ length job.inputs) → AllByRecursion (λ m. is.CanMake m × is.IsFrames (head_of m)) plan.made
+      → (k i : ℕ) → starts.FitsGen (length (singles is.stream heads)) plan.made plan.edges k i → Fits k (node.Gen i)
+  gen_fits many makes k i f = record {
+    made = f.source;
+    there = ap (λ (n : ℕ). slice_get plan.made (i - n)) (sym many) ∙ f.is;
+    can = (all_at (λ m. is.CanMake m × is.IsFrames (head_of m)) plan.made (i - length (singles is.stream heads)) f.source makes f.is).0;
+    ins_are = f.ins;
+    outs_are = f.outs;
+  }
 
   pub dec_fits : ((h : H) → is.IsHead h → is.CanDecode (is.stream h)) → (k : ℕ) (at : StreamRef) → starts.FitsDec (singles is.stream heads) plan.edges k at → Fits k (node.Dec at)
   dec_fits decodes k at f =

@@ -1,8 +1,9 @@
 -- The plan that is made for heads which are accepted.
-use Rattle.std.proofs.Common.{◌≡◌, ◌≢◌, inl, inr, ℕ, suc, ◌≤◌, true, List, [], ◌∷◌, length, map, slice_get, Some, None, Ok, sym, ap, ◌∙◌, subst, arith}
+use Rattle.std.proofs.Common.{◌≡◌, ◌≢◌, inl, inr, ℕ, suc, ◌-◌, ◌≤◌, true, List, [], ◌∷◌, length, map, slice_get, Some, None, Ok, sym, ap, ◌∙◌, subst, arith}
 use Rattle.std.specs.List.{AllByRecursion}
 use Rattle.std.specs.Prelude.{All}
 use Rattle.std.proofs.lemmas.List.{length-map}
+use Rattle.std.proofs.lemmas.Option.{slice_get_within}
 use Rattle.ff_frame.specs.declared.head.StreamHead.{StreamHead}
 use Rattle.ff_words.specs.declared.job.Job.{Job}
 use Rattle.ff_words.specs.declared.job.OutputJob.{OutputJob}
@@ -20,15 +21,19 @@ use Rattle.ff_plan_layout.specs.Limits.{IsWithinLimits}
 use Rattle.ff_plan_layout.specs.Refusals.{IsRefused}
 use Rattle.ff_plan.specs.Planned.{planned}
 use Rattle.ff_plan_layout.specs.Rules.{Rules}
-use Rattle.ff_plan.specs.StartFits.{FitsStart, StartsFit}
+use Rattle.ff_plan_layout.specs.Sources.{sources_of}
+use Rattle.ff_source.specs.declared.made.Made.{Made}
+use Rattle.ff_source.specs.Sources.{head_of}
+use Rattle.ff_plan.specs.StartFits.{FitsGen, FitsStart, StartsFit}
 use Rattle.ff_plan_layout.specs.Streams.{most_streams, packed_as, takes_head}
 use Rattle.ff_plan.specs.Taken.{AllFrames}
-use Rattle.ff_run_plan.specs.Kinds.{KindsOf, GraphsAreHad}
+use Rattle.ff_run_plan.specs.Kinds.{KindsOf, GraphsAreHad, SourcesAreHad}
 use Rattle.ff_run_plan.specs.Meaning.{plan_for, refusal_of}
 use Rattle.ff_run_plan.specs.Accepting.{IsAccepted, IsPlanFor}
 use Rattle.ff_run_plan.specs.Asked.{asked_of}
-use Rattle.ff_run_plan.specs.Parts.{AreFitting}
+use Rattle.ff_run_plan.specs.Parts.{AreBelow, AreFitting}
 use Rattle.ff_plan.specs.Sound.{IsSoundPlan}
+use Rattle.ff_run_plan.proofs.Gathering.{source_kind}
 use Rattle.ff_run_plan.proofs.Numbers.{there}
 use Rattle.ff_run_plan.proofs.Planning as fits
 use Rattle.ff_run_plan.proofs.Rows.{are_ordered, muxes_there, shortest_there}
@@ -40,7 +45,7 @@ PlansAreSound rules = (job : Job) (heads : List (List StreamHead)) (p : Plan) �
 
 abbrev pub FramesAreKept : Rules → (StreamHead → Type 0) → Type 0
 FramesAreKept rules P = (job : Job) (heads : List (List StreamHead)) (p : Plan) → 1 ≤ length job.outputs → planned rules job heads ≡ Ok p
-    → AllByRecursion (λ hs. AllByRecursion P hs) heads → AllFrames P p.edges
+    → AllByRecursion (λ hs. AllByRecursion P hs) heads → AllByRecursion (λ (m : Made). P (head_of m)) p.made → AllFrames P p.edges
 
 -- what the kinds of node owe, and plans
 pub record AreLawful {H : Type 0} (is : KindsOf H) : Type 0 where
@@ -48,6 +53,8 @@ pub record AreLawful {H : Type 0} (is : KindsOf H) : Type 0 where
   pub frames : (h : H) → is.IsHead h → is.IsFrames (is.stream h)
   pub plans : PlansAreSound is.rules
   pub carries : FramesAreKept is.rules is.IsFrames
+  pub sources : (job : Job) (heads : List (List StreamHead)) (p : Plan) → planned is.rules job heads ≡ Ok p → p.made ≡ sources_of is.rules job.graphs
+  pub makes : SourcesAreHad is
   pub filters : GraphsAreHad is
   pub joins : (heads : List StreamHead) → AllByRecursion is.IsFrames heads → 1 ≤ length heads → is.CanJoin heads
   pub encodes : (h : StreamHead) (out : OutputJob) → is.IsFrames h → takes_head out h ≡ true → is.CanEncode h (packed_as out h)
@@ -69,6 +76,10 @@ module _ {H : Type 0} (is : KindsOf H) (job : Job) (heads : List H) (accepted : 
   is_refused lists refusal e (inl memory) other = absurd (other memory)
   is_refused lists refusal e (inr made) other = ap (refusal_of is job) (ap (planned is.rules job) (sym e) ∙ made)
 
+  all_second : (P Q : Made → Type 0) (ms : List Made) → AllByRecursion (λ m. P m × Q m) ms → AllByRecursion Q ms
+  all_second P Q [] all = tt
+  all_second P Q (m ∷ ms) all = (all.0.1, all_second P Q ms all.1)
+
   -- what is true of the heads of frames is true of the heads of inputs
   all_frames : ((h : H) → is.IsHead h → is.IsFrames (is.stream h)) → (hs : List H) → All is.IsHead hs → AllByRecursion (λ xs. AllByRecursion is.IsFrames xs) (map (λ h. is.stream h ∷ []) hs)
   all_frames own [] all = tt
@@ -78,15 +89,38 @@ module _ {H : Type 0} (is : KindsOf H) (job : Job) (heads : List H) (accepted : 
     sound : IsSoundPlan is.rules job streams plan
     sound = laws.plans job streams plan within accepted.some_outputs made
 
+    -- what its source filters give can be made, of frames as others are
+    makes : AllByRecursion (λ m. is.CanMake m × is.IsFrames (head_of m)) plan.made
+    makes =
+        subst (λ (ms : List Made). AllByRecursion (λ m. is.CanMake m × is.IsFrames (head_of m)) ms) (sym (laws.sources job streams plan made))
+        (fits.sources_all is laws.makes job.graphs)
+
     frames : AllFrames is.IsFrames plan.edges
-    frames = laws.carries job streams plan accepted.some_outputs made (all_frames laws.frames heads accepted.sound)
+    frames =
+        laws.carries job streams plan accepted.some_outputs made (all_frames laws.frames heads accepted.sound)
+        (all_second is.CanMake (λ m. is.IsFrames (head_of m)) plan.made makes)
+
+    -- its sources are those inputs and these source filters
+    below : HasRows (length heads) (length job.outputs) plan.nodes → StartsFit streams plan → AreBelow plan.routes.sources plan.nodes
+    below rows starts k i at =
+        let order = are_ordered (length heads) (length job.outputs) plan.nodes rows in
+        let sources = sound.sources in
+        elim (source_kind (slice_get plan.nodes k) i at) [
+          | inl demux ↦ (let lt = order.inputs_there k i demux in omega (arith, lt, sources, many))
+          | inr gen ↦
+              let f : FitsGen (length streams) plan.made plan.edges k i = starts k (node.Gen i) gen in
+              let le = f.behind in
+              let lt = slice_get_within plan.made (i - length streams) f.source f.is in
+              omega (arith, le, lt, sources)
+        ]
 
     -- the plan's nodes fit the kinds of part
-    are_fitting : HasRows (length heads) (length job.outputs) plan.nodes → GraphsFit is.rules job plan → StartsFit streams plan → AreFitting is (asked_of job plan.texts) heads plan.edges plan.nodes
+    are_fitting : HasRows (length heads) (length job.outputs) plan.nodes → GraphsFit is.rules job plan → StartsFit streams plan → AreFitting is (asked_of job plan.texts plan.made) heads plan.edges plan.nodes
     are_fitting rows graphs starts k n at = by n at (starts k n at) (sound.outputs.ends.fit k n at) where
-      by : (n : PlanNode) → slice_get plan.nodes k ≡ Some n → FitsStart streams plan.edges k n → FitsEnd job.outputs sound.outputs.ends.heads plan.edges k n
+      by : (n : PlanNode) → slice_get plan.nodes k ≡ Some n → FitsStart streams plan.made plan.edges k n → FitsEnd job.outputs sound.outputs.ends.heads plan.edges k n
           → fits.Fits is job heads plan accepted.sound frames k n
       by (node.Demux i) at start end = fits.demux_fits is job heads plan accepted.sound frames k i (sound.used k i at) start
+      by (node.Gen i) at start end = fits.gen_fits is job heads plan accepted.sound frames (many ∙ accepted.count) makes k i start
       by (node.Dec ref) at start end = fits.dec_fits is job heads plan accepted.sound frames laws.decodes k ref start
       by (node.Graph g) at start end = fits.graph_fits is job heads plan accepted.sound frames laws.filters k g (graphs k g at)
       by (node.Shortest o) at start end =
@@ -106,10 +140,11 @@ module _ {H : Type 0} (is : KindsOf H) (job : Job) (heads : List H) (accepted : 
           few = (here.few, (let few = accepted.few_inputs in let same = accepted.count in omega (arith, few, same)));
           queue = accepted.queue;
           routes = sound.routes;
-          sources = sound.sources ∙ many;
+          sources = (let s = sound.sources in omega (arith, s, many));
+          below = below here starts;
           fits = own_lanes_fit (length plan.nodes) plan.edges fed (λ k lt. sound.ins k) (λ k lt. sound.outs k);
           fitting = are_fitting here graphs starts;
-          numbers = fits.have_numbers (length heads) (asked_of job plan.texts) plan.edges plan.nodes order sound.few;
+          numbers = fits.have_numbers (length heads) (asked_of job plan.texts plan.made) plan.edges plan.nodes order sound.few;
           ordered = order;
           muxes = muxes_there (length heads) (length job.outputs) plan.nodes here;
         }

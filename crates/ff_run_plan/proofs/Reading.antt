@@ -38,13 +38,13 @@ use Rattle.ff_run_plan.specs.Accepting.{IsPlanFor}
 use Rattle.ff_run_plan.specs.Claims.{tell_all}
 use Rattle.ff_run_plan.specs.Events.{TellOfThemselves}
 use Rattle.ff_run_plan.specs.Histories.{state_before, AreScheduled}
-use Rattle.ff_run_plan.specs.Kinds.{KindsOf}
+use Rattle.ff_run_plan.specs.Kinds.{KindsOf, TellsExit}
 use Rattle.ff_run_plan.specs.Meaning.{edges_into, mux_node, solution, task_at}
 use Rattle.ff_run_plan.specs.Openings.{is_read}
-use Rattle.ff_run_plan.specs.Parts.{FitsMux, AreFitting, AreOrdered, AreBack, source_in}
-use Rattle.ff_run_plan.specs.Reads.{grants_of, places_in, reads_at, AreGranted, as_read, source_at, read_task, read_solution, AreEnough, IsLogFor, tried_in, first_reads, AreSufficient, IsLogOf}
+use Rattle.ff_run_plan.specs.Parts.{FitsMux, AreBelow, AreFitting, AreOrdered, AreBack, source_in, source_at}
+use Rattle.ff_run_plan.specs.Reads.{grants_of, places_in, reads_at, AreGranted, as_read, read_task, read_solution, AreEnough, IsLogFor, tried_in, first_reads, AreSufficient, IsLogOf}
 use Rattle.ff_run_plan.specs.Runs.{AreRun}
-use Rattle.ff_run_plan.proofs.Gathering.{demux_once}
+use Rattle.ff_run_plan.proofs.Gathering.{source_once}
 use Rattle.ff_run_plan.proofs.Grants.{no_more, front, first_rise, first_held, at_upto, beyond_upto, long_upto}
 use Rattle.ff_run_plan.proofs.Networks.{plan_net, plan_ins, plan_outs}
 use Rattle.ff_run_plan.proofs.Numbers.{there, same_some}
@@ -125,15 +125,15 @@ parts_read {M} view (m ∷ ms) f g k same =
     ∙ ap (λ (ps : List Part). record (f k) { means = λ ss. tried_of (view m) ((f k).means ss) } ∷ ps) (parts_read view ms f g (suc k) (λ j at x e here. same (suc j) at x (omega (arith, e)) here))
 
 module _ {H S K M : Type 0} (is : KindsOf H) (own : TellOfThemselves is) (left named : S → Option (List ℕ)) (failed : S → ℕ) (holds called : K → Option (List ℕ)) (faulted : K → ℕ)
-    (view : M → View) (laws : (m : M) → Laws (view m)) (asked : Asked) (heads : List H) (edges : List Edge) (nodes : List PlanNode) (srcs : List S) (snks : List K) (claims : Bool)
+    (view : M → View) (laws : (m : M) → Laws (view m)) (exits : (m : M) → TellsExit (view m)) (asked : Asked) (heads : List H) (edges : List Edge) (nodes : List PlanNode) (srcs : List S) (snks : List K) (claims : Bool)
     (olds news : List M) (sp : List (Option S)) (kp : List (Option K)) (fault : Option NodeFault) (srcs' : List S) (snks' : List K) (routes : Routes) (state : State) (events : List Event)
     (order : AreOrdered (length srcs) (length snks) nodes) (fitting : AreFitting is asked heads edges nodes)
     (run : AreRun is left named failed holds called faulted view asked heads edges nodes srcs snks claims olds news sp kp fault)
     (back : AreBack is left named failed holds called faulted view nodes news srcs snks srcs' snks')
     (sound : fault ≡ None) (s : AreScheduled view edges claims olds news routes state fault events)
     (bytes : List (List ℕ)) (vouched : claims ≡ true) (tells : AreTold left holds srcs snks bytes) (snk_count : length snks ≡ length asked.outputs)
-    (suffice : AreSufficient view edges claims olds news fault) (src_count : length srcs ≡ length heads)
-    (reads : List (List ℕ)) (are : reads ≡ first_reads view (length heads) nodes news events) where
+    (suffice : AreSufficient view edges claims olds news fault) (below : AreBelow routes.sources nodes)
+    (reads : List (List ℕ)) (are : reads ≡ first_reads view routes.sources nodes news events) where
   abbrev tasks : ℕ → Task
   tasks = task_at is asked heads bytes nodes edges
 
@@ -142,42 +142,42 @@ module _ {H S K M : Type 0} (is : KindsOf H) (own : TellOfThemselves is) (left n
 
   there_now : (k : ℕ) → k < length nodes → k < length news
   there_now =
-      told.new_there is own left named failed holds called faulted view laws asked heads edges nodes srcs snks claims olds news sp kp fault srcs' snks' routes state
+      told.new_there is own left named failed holds called faulted view laws exits asked heads edges nodes srcs snks claims olds news sp kp fault srcs' snks' routes state
       events order fitting run back sound s bytes vouched tells snk_count
 
   same_kind : (j : ℕ) (e : M) (n : PlanNode) → j < length news → slice_get nodes j ≡ Some n → is_some (source_in n) ≡ is_some (view (slice_index_or news j e)).source
   same_kind =
-      told.same_kind is own left named failed holds called faulted view laws asked heads edges nodes srcs snks claims olds news sp kp fault srcs' snks' routes state
+      told.same_kind is own left named failed holds called faulted view laws exits asked heads edges nodes srcs snks claims olds news sp kp fault srcs' snks' routes state
       events order fitting run back sound s bytes vouched tells snk_count
 
-  is_reader : (j i : ℕ) (e : M) → j < length news → (view (slice_index_or news j e)).source ≡ Some i → (i' : ℕ) × (slice_get nodes j ≡ Some (node.Demux i'))
+  is_reader : (j i : ℕ) (e : M) → j < length news → (view (slice_index_or news j e)).source ≡ Some i → (i' : ℕ) × (source_at (slice_get nodes j) ≡ Some i')
   is_reader =
-      told.is_reader is own left named failed holds called faulted view laws asked heads edges nodes srcs snks claims olds news sp kp fault srcs' snks' routes state
+      told.is_reader is own left named failed holds called faulted view laws exits asked heads edges nodes srcs snks claims olds news sp kp fault srcs' snks' routes state
       events order fitting run back sound s bytes vouched tells snk_count
 
-  reads_own : (j i i' : ℕ) (e : M) → j < length news → (view (slice_index_or news j e)).source ≡ Some i → slice_get nodes j ≡ Some (node.Demux i') → i ≡ i'
+  reads_own : (j i i' : ℕ) (e : M) → j < length news → (view (slice_index_or news j e)).source ≡ Some i → source_at (slice_get nodes j) ≡ Some i' → i ≡ i'
   reads_own =
-      told.reads_own is own left named failed holds called faulted view laws asked heads edges nodes srcs snks claims olds news sp kp fault srcs' snks' routes state
+      told.reads_own is own left named failed holds called faulted view laws exits asked heads edges nodes srcs snks claims olds news sp kp fault srcs' snks' routes state
       events order fitting run back sound s bytes vouched tells snk_count
 
   node_there : (k : ℕ) → k < length news → k < length nodes
   node_there =
-      told.node_there is own left named failed holds called faulted view laws asked heads edges nodes srcs snks claims olds news sp kp fault srcs' snks' routes state
+      told.node_there is own left named failed holds called faulted view laws exits asked heads edges nodes srcs snks claims olds news sp kp fault srcs' snks' routes state
       events order fitting run back sound s bytes vouched tells snk_count
 
   old_there : (k : ℕ) → k < length nodes → k < length olds
   old_there =
-      told.old_there is own left named failed holds called faulted view laws asked heads edges nodes srcs snks claims olds news sp kp fault srcs' snks' routes state
+      told.old_there is own left named failed holds called faulted view laws exits asked heads edges nodes srcs snks claims olds news sp kp fault srcs' snks' routes state
       events order fitting run back sound s bytes vouched tells snk_count
 
   begun : (claims ≡ true) × AllStart view tasks olds
   begun =
-      told.begun is own left named failed holds called faulted view laws asked heads edges nodes srcs snks claims olds news sp kp fault srcs' snks' routes state
+      told.begun is own left named failed holds called faulted view laws exits asked heads edges nodes srcs snks claims olds news sp kp fault srcs' snks' routes state
       events order fitting run back sound s bytes vouched tells snk_count
 
   logs : AreLogged view tasks (solve (network tasks ports edges (length olds))) (ins_at ports edges) (outs_at ports edges) news fault s.logs
   logs =
-      told.logs is own left named failed holds called faulted view laws asked heads edges nodes srcs snks claims olds news sp kp fault srcs' snks' routes state
+      told.logs is own left named failed holds called faulted view laws exits asked heads edges nodes srcs snks claims olds news sp kp fault srcs' snks' routes state
       events order fitting run back sound s bytes vouched tells snk_count
 
   -- a part is the source that its node is
@@ -188,28 +188,33 @@ module _ {H S K M : Type 0} (is : KindsOf H) (own : TellOfThemselves is) (left n
       (λ i src.
       let reader = is_reader k i e lt src in
       let same = reads_own k i reader.0 e lt src reader.1 in
-      let is_demux = same_some (slice_get nodes k) n (node.Demux reader.0) at reader.1 in
-      ap source_in is_demux ∙ ap (λ (j : ℕ). Some j) (sym same))
+      sym (ap source_at at) ∙ (reader.1 ∙ ap (λ (j : ℕ). Some j) (sym same)))
 
   -- there is a place for each unit that it has tried
-  module _ (i k : ℕ) (at : slice_get nodes k ≡ Some (node.Demux i)) where
+  module _ (i k : ℕ) (at : source_at (slice_get nodes k) ≡ Some i) where
+    abbrev here : (n : PlanNode) × (slice_get nodes k ≡ Some n)
+    here = told.source_there (slice_get nodes k) i at
+
+    is_source : source_in here.0 ≡ Some i
+    is_source = sym (ap source_at here.1) ∙ at
+
     abbrev reader : (m : M) × (slice_get news k ≡ Some m)
-    reader = there news k (there_now k (slice_get_within nodes k (node.Demux i) at))
+    reader = there news k (there_now k (slice_get_within nodes k here.0 here.1))
 
     is_here : slice_index_or news k reader.0 ≡ reader.0
     is_here = get_or_from_slice_get news k reader.0 reader.0 reader.1
 
     tried_units : tried_in view i nodes news ≡ (view reader.0).tried
-    tried_units = tried_is view i nodes news k reader.0 (λ j h. demux_once (length srcs) (length snks) nodes order j k i h at) at reader.1
+    tried_units = tried_is view i nodes news k reader.0 (λ j h. source_once (length srcs) (length snks) nodes order j k i h at) at reader.1
 
     some_grants : (view reader.0).tried ≤ length (grants_of i events)
     some_grants =
-        let lt = there_now k (slice_get_within nodes k (node.Demux i) at) in
+        let lt = there_now k (slice_get_within nodes k here.0 here.1) in
         let m = slice_index_or news k reader.0 in
         let all = logs.settled sound k reader.0 lt in
         let under : ReadsUnderGrants (view m) all.past events = s.reads k reader.0 all.past lt all.fits all.logged in
         let places = reads_of (view m) all.past in
-        let many = no_more i 0 events places (λ n p h. (p, omega arith, under.granted i n p (source_is k reader.0 (node.Demux i) lt at) h))
+        let many = no_more i 0 events places (λ n p h. (p, omega arith, under.granted i n p (source_is k reader.0 here.0 lt here.1 ∙ is_source) h))
         (λ n p q a c. under.in_order n p q a (ap (λ (j : ℕ). slice_get places j) (add-one n) ∙ c)) in
         let each = under.one_each in
         let same = ap (λ (x : M). (view x).tried) is_here in
@@ -217,26 +222,26 @@ module _ {H S K M : Type 0} (is : KindsOf H) (own : TellOfThemselves is) (left n
 
     units : length (reads_at reads i) ≡ (view reader.0).tried
     units =
-        let within : i < length heads = (let w = order.inputs_there k i at in omega (arith, w, src_count)) in
         let few = some_grants in
-        ap length (reads_are view (length heads) nodes news events reads are i within ∙ ap (λ (n : ℕ). take n (grants_of i events)) tried_units)
+        ap length (reads_are view routes.sources nodes news events reads are i (below k i at) ∙ ap (λ (n : ℕ). take n (grants_of i events)) tried_units)
         ∙ length-take-le (view reader.0).tried (grants_of i events) few
 
     -- at most one more than its stream has
     few_units : length (reads_at reads i) ≤ length (stream_at ((tasks k).means []) 0).items + 1
     few_units =
-        let lt = there_now k (slice_get_within nodes k (node.Demux i) at) in
+        let lt = there_now k (slice_get_within nodes k here.0 here.1) in
         let all = logs.settled sound k reader.0 lt in
         let stood : (view reader.0).stands all.past = subst (λ (x : M). (view x).stands all.past) is_here all.fits in
-        let source = back.sources k i reader.0 at reader.1 in
-        let ends = have_ends is left named failed holds called faulted view asked heads edges nodes srcs snks olds news sp kp run.parts run.kept fitting k (node.Demux i) reader.0 at reader.1 in
-        let none : (view reader.0).in_lanes ≡ [] = ends.source i refl in
+        let ends = have_ends is left named failed holds called faulted view asked heads edges nodes srcs snks olds news sp kp run.parts run.kept fitting k here.0 reader.0 here.1 reader.1 in
+        let none : (view reader.0).in_lanes ≡ [] = ends.source i is_source in
         let valid : AreValid [] all.past.got = subst (λ (ls : List Lane). AreValid ls all.past.got) none ((laws reader.0).valid all.past stood) in
         let empty : AreValid (view reader.0).in_lanes [] = subst (λ (ls : List Lane). AreValid ls []) (sym none) (λ p. refl) in
         let below = (laws reader.0).monotone all.past stood all.past.got [] ((laws reader.0).valid all.past stood) empty (λ p. inl (valid p)) 0 in
         let short = no_longer (stream_at (all.past.task.means all.past.got) 0) (stream_at (all.past.task.means []) 0) below in
         let own_task = ap (λ (t : Task). length (stream_at (t.means []) 0).items) all.task_is in
-        let few = source.2.few all.past stood in
+        let src : (view reader.0).source ≡ Some i =
+        ap (λ (x : M). (view x).source) (sym is_here) ∙ (source_is k reader.0 here.0 lt here.1 ∙ is_source) in
+        let few = (exits reader.0).few all.past i stood src in
         let each = units in
         omega (arith, short, own_task, few, each)
 
@@ -253,11 +258,8 @@ module _ {H S K M : Type 0} (is : KindsOf H) (own : TellOfThemselves is) (left n
       let at : source_at (slice_get nodes k) ≡ source_in n.0 = ap source_at n.1 in
       same_means reads (source_at (slice_get nodes k)) (view m).source (view m).tried (tasks k).means (src ∙ sym at)
       (λ i is_i.
-      let demux = told.source_demux n.0 (ap (λ (o : Option ℕ). is_some o) (sym at ∙ is_i)) in
-      let same : Some demux.0 ≡ Some i = sym (ap source_in demux.1) ∙ (sym at ∙ is_i) in
-      let at_i : slice_get nodes k ≡ Some (node.Demux i) = n.1 ∙ (ap (λ (x : PlanNode). Some x) demux.1 ∙ ap (λ (j : ℕ). Some (node.Demux j)) (let number : demux.0 ≡ i = cc in number)) in
-      let x = reader i k at_i in
-      units i k at_i ∙ ap (λ (y : M). (view y).tried) (same_some (slice_get news k) x.0 m x.1 here))
+      let x = reader i k is_i in
+      units i k is_i ∙ ap (λ (y : M). (view y).tried) (same_some (slice_get news k) x.0 m x.1 here))
 
   nets_same : network (read_task is asked heads bytes nodes edges reads) ports edges (length news) ≡ read_parts view news (network tasks ports edges (length news))
   nets_same =
@@ -311,32 +313,32 @@ module _ {H S K M : Type 0} (is : KindsOf H) (own : TellOfThemselves is) (left n
 
 -- what a job's run that did all has logged, over inputs whose bytes may be told
 module _ {H S K M : Type 0} (is : KindsOf H) (own : TellOfThemselves is) (left named : S → Option (List ℕ)) (failed : S → ℕ) (holds called : K → Option (List ℕ)) (faulted : K → ℕ)
-    (view : M → View) (laws : (m : M) → Laws (view m)) (job : Job) (plan : Plan) (heads : List H) (srcs : List S) (snks : List K) (end : WorkEnd RunFault) (srcs' : List S) (snks' : List K)
+    (view : M → View) (laws : (m : M) → Laws (view m)) (exits : (m : M) → TellsExit (view m)) (job : Job) (plan : Plan) (heads : List H) (srcs : List S) (snks : List K) (end : WorkEnd RunFault) (srcs' : List S) (snks' : List K)
     (log : RunLog) (for : IsPlanFor is job heads plan) (src_count : length srcs ≡ length heads) (snk_count : length snks ≡ length job.outputs)
-    (h : IsLogOf is left named failed holds called faulted view (asked_of job plan.texts) heads plan.edges plan.nodes srcs snks (tell_all left holds srcs snks) plan.routes (state_before plan) end srcs' snks' log)
+    (h : IsLogOf is left named failed holds called faulted view (asked_of job plan.texts plan.made) heads plan.edges plan.nodes srcs snks (tell_all left holds srcs snks) plan.routes (state_before plan) end srcs' snks' log)
     (fine : end ≡ work_end.Fine) where
   order : AreOrdered (length srcs) (length snks) plan.nodes
   order =
       subst (λ (n : ℕ). AreOrdered n (length snks) plan.nodes) (sym src_count) (subst (λ (n : ℕ). AreOrdered (length heads) n plan.nodes) (sym snk_count) for.ordered)
 
-  enough_read : (bytes : Option (List (List ℕ))) → IfSome bytes (AreTold left holds srcs snks) → IfSome bytes (λ b. AreEnough is (asked_of job plan.texts) heads b plan.nodes plan.edges (places_in log.reads.items))
+  enough_read : (bytes : Option (List (List ℕ))) → IfSome bytes (AreTold left holds srcs snks) → IfSome bytes (λ b. AreEnough is (asked_of job plan.texts plan.made) heads b plan.nodes plan.edges (places_in log.reads.items))
   enough_read None tells = tt
   enough_read (Some bytes) tells =
       let d = h.history.done in
-      are_enough is own left named failed holds called faulted view laws (asked_of job plan.texts) heads plan.edges plan.nodes srcs snks (tell_all left holds srcs snks) d.olds d.news
+      are_enough is own left named failed holds called faulted view laws exits (asked_of job plan.texts plan.made) heads plan.edges plan.nodes srcs snks (tell_all left holds srcs snks) d.olds d.news
       d.src_places d.snk_places d.fault srcs' snks' plan.routes (state_before plan) log.history order for.fitting d.run d.back
-      (fine_only (length heads) plan.nodes d.fault (sym d.end_is ∙ fine)) h.history.run bytes (tells_told left holds srcs snks bytes tells) tells snk_count h.suffice src_count
+      (fine_only (length heads) plan.nodes d.fault (sym d.end_is ∙ fine)) h.history.run bytes (tells_told left holds srcs snks bytes tells) tells snk_count h.suffice for.below
       (places_in log.reads.items) h.reads for.muxes
 
   pub log_in : (bytes : Option (List (List ℕ))) → IfSome bytes (AreTold left holds srcs snks) → IsLogFor is job heads bytes log
   log_in bytes tells = (
-    told.history_in is own left named failed holds called faulted view laws job plan heads srcs snks end srcs' snks' log.history for src_count snk_count h.history fine bytes tells,
+    told.history_in is own left named failed holds called faulted view laws exits job plan heads srcs snks end srcs' snks' log.history for src_count snk_count h.history fine bytes tells,
     (
       plan,
       for.made,
       record {
-        granted = are_granted view (length heads) plan.nodes h.history.done.news log.history (places_in log.reads.items) h.reads;
-        unread = none_unread view (length heads) plan.nodes h.history.done.news log.history (places_in log.reads.items) h.reads;
+        granted = are_granted view plan.routes.sources plan.nodes h.history.done.news log.history (places_in log.reads.items) h.reads;
+        unread = none_unread view plan.routes.sources plan.nodes h.history.done.news log.history (places_in log.reads.items) h.reads;
         enough = enough_read bytes tells;
       },
     ),

@@ -3,13 +3,14 @@ use Rattle.std.proofs.Common.{◌≡◌, ◌⊎◌, inl, inr, ℕ, zero, suc, �
 use Rattle.std.specs.List.{AllByRecursion, IsDistinct, range_with_len}
 use Rattle.std.proofs.lemmas.Bool.Decides.{nat_tests}
 use Rattle.std.proofs.lemmas.Map.Keys.{IsDistinct-head, IsDistinct-tail}
-use Rattle.std.proofs.lemmas.Option.{get_or_from_slice_get}
+use Rattle.std.proofs.lemmas.Option.{get_or_from_slice_get, slice_get_within}
 use Rattle.ff_words.specs.declared.maps.streams.StreamRef.{StreamRef}
 use Rattle.ff_plan.specs.declared.planned.PlanNode.{PlanNode}
 use Rattle.ff_plan.specs.declared.planned.PlanNode.TheVariants as node
 use Rattle.ff_plan_layout.specs.Layout.{placed}
 use Rattle.ff_plan.specs.NodeRows.{HasRows}
 use Rattle.ff_run_plan.specs.Parts.{AreOrdered}
+use Rattle.ff_run_plan.proofs.Numbers.{ordered}
 
 -- ---- lists
 
@@ -81,18 +82,22 @@ one_place (y ∷ ys) apart (suc j) (suc k) x a b = ap suc (one_place ys (IsDisti
 
 -- ---- graphs
 
--- no graph stands among these nodes, and each once
+-- no node of a kind stands among these nodes
+abbrev HasNone : (ℕ → PlanNode) → List PlanNode → Type 0
+HasNone kind nodes = (k g : ℕ) → slice_get nodes k ≡ Some (kind g) → ⊥
+
+-- no graph does, and each once
 abbrev NoGraph : List PlanNode → Type 0
-NoGraph nodes = (k g : ℕ) → slice_get nodes k ≡ Some (node.Graph g) → ⊥
+NoGraph nodes = HasNone node.Graph nodes
 
 abbrev GraphsOnce : List PlanNode → Type 0
 GraphsOnce nodes = (j k g : ℕ) → slice_get nodes j ≡ Some (node.Graph g) → slice_get nodes k ≡ Some (node.Graph g) → j ≡ k
 
-none_mapped : {A : Type 0} (f : A → PlanNode) (xs : List A) → ((x : A) (g : ℕ) → node.Graph g ≡ f x → ⊥) → NoGraph (map f xs)
-none_mapped f xs other k g at = (let m = at_map f xs k (node.Graph g) at in other m.0 g m.2)
+none_mapped : {A : Type 0} (kind : ℕ → PlanNode) (f : A → PlanNode) (xs : List A) → ((x : A) (g : ℕ) → kind g ≡ f x → ⊥) → HasNone kind (map f xs)
+none_mapped kind f xs other k g at = (let m = at_map f xs k (kind g) at in other m.0 g m.2)
 
-none_joined : (xs ys : List PlanNode) → NoGraph xs → NoGraph ys → NoGraph (xs ++ ys)
-none_joined xs ys a b k g at = elim (at_append xs ys k (node.Graph g) at) [ inl h ↦ a k g h.1 | inr h ↦ b (k - length xs) g h.1 ]
+none_joined : (kind : ℕ → PlanNode) (xs ys : List PlanNode) → HasNone kind xs → HasNone kind ys → HasNone kind (xs ++ ys)
+none_joined kind xs ys a b k g at = elim (at_append xs ys k (kind g) at) [ inl h ↦ a k g h.1 | inr h ↦ b (k - length xs) g h.1 ]
 
 once_behind : (xs ys : List PlanNode) → NoGraph xs → GraphsOnce ys → GraphsOnce (xs ++ ys)
 once_behind xs ys none once j k g a b = elim (at_append xs ys j (node.Graph g) a) [
@@ -130,6 +135,7 @@ Placed = ListedBy placed
 -- neither cuts nor writes, and is of one of so many outputs where it ends streams with the shortest
 abbrev IsInner : ℕ → PlanNode → Type 0
 IsInner outputs (node.Demux i) = ⊥
+IsInner outputs (node.Gen i) = Unit {0}
 IsInner outputs (node.Dec at) = Unit {0}
 IsInner outputs (node.Graph g) = Unit {0}
 IsInner outputs (node.Shortest o) = o < outputs
@@ -173,12 +179,15 @@ one_row f outputs xs own inner ys e =
     }
 
 module _ (inputs outputs : ℕ) (nodes : List PlanNode) (rows : HasRows inputs outputs nodes) where
-  abbrev rest : List PlanNode
-  rest = map (λ at. node.Dec at) rows.decoded ++ (map (λ g. node.Graph g) rows.graphs ++ (map (λ o. node.Shortest o) rows.joined
+  abbrev behind_made : List PlanNode
+  behind_made = map (λ at. node.Dec at) rows.decoded ++ (map (λ g. node.Graph g) rows.graphs ++ (map (λ o. node.Shortest o) rows.joined
       ++ (map (λ (p : Placed). node.Enc p.output p.stream) rows.coded ++ map (λ o. node.Mux o) (range_with_len 0 outputs))))
 
+  abbrev rest : List PlanNode
+  rest = map (λ i. node.Gen i) rows.made ++ behind_made
+
   abbrev inner : ℕ
-  inner = length rows.decoded + (length rows.graphs + (length rows.joined + (length rows.coded + 0)))
+  inner = length rows.made + (length rows.decoded + (length rows.graphs + (length rows.joined + (length rows.coded + 0))))
 
   joined_there : (k o : ℕ) → slice_get rows.joined k ≡ Some o → o < outputs
   joined_there k o e = elim rows.all_or_none [
@@ -188,10 +197,11 @@ module _ (inputs outputs : ℕ) (nodes : List PlanNode) (rows : HasRows inputs o
 
   behind : EndsSo outputs inner rest
   behind =
-      one_row (λ (at : StreamRef). node.Dec at) outputs rows.decoded (λ k x e. tt) (length rows.graphs + (length rows.joined + (length rows.coded + 0))) _
+      one_row (λ (i : ℕ). node.Gen i) outputs rows.made (λ k x e. tt) (length rows.decoded + (length rows.graphs + (length rows.joined + (length rows.coded + 0)))) _
+      (one_row (λ (at : StreamRef). node.Dec at) outputs rows.decoded (λ k x e. tt) (length rows.graphs + (length rows.joined + (length rows.coded + 0))) _
       (one_row (λ (g : ℕ). node.Graph g) outputs rows.graphs (λ k x e. tt) (length rows.joined + (length rows.coded + 0)) _
       (one_row (λ (o : ℕ). node.Shortest o) outputs rows.joined joined_there (length rows.coded + 0) _
-      (one_row (λ (p : Placed). node.Enc p.output p.stream) outputs rows.coded (λ k x e. tt) 0 _ (only_muxes outputs))))
+      (one_row (λ (p : Placed). node.Enc p.output p.stream) outputs rows.coded (λ k x e. tt) 0 _ (only_muxes outputs)))))
 
   abbrev demuxes : List PlanNode
   demuxes = map (λ i. node.Demux i) rows.demuxed
@@ -255,16 +265,67 @@ module _ (inputs outputs : ℕ) (nodes : List PlanNode) (rows : HasRows inputs o
 
   behind_graphs : NoGraph (map (λ o. node.Shortest o) rows.joined ++ (map (λ (p : Placed). node.Enc p.output p.stream) rows.coded ++ map (λ o. node.Mux o) (range_with_len 0 outputs)))
   behind_graphs =
-      none_joined (map (λ o. node.Shortest o) rows.joined) _ (none_mapped (λ o. node.Shortest o) rows.joined (λ x g e. cc))
-      (none_joined (map (λ (p : Placed). node.Enc p.output p.stream) rows.coded) _ (none_mapped (λ (p : Placed). node.Enc p.output p.stream) rows.coded (λ x g e. cc))
-      (none_mapped (λ o. node.Mux o) (range_with_len 0 outputs) (λ x g e. cc)))
+      none_joined node.Graph (map (λ o. node.Shortest o) rows.joined) _ (none_mapped node.Graph (λ o. node.Shortest o) rows.joined (λ x g e. cc))
+      (none_joined node.Graph (map (λ (p : Placed). node.Enc p.output p.stream) rows.coded) _ (none_mapped node.Graph (λ (p : Placed). node.Enc p.output p.stream) rows.coded (λ x g e. cc))
+      (none_mapped node.Graph (λ o. node.Mux o) (range_with_len 0 outputs) (λ x g e. cc)))
 
   graphs_once : GraphsOnce nodes
   graphs_once =
       subst GraphsOnce (sym rows.are)
-      (once_behind demuxes rest (none_mapped (λ i. node.Demux i) rows.demuxed (λ x g e. cc))
-      (once_behind (map (λ (at : StreamRef). node.Dec at) rows.decoded) _ (none_mapped (λ (at : StreamRef). node.Dec at) rows.decoded (λ x g e. cc))
-      (once_before rows.graphs _ rows.numbered.distinct behind_graphs)))
+      (once_behind demuxes rest (none_mapped node.Graph (λ i. node.Demux i) rows.demuxed (λ x g e. cc))
+      (once_behind (map (λ i. node.Gen i) rows.made) _ (none_mapped node.Graph (λ i. node.Gen i) rows.made (λ x g e. cc))
+      (once_behind (map (λ (at : StreamRef). node.Dec at) rows.decoded) _ (none_mapped node.Graph (λ (at : StreamRef). node.Dec at) rows.decoded (λ x g e. cc))
+      (once_before rows.graphs _ rows.numbered.distinct behind_graphs))))
+
+  -- where the Gen nodes stand
+  none_made : HasNone node.Gen behind_made
+  none_made =
+      none_joined node.Gen (map (λ (at : StreamRef). node.Dec at) rows.decoded) _ (none_mapped node.Gen (λ (at : StreamRef). node.Dec at) rows.decoded (λ x g e. cc))
+      (none_joined node.Gen (map (λ g. node.Graph g) rows.graphs) _ (none_mapped node.Gen (λ g. node.Graph g) rows.graphs (λ x g e. cc))
+      (none_joined node.Gen (map (λ o. node.Shortest o) rows.joined) _ (none_mapped node.Gen (λ o. node.Shortest o) rows.joined (λ x g e. cc))
+      (none_joined node.Gen (map (λ (p : Placed). node.Enc p.output p.stream) rows.coded) _ (none_mapped node.Gen (λ (p : Placed). node.Enc p.output p.stream) rows.coded (λ x g e. cc))
+      (none_mapped node.Gen (λ o. node.Mux o) (range_with_len 0 outputs) (λ x g e. cc)))))
+
+  made_is : (k i : ℕ) → slice_get nodes k ≡ Some (node.Gen i) → (length demuxes ≤ k) × (slice_get rows.made (k - length demuxes) ≡ Some i)
+  made_is k i at = elim (at_append demuxes rest k (node.Gen i) (sym (ap (λ (ns : List PlanNode). slice_get ns k) rows.are) ∙ at)) [
+    | inl h ↦ absurd (none_mapped node.Gen (λ i. node.Demux i) rows.demuxed (λ x g e. cc) k i h.1)
+    | inr h ↦ elim (at_append (map (λ i. node.Gen i) rows.made) behind_made (k - length demuxes) (node.Gen i) h.1) [
+      | inl h' ↦
+          let m = at_map (λ (j : ℕ). node.Gen j) rows.made (k - length demuxes) (node.Gen i) h'.1 in
+          let same : node.Gen i ≡ node.Gen m.0 = m.2 in
+          let is : m.0 ≡ i = cc in
+          (h.0, m.1 ∙ ap (λ (j : ℕ). Some j) is)
+      | inr h' ↦ absurd (none_made ((k - length demuxes) - length (map (λ i. node.Gen i) rows.made)) i h'.1)
+    ]
+  ]
+
+  made_behind : (k i : ℕ) → slice_get nodes k ≡ Some (node.Gen i) → inputs ≤ i
+  made_behind k i at =
+      let h = made_is k i at in
+      let lt = slice_get_within rows.made (k - length demuxes) i h.1 in
+      subst (λ (n : ℕ). inputs ≤ n) (get_or_from_slice_get rows.made (k - length demuxes) i 0 h.1) (rows.made_are (k - length demuxes) 0 lt)
+
+  -- one at a lower place has a lower number
+  made_apart : (j k i : ℕ) → slice_get rows.made j ≡ Some i → slice_get rows.made k ≡ Some i → j < k → ⊥
+  made_apart j k i a b lt =
+      let up = rows.made_rising j k 0 lt (slice_get_within rows.made k i b) in
+      let x = get_or_from_slice_get rows.made j i 0 a in
+      let y = get_or_from_slice_get rows.made k i 0 b in
+      omega (arith, up, x, y)
+
+  made_once : (j k i : ℕ) → slice_get nodes j ≡ Some (node.Gen i) → slice_get nodes k ≡ Some (node.Gen i) → j ≡ k
+  made_once j k i a b =
+      let x = made_is j i a in
+      let y = made_is k i b in
+      let j_le = x.0 in
+      let k_le = y.0 in
+      elim (ordered (j - length demuxes) (k - length demuxes)) [
+        | inl lt ↦ absurd (made_apart (j - length demuxes) (k - length demuxes) i x.1 y.1 lt)
+        | inr r ↦ elim r [
+          | inl e ↦ omega (arith, j_le, k_le, e)
+          | inr lt ↦ absurd (made_apart (k - length demuxes) (j - length demuxes) i y.1 x.1 lt)
+        ]
+      ]
 
   pub are_ordered : AreOrdered inputs outputs nodes
   are_ordered = record {
@@ -278,6 +339,8 @@ module _ (inputs outputs : ℕ) (nodes : List PlanNode) (rows : HasRows inputs o
         let x = front_is j i a in
         let j_lt = x.0 in
         elim (kind_of k n b) [ inl h ↦ (slice_index_or rows.demuxed k 0, h.1) | inr r ↦ (let over = r.0 in absurd (omega (arith, j_lt, le, over))) ];
+    made_behind = made_behind;
+    made_once = made_once;
     graphs_once = graphs_once;
     muxes_at = λ k o at. (last_is k o at).1;
     muxes_rise = λ j k o o' a b lt.

@@ -1,7 +1,8 @@
 -- The run of parts that were built.
-use Rattle.std.proofs.Common.{◌≡◌, ℕ, ◌<◌, ◌≤◌, true, Bool, List, length, slice_get, Option, Some, None, sym, ap, ◌∙◌, subst, arith}
+use Rattle.std.proofs.Common.{◌≡◌, ℕ, ◌<◌, ◌≤◌, true, Bool, List, [], length, slice_get, Option, Some, None, sym, ap, ◌∙◌, subst, arith}
 use Rattle.std.proofs.lemmas.Option.{slice_get_within, get_or_from_slice_get}
 use Rattle.ff_stream.specs.declared.edges.edge.Edge.{Edge}
+use Rattle.ff_stream.specs.declared.item.Lane.{Lane}
 use Rattle.ff_stream.specs.edges.Ports.{lanes_into, lanes_out_of}
 use Rattle.ff_net.specs.Pasts.{Task, start}
 use Rattle.ff_net.specs.Views.{View}
@@ -16,20 +17,22 @@ use Rattle.ff_files.specs.Works.{AreTold}
 use Rattle.ff_run_plan.specs.Asked.{Asked}
 use Rattle.ff_run_plan.specs.Kinds.{KindsOf}
 use Rattle.ff_run_plan.specs.Meaning.{task_by, task_at}
-use Rattle.ff_run_plan.specs.Parts.{FitsDemux, FitsMux, IsFitting, AreFitting, AreOrdered, HasEnds, AreParts, source_in}
+use Rattle.ff_run_plan.specs.Parts.{FitsDemux, FitsMux, IsFitting, AreFitting, AreBelow, HasEnds, AreParts, source_in, source_at}
 use Rattle.ff_run_plan.specs.Runs.{TellsRun, AreRun}
 use Rattle.ff_net_threads.specs.network.Scheduling.{AllRouted}
 use Rattle.ff_run_plan.specs.Openings.{unstarted}
 use Rattle.ff_run_plan.proofs.Networks.{kept_same, unstarted_tells, unstarted_streams, parts_fit, meets_streams}
 use Rattle.ff_run_plan.proofs.Numbers.{there}
 
-is_demux : (n : PlanNode) (s : ℕ) → source_in n ≡ Some s → n ≡ node.Demux s
-is_demux (node.Demux i) s e = cc
-is_demux (node.Dec at) s e = absurd cc
-is_demux (node.Graph g) s e = absurd cc
-is_demux (node.Shortest o) s e = absurd cc
-is_demux (node.Enc o j) s e = absurd cc
-is_demux (node.Mux o) s e = absurd cc
+-- a source has no inputs
+source_ins : {H : Type 0} (is : KindsOf H) (asked : Asked) (heads : List H) (ins outs : List Lane) (n : PlanNode) (i : ℕ) → source_in n ≡ Some i → IsFitting is asked heads ins outs n → ins ≡ []
+source_ins is asked heads ins outs (node.Demux j) i e fits = fits.ins_are
+source_ins is asked heads ins outs (node.Gen j) i e fits = fits.ins_are
+source_ins is asked heads ins outs (node.Dec at) i e fits = absurd cc
+source_ins is asked heads ins outs (node.Graph g) i e fits = absurd cc
+source_ins is asked heads ins outs (node.Shortest o) i e fits = absurd cc
+source_ins is asked heads ins outs (node.Enc o j) i e fits = absurd cc
+source_ins is asked heads ins outs (node.Mux o) i e fits = absurd cc
 
 module _ {H S K M : Type 0} (is : KindsOf H) (left named : S → Option (List ℕ)) (failed : S → ℕ) (holds called : K → Option (List ℕ)) (faulted : K → ℕ) (view : M → View)
     (asked : Asked) (heads : List H) (edges : List Edge) (nodes : List PlanNode) (srcs : List S) (snks : List K) (olds : List M) (sp : List (Option S)) (kp : List (Option K))
@@ -54,16 +57,14 @@ module _ {H S K M : Type 0} (is : KindsOf H) (left named : S → Option (List �
       let x = there olds k lt in
       subst (λ (m : M). (view m).stands (start (task_at is asked heads bytes nodes edges k))) (sym (get_or_from_slice_get olds k x.0 d x.1)) (part_stands bytes told k x.0 x.1)
 
-  -- the source of a part has the number of an input
-  pub are_within : (inputs outs : ℕ) (routes : Routes) → AreOrdered inputs outs nodes → inputs ≤ routes.sources → AllRouted view routes olds
-  are_within inputs outs routes ordered few = record {
+  -- a part that is a source has the number of one
+  pub are_within : (routes : Routes) → AreBelow routes.sources nodes → AllRouted view routes olds
+  are_within routes below = record {
     each = λ k s d lt e.
         let x = there olds k lt in
         let n = node_there k x.0 x.1 in
         let own : (view x.0).source ≡ Some s = ap (λ (m : M). (view m).source) (sym (get_or_from_slice_get olds k x.0 d x.1)) ∙ e in
-        let is = is_demux n.0 s (sym (parts.each k n.0 x.0 n.1 x.1).source_is ∙ own) in
-        let below = ordered.inputs_there k s (n.1 ∙ ap (λ (y : PlanNode). Some y) is) in
-        omega (arith, below, few);
+        below k s (ap source_at n.1 ∙ (sym (parts.each k n.0 x.0 n.1 x.1).source_is ∙ own));
   }
 
   pub all_fit : length olds ≡ length nodes → AreFit (ports_by edges) (length nodes) edges → AreFit (ports_of view olds) (length olds) edges
@@ -92,7 +93,7 @@ module _ {H S K M : Type 0} (is : KindsOf H) (left named : S → Option (List �
     meets = λ vouched bytes told. unstarted_streams view (task_at is asked heads bytes nodes edges) _ edges olds fault e (part_stands bytes told);
   }
 
--- a demuxer that was run has no inputs, and a muxer no outputs
+-- a source that was run has no inputs, a demuxer gives packets, and a muxer has no outputs
 module _ {H S K M : Type 0} (is : KindsOf H) (left named : S → Option (List ℕ)) (failed : S → ℕ) (holds called : K → Option (List ℕ)) (faulted : K → ℕ) (view : M → View)
     (asked : Asked) (heads : List H) (edges : List Edge) (nodes : List PlanNode) (srcs : List S) (snks : List K) (olds news : List M) (sp : List (Option S)) (kp : List (Option K))
     (parts : AreParts is left named failed holds called faulted view asked heads edges nodes srcs snks olds sp kp) (kept : AllKept view olds news) (fitting : AreFitting is asked heads edges nodes) where
@@ -105,9 +106,10 @@ module _ {H S K M : Type 0} (is : KindsOf H) (left named : S → Option (List �
       ap (λ (x : M). (view x).in_lanes) (sym (get_or_from_slice_get news k m m now)) ∙ (kept.in_lanes k old.0 m lt ∙ (ap (λ (x : M). (view x).in_lanes) (get_or_from_slice_get olds k old.0 old.0 old.1) ∙ part.in_lanes)) in
       let outs : (view m).out_lanes ≡ lanes_out_of edges k =
       ap (λ (x : M). (view x).out_lanes) (sym (get_or_from_slice_get news k m m now)) ∙ (kept.out_lanes k old.0 m lt ∙ (ap (λ (x : M). (view x).out_lanes) (get_or_from_slice_get olds k old.0 old.0 old.1) ∙ part.out_lanes)) in record {
-        source = λ i e.
+        source = λ i e. ins ∙ source_ins is asked heads (lanes_into edges k) (lanes_out_of edges k) n i e (fitting k n at);
+        packets = λ i e.
             let fits : FitsDemux is heads (lanes_into edges k) (lanes_out_of edges k) i = subst (λ (x : PlanNode). IsFitting is asked heads (lanes_into edges k) (lanes_out_of edges k) x) e (fitting k n at) in
-            ins ∙ fits.ins_are;
+            (is.stream fits.head, outs ∙ fits.outs_are);
         sink = λ o e.
             let fits : FitsMux is asked (lanes_into edges k) (lanes_out_of edges k) o = subst (λ (x : PlanNode). IsFitting is asked heads (lanes_into edges k) (lanes_out_of edges k) x) e (fitting k n at) in
             outs ∙ fits.outs_are;

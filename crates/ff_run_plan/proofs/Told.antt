@@ -1,4 +1,4 @@
--- What the history of a run tells of streams and inputs.
+-- What the history of a run tells of streams and sources.
 use Rattle.std.proofs.Common.{◌≡◌, ◌⊎◌, inl, inr, ℕ, suc, ◌+◌, ◌<◌, ◌≤◌, ◌||◌, Bool, true, false, cond, List, [], ◌∷◌, filter, length, slice_get, slice_index_or, Option, Some, None, is_some, refl, sym, ap, ◌∙◌, subst, arith}
 use Rattle.std.specs.Prelude.{IfSome}
 use Rattle.std.proofs.lemmas.Option.{slice_get_within, get_or_from_slice_get}
@@ -8,6 +8,7 @@ use Rattle.ff_frame.specs.declared.head.StreamHead.{StreamHead}
 use Rattle.ff_stream.specs.Stream.{whole}
 use Rattle.ff_stream.specs.Ports.{stream_at, IsClosed}
 use Rattle.ff_lang.specs.declared.graph.Graph.{Graph}
+use Rattle.ff_source.specs.declared.made.Made.{Made}
 use Rattle.ff_words.specs.declared.job.Job.{Job}
 use Rattle.ff_words.specs.declared.job.OutputJob.{OutputJob}
 use Rattle.ff_stream.specs.declared.edges.edge.Edge.{Edge}
@@ -34,16 +35,16 @@ use Rattle.ff_run_plan.specs.Asked.{Asked, asked_of}
 use Rattle.ff_run_plan.specs.declared.fault.RunFault.{RunFault}
 use Rattle.ff_run_plan.specs.Accepting.{IsPlanFor}
 use Rattle.ff_run_plan.specs.Claims.{tell_all}
-use Rattle.ff_run_plan.specs.Kinds.{KindsOf, is_of_stream}
+use Rattle.ff_run_plan.specs.Kinds.{KindsOf, TellsExit, is_of_stream}
 use Rattle.ff_run_plan.specs.Events.{is_best_of, ChangeBest, is_exit_of, TellOfThemselves, TellAlone}
 use Rattle.ff_run_plan.specs.Histories.{state_before, HasExited, TellsAll, IsHistoryFor, IsHistoryOf, AreScheduled}
 use Rattle.ff_run_plan.specs.Meaning.{edges_into, task_by, task_at, solution, streams_into, mux_node, events_by}
 use Rattle.ff_run_plan.specs.Openings.{reads_in, is_read}
-use Rattle.ff_run_plan.specs.Parts.{FitsDemux, FitsGraph, FitsMux, AreFitting, AreOrdered, AreBack, source_in}
+use Rattle.ff_run_plan.specs.Parts.{FitsDemux, FitsGen, FitsGraph, FitsMux, AreFitting, AreOrdered, AreBack, source_in, source_at}
 use Rattle.ff_run_plan.specs.Runs.{AreRun}
-use Rattle.ff_run_plan.specs.Tasks.{first_at, cuts_at, heads_on, demux_by, graph_by, mux_by}
+use Rattle.ff_run_plan.specs.Tasks.{first_at, cuts_at, heads_on, demux_by, gen_by, graph_by, mux_by}
 use Rattle.ff_run_plan.proofs.EventSteps.{change_all, itself, same_number, plans_tell_alone}
-use Rattle.ff_run_plan.proofs.Gathering.{demux_once}
+use Rattle.ff_run_plan.proofs.Gathering.{source_kind, source_once}
 use Rattle.ff_run_plan.proofs.Networks.{plan_net, plan_ins, plan_outs}
 use Rattle.ff_run_plan.proofs.Numbers.{there}
 use Rattle.ff_run_plan.proofs.Outcomes.{fine_only}
@@ -51,40 +52,42 @@ use Rattle.ff_run_plan.proofs.Running.{all_start, part_lanes}
 use Rattle.ff_run_plan.proofs.StreamNumbers.{coded_is, lane_count, edge_count, at_streams}
 use Rattle.ff_run_plan.proofs.Telling.{tells_told}
 
--- ---- which node reads an input
+-- ---- which node reads a source
 
 either : (a b : Bool) → (a || b) ≡ true → (a ≡ true) ⊎ (b ≡ true)
 either true b e = inl refl
 either false b e = inr e
 
-pub reads_demux : (n : PlanNode) (i : ℕ) → reads_in i n ≡ true → n ≡ node.Demux i
-reads_demux (node.Demux j) i e = ap node.Demux (same_number j i e)
-reads_demux (node.Dec at) i e = absurd cc
-reads_demux (node.Graph g) i e = absurd cc
-reads_demux (node.Shortest o) i e = absurd cc
-reads_demux (node.Enc o j) i e = absurd cc
-reads_demux (node.Mux o) i e = absurd cc
+pub reads_source : (n : PlanNode) (i : ℕ) → reads_in i n ≡ true → source_in n ≡ Some i
+reads_source (node.Demux j) i e = ap (λ (m : ℕ). Some m) (same_number j i e)
+reads_source (node.Gen j) i e = ap (λ (m : ℕ). Some m) (same_number j i e)
+reads_source (node.Dec at) i e = absurd cc
+reads_source (node.Graph g) i e = absurd cc
+reads_source (node.Shortest o) i e = absurd cc
+reads_source (node.Enc o j) i e = absurd cc
+reads_source (node.Mux o) i e = absurd cc
 
-reader_of : (nodes : List PlanNode) (i : ℕ) → is_read nodes i ≡ true → (k : ℕ) × (slice_get nodes k ≡ Some (node.Demux i))
+reader_of : (nodes : List PlanNode) (i : ℕ) → is_read nodes i ≡ true → (k : ℕ) × (source_at (slice_get nodes k) ≡ Some i)
 reader_of [] i e = absurd cc
 reader_of (n ∷ ns) i e = elim (either (reads_in i n) (is_read ns i) e) [
-  | inl here ↦ (0, ap (λ (x : PlanNode). Some x) (reads_demux n i here))
+  | inl here ↦ (0, reads_source n i here)
   | inr later ↦ (let rest = reader_of ns i later in (suc rest.0, rest.1))
 ]
 
-pub source_demux : (n : PlanNode) → is_some (source_in n) ≡ true → (i : ℕ) × (n ≡ node.Demux i)
-source_demux (node.Demux i) e = (i, refl)
-source_demux (node.Dec at) e = absurd cc
-source_demux (node.Graph g) e = absurd cc
-source_demux (node.Shortest o) e = absurd cc
-source_demux (node.Enc o j) e = absurd cc
-source_demux (node.Mux o) e = absurd cc
+some_number : (o : Option ℕ) → is_some o ≡ true → (i : ℕ) × (o ≡ Some i)
+some_number None e = absurd cc
+some_number (Some i) e = (i, refl)
+
+-- that of a number is a node
+pub source_there : (o : Option PlanNode) (i : ℕ) → source_at o ≡ Some i → (n : PlanNode) × (o ≡ Some n)
+source_there None i e = absurd cc
+source_there (Some n) i e = (n, refl)
 
 exited_same : (i j : ℕ) → Exited i ∷ [] ≡ Exited j ∷ [] → i ≡ j
 exited_same i j e = cc
 
 module _ {H S K M : Type 0} (is : KindsOf H) (own : TellOfThemselves is) (left named : S → Option (List ℕ)) (failed : S → ℕ) (holds called : K → Option (List ℕ)) (faulted : K → ℕ)
-    (view : M → View) (laws : (m : M) → Laws (view m)) (asked : Asked) (heads : List H) (edges : List Edge) (nodes : List PlanNode) (srcs : List S) (snks : List K) (claims : Bool)
+    (view : M → View) (laws : (m : M) → Laws (view m)) (exits : (m : M) → TellsExit (view m)) (asked : Asked) (heads : List H) (edges : List Edge) (nodes : List PlanNode) (srcs : List S) (snks : List K) (claims : Bool)
     (olds news : List M) (sp : List (Option S)) (kp : List (Option K)) (fault : Option NodeFault) (srcs' : List S) (snks' : List K) (routes : Routes) (state : State) (events : List Event)
     (order : AreOrdered (length srcs) (length snks) nodes) (fitting : AreFitting is asked heads edges nodes)
     (run : AreRun is left named failed holds called faulted view asked heads edges nodes srcs snks claims olds news sp kp fault)
@@ -207,18 +210,27 @@ module _ {H S K M : Type 0} (is : KindsOf H) (own : TellOfThemselves is) (left n
       (s.told tasks begun k (is_best_of g) lt (alone.best (length news) k g at)).same ∙ (ap (filter (is_best_of g)) all.all_told ∙ change_all g 0 ((tasks k).tells feeds) bests) in
       subst (ChangeBest g 0) (sym same) bests
 
-  -- ---- the exit of an input
+  -- ---- the exit of a source
 
   demux_task_is : (i k : ℕ) (at : slice_get nodes k ≡ Some (node.Demux i)) (fits : FitsDemux is heads (lanes_into edges k) (lanes_out_of edges k) i)
       → tasks k ≡ is.demux_task i fits.head (slice_index_or bytes i [])
   demux_task_is i k at fits =
       ap (λ (n : Option PlanNode). task_by is asked heads bytes nodes edges n k) at ∙ ap (λ (h : Option H). demux_by is i h (slice_index_or bytes i [])) fits.there
 
-  -- the events of the part of a Demux node
-  due_exit : (i k : ℕ) → slice_get nodes k ≡ Some (node.Demux i) → (feeds : List Feed) → (tasks k).tells feeds ≡ Exited i ∷ []
-  due_exit i k at feeds =
-      let fits : FitsDemux is heads (lanes_into edges k) (lanes_out_of edges k) i = fitting k (node.Demux i) at in
-      ap (λ (t : Task). t.tells feeds) (demux_task_is i k at fits) ∙ own.demuxer i fits.head (slice_index_or bytes i []) feeds
+  gen_task_is : (i k : ℕ) (at : slice_get nodes k ≡ Some (node.Gen i)) (fits : FitsGen is asked (lanes_into edges k) (lanes_out_of edges k) i) → tasks k ≡ is.gen_task i fits.made
+  gen_task_is i k at fits =
+      ap (λ (n : Option PlanNode). task_by is asked heads bytes nodes edges n k) at ∙ ap (λ (m : Option Made). gen_by is i m) fits.there
+
+  -- the events of the part of a source
+  due_exit : (i k : ℕ) → source_at (slice_get nodes k) ≡ Some i → (feeds : List Feed) → (tasks k).tells feeds ≡ Exited i ∷ []
+  due_exit i k at feeds = elim (source_kind (slice_get nodes k) i at) [
+    | inl demux ↦
+        let fits : FitsDemux is heads (lanes_into edges k) (lanes_out_of edges k) i = fitting k (node.Demux i) demux in
+        ap (λ (t : Task). t.tells feeds) (demux_task_is i k demux fits) ∙ own.demuxer i fits.head (slice_index_or bytes i []) feeds
+    | inr gen ↦
+        let fits : FitsGen is asked (lanes_into edges k) (lanes_out_of edges k) i = fitting k (node.Gen i) gen in
+        ap (λ (t : Task). t.tells feeds) (gen_task_is i k gen fits) ∙ own.generator i fits.made feeds
+  ]
 
   -- a part is a source where its node is one
   pub same_kind : (j : ℕ) (e : M) (n : PlanNode) → j < length news → slice_get nodes j ≡ Some n → is_some (source_in n) ≡ is_some (view (slice_index_or news j e)).source
@@ -232,35 +244,32 @@ module _ {H S K M : Type 0} (is : KindsOf H) (own : TellOfThemselves is) (left n
       let now_is = (laws (slice_index_or news j e)).is_source now.past now.fits in
       sym (ap (λ (o : Option ℕ). is_some o) part.source_is) ∙ (sym was ∙ (sym (ap (λ (t : Task). t.source) now.task_is) ∙ now_is))
 
-  -- a part that is a source is that of a Demux node
-  pub is_reader : (j i : ℕ) (e : M) → j < length news → (view (slice_index_or news j e)).source ≡ Some i → (i' : ℕ) × (slice_get nodes j ≡ Some (node.Demux i'))
+  -- a part that is a source is that of a source
+  pub is_reader : (j i : ℕ) (e : M) → j < length news → (view (slice_index_or news j e)).source ≡ Some i → (i' : ℕ) × (source_at (slice_get nodes j) ≡ Some i')
   is_reader j i e lt src =
       let n = there nodes j (node_there j lt) in
-      let d = source_demux n.0 (same_kind j e n.0 lt n.1 ∙ ap (λ (o : Option ℕ). is_some o) src) in
-      (d.0, n.1 ∙ ap (λ (x : PlanNode). Some x) d.1)
+      let d = some_number (source_in n.0) (same_kind j e n.0 lt n.1 ∙ ap (λ (o : Option ℕ). is_some o) src) in
+      (d.0, ap source_at n.1 ∙ d.1)
 
-  -- of its own input
-  pub reads_own : (j i i' : ℕ) (e : M) → j < length news → (view (slice_index_or news j e)).source ≡ Some i → slice_get nodes j ≡ Some (node.Demux i') → i ≡ i'
+  -- of its own number
+  pub reads_own : (j i i' : ℕ) (e : M) → j < length news → (view (slice_index_or news j e)).source ≡ Some i → source_at (slice_get nodes j) ≡ Some i' → i ≡ i'
   reads_own j i i' e lt src at =
-      let x = there news j lt in
-      let same = get_or_from_slice_get news j x.0 e x.1 in
       let now = logs.settled sound j e lt in
-      let source = back.sources j i' x.0 at x.1 in
-      let exits = source.2.exits now.past i (subst (λ (m : M). (view m).stands now.past) same now.fits) (sym (ap (λ (m : M). (view m).source) same) ∙ src) in
-      exited_same i i' (sym exits ∙ (ap (λ (t : Task). t.tells now.past.feeds) now.task_is ∙ due_exit i' j at now.past.feeds))
+      let exit = (exits (slice_index_or news j e)).exits now.past i now.fits src in
+      exited_same i i' (sym exit ∙ (ap (λ (t : Task). t.tells now.past.feeds) now.task_is ∙ due_exit i' j at now.past.feeds))
 
-  module _ (i k : ℕ) (at : slice_get nodes k ≡ Some (node.Demux i)) where
+  module _ (i k : ℕ) (at : source_at (slice_get nodes k) ≡ Some i) where
     demuxer_there : k < length news
-    demuxer_there = new_there k (slice_get_within nodes k (node.Demux i) at)
+    demuxer_there = (let n = source_there (slice_get nodes k) i at in new_there k (slice_get_within nodes k n.0 n.1))
 
     only : IsOnlySource view news k i
     only j e lt src =
         let reader = is_reader j i e lt src in
         let same = reads_own j i reader.0 e lt src reader.1 in
-        demux_once (length srcs) (length snks) nodes order j k i (subst (λ (n : ℕ). slice_get nodes j ≡ Some (node.Demux n)) (sym same) reader.1) at
+        source_once (length srcs) (length snks) nodes order j k i (subst (λ (n : ℕ). source_at (slice_get nodes j) ≡ Some n) (sym same) reader.1) at
 
     exit_by : AreToldBy (is_exit_of i) events (slice_index_or s.logs k [])
-    exit_by = s.told tasks begun k (is_exit_of i) demuxer_there (alone.input (length news) k i at)
+    exit_by = s.told tasks begun k (is_exit_of i) demuxer_there (alone.source (length news) k i at)
 
     has_exited : HasExited i events
     has_exited = record {
@@ -281,23 +290,23 @@ module _ {H S K M : Type 0} (is : KindsOf H) (own : TellOfThemselves is) (left n
     some = λ o lt. some_streams o (mux_node is asked heads bytes nodes edges o) (muxes o lt);
     streams = λ o j lt there. stream_told o (mux_node is asked heads bytes nodes edges o) (muxes o lt) j there;
     graphs = bests_told;
-    inputs = λ i read. (let k = reader_of nodes i read in has_exited i k.0 k.1);
+    sources = λ i read. (let k = reader_of nodes i read in has_exited i k.0 k.1);
   }
 
 -- the history of a job's run that did all, over inputs whose bytes may be told
 module _ {H S K M : Type 0} (is : KindsOf H) (own : TellOfThemselves is) (left named : S → Option (List ℕ)) (failed : S → ℕ) (holds called : K → Option (List ℕ)) (faulted : K → ℕ)
-    (view : M → View) (laws : (m : M) → Laws (view m)) (job : Job) (plan : Plan) (heads : List H) (srcs : List S) (snks : List K) (end : WorkEnd RunFault) (srcs' : List S) (snks' : List K)
+    (view : M → View) (laws : (m : M) → Laws (view m)) (exits : (m : M) → TellsExit (view m)) (job : Job) (plan : Plan) (heads : List H) (srcs : List S) (snks : List K) (end : WorkEnd RunFault) (srcs' : List S) (snks' : List K)
     (events : List Event) (for : IsPlanFor is job heads plan) (src_count : length srcs ≡ length heads) (snk_count : length snks ≡ length job.outputs)
-    (h : IsHistoryOf is left named failed holds called faulted view (asked_of job plan.texts) heads plan.edges plan.nodes srcs snks (tell_all left holds srcs snks) plan.routes (state_before plan) end srcs' snks' events)
+    (h : IsHistoryOf is left named failed holds called faulted view (asked_of job plan.texts plan.made) heads plan.edges plan.nodes srcs snks (tell_all left holds srcs snks) plan.routes (state_before plan) end srcs' snks' events)
     (fine : end ≡ work_end.Fine) where
   order : AreOrdered (length srcs) (length snks) plan.nodes
   order =
       subst (λ (n : ℕ). AreOrdered n (length snks) plan.nodes) (sym src_count) (subst (λ (n : ℕ). AreOrdered (length heads) n plan.nodes) (sym snk_count) for.ordered)
 
-  streams_told : (bytes : Option (List (List ℕ))) → IfSome bytes (AreTold left holds srcs snks) → IfSome bytes (λ b. TellsAll is (asked_of job plan.texts) heads b plan.nodes plan.edges events)
+  streams_told : (bytes : Option (List (List ℕ))) → IfSome bytes (AreTold left holds srcs snks) → IfSome bytes (λ b. TellsAll is (asked_of job plan.texts plan.made) heads b plan.nodes plan.edges events)
   streams_told None told = tt
   streams_told (Some bytes) told =
-      tells_all is own left named failed holds called faulted view laws (asked_of job plan.texts) heads plan.edges plan.nodes srcs snks (tell_all left holds srcs snks) h.done.olds h.done.news
+      tells_all is own left named failed holds called faulted view laws exits (asked_of job plan.texts plan.made) heads plan.edges plan.nodes srcs snks (tell_all left holds srcs snks) h.done.olds h.done.news
       h.done.src_places h.done.snk_places h.done.fault srcs' snks' plan.routes (state_before plan) events order for.fitting h.done.run h.done.back
       (fine_only (length heads) plan.nodes h.done.fault (sym h.done.end_is ∙ fine)) h.run bytes (tells_told left holds srcs snks bytes told) told snk_count for.muxes
 

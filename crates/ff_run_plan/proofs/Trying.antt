@@ -1,12 +1,13 @@
--- How often the source of an input has tried a unit, by the parts of a plan's nodes.
+-- How often a source has tried a unit, by the parts of a plan's nodes.
 use Rattle.std.proofs.Common.{◌≡◌, ℕ, zero, suc, ◌+◌, ◌≤◌, ◌||◌, Bool, true, false, cond, List, [], ◌∷◌, length, drop, slice_get, Some, refl, sym, ap, ◌∙◌, arith, add-one}
 use Rattle.ff_net.specs.Views.{View}
 use Rattle.ff_plan.specs.declared.planned.PlanNode.{PlanNode}
 use Rattle.ff_plan.specs.declared.planned.PlanNode.TheVariants as node
 use Rattle.ff_run_plan.specs.Openings.{reads_in, is_read}
+use Rattle.ff_run_plan.specs.Parts.{source_in, source_at}
 use Rattle.ff_run_plan.specs.Reads.{tried_in}
 use Rattle.ff_run_plan.proofs.EventSteps.{itself}
-use Rattle.ff_run_plan.proofs.Told.{reads_demux}
+use Rattle.ff_run_plan.proofs.Told.{reads_source}
 
 module _ {M : Type 0} (view : M → View) (i : ℕ) where
   -- from the number of a node on
@@ -24,7 +25,7 @@ module _ {M : Type 0} (view : M → View) (i : ℕ) where
       ∙ ap (λ (z : M). cond (reads_in i n) (view z).tried (tried_in view i ns ms)) (let same : Some y ≡ Some m = here in cc)
   up (x ∷ ns) (y ∷ ms) (suc k) n m at here = up ns ms k n m at here
 
-  -- that of a node that reads the input
+  -- that of a node that reads the source
   pub tried_here : (nodes : List PlanNode) (parts : List M) (k : ℕ) (n : PlanNode) (m : M) → slice_get nodes k ≡ Some n → slice_get parts k ≡ Some m → reads_in i n ≡ true
       → tried_from k nodes parts ≡ (view m).tried
   tried_here nodes parts k n m at here is = up nodes parts k n m at here ∙ ap (λ (b : Bool). cond b (view m).tried (tried_from (suc k) nodes parts)) is
@@ -56,7 +57,7 @@ module _ {M : Type 0} (view : M → View) (i : ℕ) where
   tried_all [] (y ∷ ms) (suc k) le = refl
   tried_all (x ∷ ns) (y ∷ ms) (suc k) le = tried_all ns ms k (omega (arith, le))
 
-  -- ---- the one node that reads an input
+  -- ---- the one node that reads a source
 
   both_not : (a b : Bool) → (a || b) ≡ false → (a ≡ false) × (b ≡ false)
   both_not true b e = absurd cc
@@ -69,22 +70,29 @@ module _ {M : Type 0} (view : M → View) (i : ℕ) where
       let neither = both_not (reads_in i n) (is_read ns i) e in
       ap (λ (b : Bool). cond b (view m).tried (tried_in view i ns ms)) neither.0 ∙ unread ns ms neither.1
 
-  other_node : (n : PlanNode) (b : Bool) → reads_in i n ≡ b → (n ≡ node.Demux i → ⊥) → b ≡ false
-  other_node n true e other = absurd (other (reads_demux n i e))
+  other_node : (n : PlanNode) (b : Bool) → reads_in i n ≡ b → (source_in n ≡ Some i → ⊥) → b ≡ false
+  other_node n true e other = absurd (other (reads_source n i e))
   other_node n false e other = refl
 
-  pub tried_is : (nodes : List PlanNode) (parts : List M) (k : ℕ) (m : M) → ((j : ℕ) → slice_get nodes j ≡ Some (node.Demux i) → j ≡ k)
-      → slice_get nodes k ≡ Some (node.Demux i) → slice_get parts k ≡ Some m → tried_in view i nodes parts ≡ (view m).tried
+  source_reads : (n : PlanNode) → source_in n ≡ Some i → reads_in i n ≡ true
+  source_reads (node.Demux j) e = itself i j (let same : Some j ≡ Some i = e in cc)
+  source_reads (node.Gen j) e = itself i j (let same : Some j ≡ Some i = e in cc)
+  source_reads (node.Dec at) e = absurd cc
+  source_reads (node.Graph g) e = absurd cc
+  source_reads (node.Shortest o) e = absurd cc
+  source_reads (node.Enc o j) e = absurd cc
+  source_reads (node.Mux o) e = absurd cc
+
+  pub tried_is : (nodes : List PlanNode) (parts : List M) (k : ℕ) (m : M) → ((j : ℕ) → source_at (slice_get nodes j) ≡ Some i → j ≡ k)
+      → source_at (slice_get nodes k) ≡ Some i → slice_get parts k ≡ Some m → tried_in view i nodes parts ≡ (view m).tried
   tried_is [] parts zero m once at here = absurd cc
   tried_is [] parts (suc k) m once at here = absurd cc
   tried_is (n ∷ ns) [] zero m once at here = absurd cc
   tried_is (n ∷ ns) [] (suc k) m once at here = absurd cc
   tried_is (n ∷ ns) (x ∷ ms) zero m once at here =
-      let same : Some n ≡ Some (node.Demux i) = at in
-      let is : n ≡ node.Demux i = cc in
       let there : Some x ≡ Some m = here in
-      ap (λ (b : Bool). cond b (view x).tried (tried_in view i ns ms)) (ap (reads_in i) is ∙ itself i i refl) ∙ ap (λ (y : M). (view y).tried) (let x_m : x ≡ m = cc in x_m)
+      ap (λ (b : Bool). cond b (view x).tried (tried_in view i ns ms)) (source_reads n at) ∙ ap (λ (y : M). (view y).tried) (let x_m : x ≡ m = cc in x_m)
   tried_is (n ∷ ns) (x ∷ ms) (suc k) m once at here =
-      let other = other_node n (reads_in i n) refl (λ e. (let first = once 0 (ap (λ (y : PlanNode). Some y) e) in omega (arith, first))) in
+      let other = other_node n (reads_in i n) refl (λ e. (let first = once 0 e in omega (arith, first))) in
       ap (λ (b : Bool). cond b (view x).tried (tried_in view i ns ms)) other
       ∙ tried_is ns ms k m (λ j h. (let up = once (suc j) h in omega (arith, up))) at here

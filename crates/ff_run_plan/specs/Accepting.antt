@@ -9,7 +9,7 @@ use Rattle.ff_sched.specs.Routes.{AreRoutes}
 use Rattle.ff_run_plan.specs.Asked.{asked_of}
 use Rattle.ff_run_plan.specs.Kinds.{KindsOf}
 use Rattle.ff_run_plan.specs.Meaning.{plan_for}
-use Rattle.ff_run_plan.specs.Parts.{AreFitting, AreOrdered, HaveNumbers}
+use Rattle.ff_run_plan.specs.Parts.{AreBelow, AreFitting, AreOrdered, HaveNumbers}
 
 module _ {H : Type 0} (is : KindsOf H) (job : Job) where
   -- one head that was read for each input of a job within its limits
@@ -28,9 +28,10 @@ module _ {H : Type 0} (is : KindsOf H) (job : Job) where
     pub few : (length plan.nodes < 2 ^ 16) × (length heads < 2 ^ 32)
     pub queue : (1 ≤ job.queue) × (job.queue ≤ 1024)
     pub routes : AreRoutes plan.routes
-    pub sources : plan.routes.sources ≡ length heads
+    pub sources : plan.routes.sources ≡ length heads + length plan.made
+    pub below : AreBelow plan.routes.sources plan.nodes
     pub fits : AreFit (ports_by plan.edges) (length plan.nodes) plan.edges
-    pub fitting : AreFitting is (asked_of job plan.texts) heads plan.edges plan.nodes
-    pub numbers : HaveNumbers (asked_of job plan.texts) plan.edges plan.nodes
+    pub fitting : AreFitting is (asked_of job plan.texts plan.made) heads plan.edges plan.nodes
+    pub numbers : HaveNumbers (asked_of job plan.texts plan.made) plan.edges plan.nodes
     pub ordered : AreOrdered (length heads) (length job.outputs) plan.nodes
     pub muxes : (o : ℕ) → o < length job.outputs → slice_get plan.nodes ((length plan.nodes - length job.outputs) + o) ≡ Some (node.Mux o)

@@ -32,6 +32,7 @@ output_cut (Some out) = record { time = out.cut; frames = out.frames }
 -- of the frames that go to a node: those of an output pass its Shortest node, and are cut before it
 abbrev pub cut_before : List OutputJob → PlanNode → OutputCut
 cut_before outputs (node.Demux i) = all_kept
+cut_before outputs (node.Gen i) = all_kept
 cut_before outputs (node.Dec at) = all_kept
 cut_before outputs (node.Graph g) = all_kept
 cut_before outputs (node.Shortest o) = output_cut (slice_get outputs o)

@@ -8,6 +8,7 @@ use Rattle.ff_frame.specs.declared.event.Event.TheVariants.{Grant, Sent, Finishe
 use Rattle.ff_stream.specs.declared.edges.edge.Edge.{Edge}
 use Rattle.ff_stream.specs.edges.Ports.{lanes_into}
 use Rattle.ff_lang.specs.declared.graph.Graph.{Graph}
+use Rattle.ff_source.specs.declared.made.Made.{Made}
 use Rattle.ff_words.specs.declared.job.OutputJob.{OutputJob}
 use Rattle.ff_net.specs.Pasts.{Feed}
 use Rattle.ff_net_threads.specs.network.Scheduling.{TellsAlone}
@@ -16,7 +17,7 @@ use Rattle.ff_plan.specs.declared.planned.PlanNode.TheVariants as node
 use Rattle.ff_run_plan.specs.Asked.{Asked}
 use Rattle.ff_run_plan.specs.Kinds.{KindsOf, is_of_stream}
 use Rattle.ff_run_plan.specs.Meaning.{task_at}
-use Rattle.ff_run_plan.specs.Parts.{AreOrdered}
+use Rattle.ff_run_plan.specs.Parts.{AreOrdered, source_at}
 use Rattle.ff_run_plan.specs.Tasks.{first_at}
 
 -- the number is one of so many, from the first one on
@@ -48,7 +49,7 @@ ChangeBest g best (Finished j ∷ es) = ⊥
 ChangeBest g best (Best h i ∷ es) = (h ≡ g) × (i ≢ best) × ChangeBest g i es
 ChangeBest g best (Exited s ∷ es) = ⊥
 
--- that the input of this number has exited
+-- that the source of this number has exited
 abbrev pub is_exit_of : ℕ → Event → Bool
 is_exit_of i (Grant s) = false
 is_exit_of i (Sent j t) = false
@@ -57,10 +58,11 @@ is_exit_of i (Best g k) = false
 is_exit_of i (Exited s) = nat_eq s i
 
 module _ {H : Type 0} (is : KindsOf H) where
-  -- whatever it was fed, a demuxer tells that its input has exited, a muxer of its output's streams, a graph when its
+  -- whatever it was fed, a demuxer and a source filter tell that they have exited, a muxer of its output's streams, a graph when its
   -- best input is another than before, which is the first one at first, and each other nothing
   pub record TellOfThemselves : Type 0 where
     pub demuxer : (i : ℕ) (head : H) (bytes : List ℕ) (feeds : List Feed) → (is.demux_task i head bytes).tells feeds ≡ Exited i ∷ []
+    pub generator : (i : ℕ) (made : Made) (feeds : List Feed) → (is.gen_task i made).tells feeds ≡ Exited i ∷ []
     pub decoder : (head : StreamHead) (cut : TimeCut) (outputs : ℕ) (feeds : List Feed) → (is.dec_task head cut outputs).tells feeds ≡ []
     pub graph : (g : ℕ) (text : Graph) (heads : List StreamHead) (cuts : List OutputCut) (feeds : List Feed)
         → ChangeBest g 0 ((is.graph_task g text heads cuts).tells feeds)
@@ -70,12 +72,12 @@ module _ {H : Type 0} (is : KindsOf H) where
         → All (λ e. is_of_streams first (length coded) e ≡ true) ((is.mux_task first out coded).tells feeds)
 
   -- so of the nodes of a plan, which have different numbers, one alone tells of an output stream, one alone of a graph's best input, and one alone
-  -- that an input has exited
+  -- that a source has exited
   pub record TellAlone (asked : Asked) (heads : List H) (bytes : List (List ℕ)) (nodes : List PlanNode) (edges : List Edge) : Type 0 where
     pub output : (count k o j : ℕ) → slice_get nodes k ≡ Some (node.Mux o) → j < length (lanes_into edges k)
         → TellsAlone (task_at is asked heads bytes nodes edges) count k (is_of_stream (first_at asked nodes edges k + j))
     pub best : (count k g : ℕ) → slice_get nodes k ≡ Some (node.Graph g) → TellsAlone (task_at is asked heads bytes nodes edges) count k (is_best_of g)
-    pub input : (count k i : ℕ) → slice_get nodes k ≡ Some (node.Demux i)
+    pub source : (count k i : ℕ) → source_at (slice_get nodes k) ≡ Some i
         → TellsAlone (task_at is asked heads bytes nodes edges) count k (is_exit_of i)
 
   abbrev pub PlansTellAlone : Type 0

@@ -26,7 +26,7 @@ use Rattle.ff_run_plan.specs.Meaning.{plan_for, streams_in, number_in, events_in
 use Rattle.ff_run_plan.specs.Openings.{is_read, is_unused}
 use Rattle.ff_run_plan.specs.Runs.{IsDone}
 
--- before a run nothing was sent and no stream has finished, and exactly the inputs that no node reads have exited
+-- before a run nothing was sent and no stream has finished, and exactly the sources that no node reads have exited
 abbrev pub state_at : List PlanNode → Routes → State
 state_at nodes routes = record {
   last = replicate 16 None;
@@ -39,26 +39,26 @@ state_at nodes routes = record {
 abbrev pub state_before : Plan → State
 state_before plan = state_at plan.nodes plan.routes
 
--- an input has exited, once, and behind every grant of it
+-- a source has exited, once, and behind every grant of it
 pub record HasExited (i : ℕ) (events : List Event) : Type 0 where
   pub once : filter (is_exit_of i) events ≡ Exited i ∷ []
   pub last : (p q : ℕ) → slice_get events p ≡ Some (Grant i) → slice_get events q ≡ Some (Exited i) → p < q
 
 -- Each output has a stream. Of each stream of each output, by its number over all outputs, it is told when each of its packets is decoded, in order, and then
--- that it has finished, and nothing else; of each graph it is told when another input than before is its best; and each input that is read has exited.
+-- that it has finished, and nothing else; of each graph it is told when another input than before is its best; and each source that is read has exited.
 pub record TellsAll {H : Type 0} (is : KindsOf H) (asked : Asked) (heads : List H) (bytes : List (List ℕ))
     (nodes : List PlanNode) (edges : List Edge) (events : List Event) : Type 0 where
   pub some : (o : ℕ) → o < length asked.outputs → 1 ≤ streams_in is asked heads bytes nodes edges o
   pub streams : (o j : ℕ) → o < length asked.outputs → j < streams_in is asked heads bytes nodes edges o
       → filter (is_of_stream (number_in is asked heads bytes nodes edges o j)) events ≡ events_in is asked heads bytes nodes edges o j
   pub graphs : (k g : ℕ) → slice_get nodes k ≡ Some (node.Graph g) → ChangeBest g 0 (filter (is_best_of g) events)
-  pub inputs : (i : ℕ) → is_read nodes i ≡ true → HasExited i events
+  pub sources : (i : ℕ) → is_read nodes i ≡ true → HasExited i events
 
 -- The history of a run of this plan over inputs with these heads and, where they are told, these bytes: each grant stands where the
 -- events before it, from the state before the run on, unchoke its source.
 pub record IsHistoryIn {H : Type 0} (is : KindsOf H) (job : Job) (heads : List H) (bytes : Option (List (List ℕ))) (plan : Plan) (events : List Event) : Type 0 where
   pub legal : IsLegal plan.routes (state_before plan) events
-  pub told : IfSome bytes (λ b. TellsAll is (asked_of job plan.texts) heads b plan.nodes plan.edges events)
+  pub told : IfSome bytes (λ b. TellsAll is (asked_of job plan.texts plan.made) heads b plan.nodes plan.edges events)
 
 -- that of a run of the plan for these heads
 abbrev pub IsHistoryFor : {H : Type 0} → KindsOf H → Job → List H → Option (List (List ℕ)) → List Event → Type 0

@@ -1,12 +1,15 @@
 -- The kinds of node of a plan: what each is there for, and what of a part is seen from outside.
-use Rattle.std.specs.Prelude.{◌≡◌, ℕ, ◌+◌, ◌<◌, ◌≤◌, nat_eq, Bool, false, List, [], ◌∷◌, filter, length, map, slice_get, Option, None, Some, IsSome, Ok}
+use Rattle.std.specs.Prelude.{◌≡◌, ℕ, ◌+◌, ◌<◌, ◌≤◌, nat_eq, Bool, false, List, [], ◌∷◌, filter, length, map, slice_get, Option, None, Some, IfSome, IsSome, Ok}
 use Rattle.std.specs.List.{AllByRecursion, range_with_len}
 use Rattle.ff_time.specs.declared.cut.TimeCut.{TimeCut}
 use Rattle.ff_trim.specs.declared.counted.OutputCut.{OutputCut}
 use Rattle.ff_frame.specs.declared.head.StreamHead.{StreamHead}
 use Rattle.ff_frame.specs.declared.event.Event.{Event}
 use Rattle.ff_frame.specs.declared.event.Event.TheVariants.{Grant, Sent, Finished, Best, Exited}
+use Rattle.ff_source.specs.declared.made.Made.{Made}
+use Rattle.ff_source.specs.Sources.{head_of}
 use Rattle.ff_stream.specs.declared.item.Lane.{Lane}
+use Rattle.ff_stream.specs.declared.item.Lane.TheVariants.{Frames}
 use Rattle.ff_stream.specs.Ports.{stream_at, IsClosed, IsWhole}
 use Rattle.ff_lang.specs.declared.graph.Graph.{Graph}
 use Rattle.ff_words.specs.declared.job.OutputJob.{OutputJob}
@@ -16,6 +19,7 @@ use Rattle.ff_net.specs.Ways.{Flow}
 use Rattle.ff_files.specs.Works.{HoldsPart}
 use Rattle.ff_graph_links.specs.labels.Clear.{IsClear}
 use Rattle.ff_plan_layout.specs.Rules.{Rules}
+use Rattle.ff_plan_layout.specs.Sources.{made_at_pad}
 use Rattle.ff_plan_layout.specs.declared.open_pads.OpenOut.{OpenOut}
 use Rattle.ff_run_plan.specs.declared.kinds.Ends.{Ends}
 use Rattle.ff_run_plan.specs.declared.kinds.Ends.TheVariants as ends
@@ -30,6 +34,9 @@ pub record KindsOf (H : Type 0) : Type 1 where
   pub IsFrames : StreamHead → Type 0
   -- what the demuxer of the input of this number with this head and these bytes is there for
   pub demux_task : ℕ → H → List ℕ → Task
+  -- what source filters can give, and what the source of this number is there for that gives it
+  pub CanMake : Made → Type 0
+  pub gen_task : ℕ → Made → Task
   -- the streams that can be decoded, and what a decoder with this cut behind it and so many outputs is there for
   pub CanDecode : StreamHead → Type 0
   pub dec_task : StreamHead → TimeCut → ℕ → Task
@@ -80,12 +87,10 @@ pub record IsEndOf {E : Type 0} (named : E → Option (List ℕ)) (failed : E �
   pub name : named end ≡ v.device
   pub faults : failed end ≡ v.failures
 
--- the source of a part: all that the part has to tell is that it has exited, and it tried at most one unit more than its stream has items
-pub record IsSourceOf {S : Type 0} (named : S → Option (List ℕ)) (failed : S → ℕ) (v : View) (src : S) : Type 0 where
-  pub name : named src ≡ v.device
-  pub faults : failed src ≡ v.failures
-  pub exits : (past : Past) (input : ℕ) → v.stands past → v.source ≡ Some input → past.task.tells past.feeds ≡ Exited input ∷ []
-  pub few : (past : Past) → v.stands past → v.tried ≤ length (stream_at (past.task.means past.got) 0).items + 1
+-- all that a part has to tell that is a source is that it has exited, and it tried at most one unit more than its stream has items
+pub record TellsExit (v : View) : Type 0 where
+  pub exits : (past : Past) (number : ℕ) → v.stands past → v.source ≡ Some number → past.task.tells past.feeds ≡ Exited number ∷ []
+  pub few : (past : Past) (number : ℕ) → v.stands past → v.source ≡ Some number → v.tried ≤ length (stream_at (past.task.means past.got) 0).items + 1
 
 -- the sink of a part, and what it holds where the part is a muxer that was fed something, and has to tell of each stream that has closed
 pub record IsSinkOf {H K : Type 0} (is : KindsOf H) (holds called : K → Option (List ℕ)) (faulted : K → ℕ) (v : View) (snk : K) : Type 0 where
@@ -106,8 +111,17 @@ GraphsAreHad is = (text : Graph) (heads : List StreamHead) (outs : List OpenOut)
     → length heads ≡ length (is.rules.open_ins text) → is.rules.loops text ≡ false → IsClear text → AllByRecursion is.IsFrames heads
     → is.CanFilter text heads (map (λ (out : OpenOut). out.head) outs)
 
--- what a part gives back: a demuxer, which has no inputs, its source, a muxer, which has no outputs, its sink
+-- what the source filters of a text give can be made, and what is true of the heads of all frames is true of its head
+abbrev pub SourcesAreHad : {H : Type 0} → KindsOf H → Type 0
+SourcesAreHad is = (text : Graph) → AllByRecursion (λ i. IfSome (made_at_pad i) (λ made. is.CanMake made × is.IsFrames (head_of made))) (is.rules.open_ins text)
+
+-- the lanes of the frames of one stream
+abbrev pub AreOneStream : List Lane → Type 0
+AreOneStream lanes = (head : StreamHead) × (lanes ≡ Frames head ∷ [])
+
+-- what a part gives back: a demuxer, which has no inputs, its source, a muxer, which has no outputs, its sink; a part without either that has
+-- no inputs gives frames
 abbrev pub GivesEnds : {H S K : Type 0} → KindsOf H → (S → Option (List ℕ)) → (S → ℕ) → (K → Option (List ℕ)) → (K → Option (List ℕ)) → (K → ℕ) → View → Ends S K → Type 0
-GivesEnds is named failed holds called faulted v (ends.Source src) = IsSourceOf named failed v src × (v.out_lanes ≡ [] → ⊥)
+GivesEnds is named failed holds called faulted v (ends.Source src) = IsEndOf named failed v src × (v.out_lanes ≡ [] → ⊥)
 GivesEnds is named failed holds called faulted v (ends.Sink snk) = IsSinkOf is holds called faulted v snk × (v.in_lanes ≡ [] → ⊥)
-GivesEnds is named failed holds called faulted v ends.Neither = (v.in_lanes ≡ [] → ⊥) × (v.out_lanes ≡ [] → ⊥)
+GivesEnds is named failed holds called faulted v ends.Neither = (v.in_lanes ≡ [] → AreOneStream v.out_lanes) × (v.out_lanes ≡ [] → ⊥)

@@ -34,6 +34,7 @@ edges_into edges k = ins_at (ports_by edges) edges k
 -- the input that a node cuts or decodes
 abbrev pub Reads : PlanNode → ℕ → Type 0
 Reads (node.Demux i) input = i ≡ input
+Reads (node.Gen i) input = ⊥
 Reads (node.Dec at) input = at.input ≡ input
 Reads (node.Graph g) input = ⊥
 Reads (node.Shortest o) input = ⊥
@@ -43,6 +44,7 @@ Reads (node.Mux o) input = ⊥
 -- inputs below this number are read by nodes before it, as far as they are used
 abbrev pub read_before : ℕ → PlanNode → ℕ
 read_before inputs (node.Demux i) = i
+read_before inputs (node.Gen i) = inputs
 read_before inputs (node.Dec at) = inputs
 read_before inputs (node.Graph g) = inputs
 read_before inputs (node.Shortest o) = inputs
@@ -132,15 +134,15 @@ module _ {H : Type 0} (is : KindsOf H) (job : Job) where
   refusal_of (Err refusal) = Some refusal
 
   abbrev pub file_of : Planned Plan → List H → List (List ℕ) → ℕ → Option (List ℕ)
-  file_of (Ok plan) heads bytes o = file_in is (asked_of job plan.texts) heads bytes plan.nodes plan.edges o
+  file_of (Ok plan) heads bytes o = file_in is (asked_of job plan.texts plan.made) heads bytes plan.nodes plan.edges o
   file_of (Err refusal) heads bytes o = None
 
   abbrev pub text_of : Planned Plan → List H → List (List ℕ) → ℕ → List ℕ
-  text_of (Ok plan) heads bytes o = text_in is (asked_of job plan.texts) heads bytes plan.nodes plan.edges o
+  text_of (Ok plan) heads bytes o = text_in is (asked_of job plan.texts plan.made) heads bytes plan.nodes plan.edges o
   text_of (Err refusal) heads bytes o = []
 
   abbrev pub BreaksBy : Planned Plan → List H → List (List ℕ) → RunFault → Type 0
-  BreaksBy (Ok plan) heads bytes why = BreaksIn is (asked_of job plan.texts) heads bytes plan.nodes plan.edges why
+  BreaksBy (Ok plan) heads bytes why = BreaksIn is (asked_of job plan.texts plan.made) heads bytes plan.nodes plan.edges why
   BreaksBy (Err refusal) heads bytes why = ⊥
 
   -- all that contracts see of a run of a job's plan

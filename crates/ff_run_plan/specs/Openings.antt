@@ -10,9 +10,10 @@ use Rattle.ff_net.specs.declared.fault.Fault.TheVariants.{NoMemory}
 use Rattle.ff_net_threads.specs.declared.network.run.NodeFault.{NodeFault}
 use Rattle.ff_run_plan.specs.declared.opening.Opening.{Opening}
 
--- whether the node reads the input of this number
+-- whether the node reads the source of this number: an input, or what a source filter gives
 abbrev pub reads_in : ℕ → PlanNode → Bool
 reads_in i (node.Demux j) = j == i
+reads_in i (node.Gen j) = j == i
 reads_in i (node.Dec at) = false
 reads_in i (node.Graph g) = false
 reads_in i (node.Shortest o) = false
@@ -24,11 +25,11 @@ abbrev pub is_read : List PlanNode → ℕ → Bool
 is_read [] i = false
 is_read (n ∷ ns) i = reads_in i n || is_read ns i
 
--- whether the input of this number is one of so many, and no node reads it
+-- whether the source of this number is one of so many, and no node reads it
 abbrev pub is_unused : List PlanNode → ℕ → ℕ → Bool
-is_unused nodes inputs i = nat_lt i inputs && not (is_read nodes i)
+is_unused nodes sources i = nat_lt i sources && not (is_read nodes i)
 
--- nothing has happened yet, and exactly the sources of inputs that no node reads have exited
+-- nothing has happened yet, and exactly the sources that no node reads have exited
 pub record IsOpening (nodes : List PlanNode) (routes : Routes) (state : State) : Type 0 where
   pub unused : ℕ
   pub state_is : state ≡ opening_of unused

@@ -5,6 +5,8 @@ use Rattle.ff_frame.specs.declared.head.StreamHead.{StreamHead}
 use Rattle.ff_stream.specs.declared.item.Lane.{Lane}
 use Rattle.ff_stream.specs.declared.item.Lane.TheVariants.{Frames, Packets}
 use Rattle.ff_lang.specs.declared.graph.Graph.{Graph}
+use Rattle.ff_source.specs.declared.made.Made.{Made}
+use Rattle.ff_source.specs.Sources.{head_of}
 use Rattle.ff_words.specs.declared.job.OutputJob.{OutputJob}
 use Rattle.ff_stream.specs.declared.edges.edge.Edge.{Edge}
 use Rattle.ff_net.specs.Pasts.{start}
@@ -13,7 +15,7 @@ use Rattle.ff_plan.specs.declared.planned.PlanNode.{PlanNode}
 use Rattle.ff_plan.specs.declared.planned.PlanNode.TheVariants as node
 use Rattle.ff_files.specs.Works.{AreTold}
 use Rattle.ff_run_plan.specs.Asked.{Asked}
-use Rattle.ff_run_plan.specs.Kinds.{KindsOf, IsSourceOf, IsSinkOf}
+use Rattle.ff_run_plan.specs.Kinds.{KindsOf, IsEndOf, IsSinkOf}
 use Rattle.ff_stream.specs.edges.Ports.{lanes_into, lanes_out_of}
 use Rattle.ff_run_plan.specs.Tasks.{first_at, cuts_at, task_of}
 
@@ -26,6 +28,13 @@ module _ {H : Type 0} (is : KindsOf H) where
     pub sound : is.IsHead head
     pub ins_are : ins ≡ []
     pub outs_are : outs ≡ Packets (is.stream head) ∷ []
+
+  pub record FitsGen (asked : Asked) (ins outs : List Lane) (i : ℕ) : Type 0 where
+    pub made : Made
+    pub there : asked.made i ≡ Some made
+    pub can : is.CanMake made
+    pub ins_are : ins ≡ []
+    pub outs_are : outs ≡ Frames (head_of made) ∷ []
 
   pub record FitsDec (ins outs : List Lane) : Type 0 where
     pub head : StreamHead
@@ -70,6 +79,7 @@ module _ {H : Type 0} (is : KindsOf H) where
   -- a node with these lanes at its ports
   abbrev pub IsFitting : Asked → List H → List Lane → List Lane → PlanNode → Type 0
   IsFitting asked heads ins outs (node.Demux i) = FitsDemux heads ins outs i
+  IsFitting asked heads ins outs (node.Gen i) = FitsGen asked ins outs i
   IsFitting asked heads ins outs (node.Dec at) = FitsDec ins outs
   IsFitting asked heads ins outs (node.Graph g) = FitsGraph asked ins outs g
   IsFitting asked heads ins outs (node.Shortest o) = FitsShortest asked ins outs o
@@ -92,12 +102,15 @@ AreFitting is asked heads edges nodes =
 abbrev pub IsBefore : List PlanNode → ℕ → PlanNode → Type 0
 IsBefore nodes count n = (j : ℕ) × (j < count) × (slice_get nodes j ≡ Some n)
 
--- First stand the Demux nodes, by the numbers of their inputs, and last the Mux nodes, one for each output; each graph stands once.
+-- First stand the Demux nodes, by the numbers of their inputs, and last the Mux nodes, one for each output; each graph stands once, and so does
+-- each Gen node, whose source has a number behind those of the inputs.
 pub record AreOrdered (inputs outputs : ℕ) (nodes : List PlanNode) : Type 0 where
   pub inputs_there : (k i : ℕ) → slice_get nodes k ≡ Some (node.Demux i) → i < inputs
   pub outputs_there : (k o : ℕ) → slice_get nodes k ≡ Some (node.Mux o) → o < outputs
   pub rising : (j k i i' : ℕ) → slice_get nodes j ≡ Some (node.Demux i) → slice_get nodes k ≡ Some (node.Demux i') → j < k → i < i'
   pub first : (j k i : ℕ) (n : PlanNode) → slice_get nodes j ≡ Some (node.Demux i) → slice_get nodes k ≡ Some n → k ≤ j → (i' : ℕ) × (n ≡ node.Demux i')
+  pub made_behind : (k i : ℕ) → slice_get nodes k ≡ Some (node.Gen i) → inputs ≤ i
+  pub made_once : (j k i : ℕ) → slice_get nodes j ≡ Some (node.Gen i) → slice_get nodes k ≡ Some (node.Gen i) → j ≡ k
   pub graphs_once : (j k g : ℕ) → slice_get nodes j ≡ Some (node.Graph g) → slice_get nodes k ≡ Some (node.Graph g) → j ≡ k
   pub muxes_at : (k o : ℕ) → slice_get nodes k ≡ Some (node.Mux o) → k ≡ (length nodes - outputs) + o
   pub muxes_rise : (j k o o' : ℕ) → slice_get nodes j ≡ Some (node.Mux o) → slice_get nodes k ≡ Some (node.Mux o') → j < k → o < o'
@@ -105,11 +118,20 @@ pub record AreOrdered (inputs outputs : ℕ) (nodes : List PlanNode) : Type 0 wh
 -- the number of the source that a node is
 abbrev pub source_in : PlanNode → Option ℕ
 source_in (node.Demux i) = Some i
+source_in (node.Gen i) = Some i
 source_in (node.Dec at) = None
 source_in (node.Graph g) = None
 source_in (node.Shortest o) = None
 source_in (node.Enc o j) = None
 source_in (node.Mux o) = None
+
+abbrev pub source_at : Option PlanNode → Option ℕ
+source_at None = None
+source_at (Some n) = source_in n
+
+-- the sources among the nodes have numbers below this one
+abbrev pub AreBelow : ℕ → List PlanNode → Type 0
+AreBelow sources nodes = (k i : ℕ) → source_at (slice_get nodes k) ≡ Some i → i < sources
 
 -- ---- sources and sinks in their places
 
@@ -122,9 +144,10 @@ pub record AllAside {T : Type 0} (all : List T) (places : List (Option T)) : Typ
   pub count : length places ≡ length all
   pub each : (i : ℕ) → i < length all → IsAside all places i
 
--- a demuxer has no inputs, a muxer no outputs
+-- a source has no inputs, and a demuxer gives packets; a muxer has no outputs
 pub record HasEnds (n : PlanNode) (v : View) : Type 0 where
-  pub source : (i : ℕ) → n ≡ node.Demux i → v.in_lanes ≡ []
+  pub source : (i : ℕ) → source_in n ≡ Some i → v.in_lanes ≡ []
+  pub packets : (i : ℕ) → n ≡ node.Demux i → (head : StreamHead) × (v.out_lanes ≡ Packets head ∷ [])
   pub sink : (o : ℕ) → n ≡ node.Mux o → v.out_lanes ≡ []
 
 module _ {H S K : Type 0} (is : KindsOf H) (left named : S → Option (List ℕ)) (failed : S → ℕ) (holds called : K → Option (List ℕ)) (faulted : K → ℕ) where
@@ -157,7 +180,7 @@ module _ {H S K : Type 0} (is : KindsOf H) (left named : S → Option (List ℕ)
     pub src_count : length srcs' ≡ length srcs
     pub snk_count : length snks' ≡ length snks
     pub sources : (k i : ℕ) (m : M) → slice_get nodes k ≡ Some (node.Demux i) → slice_get parts k ≡ Some m
-        → (s : S) × (slice_get srcs' i ≡ Some s) × IsSourceOf named failed (view m) s
+        → (s : S) × (slice_get srcs' i ≡ Some s) × IsEndOf named failed (view m) s
     pub sinks : (k o : ℕ) (m : M) → slice_get nodes k ≡ Some (node.Mux o) → slice_get parts k ≡ Some m
         → (s : K) × (slice_get snks' o ≡ Some s) × IsSinkOf is holds called faulted (view m) s
     pub other_srcs : (i : ℕ) → (IsBefore nodes (length parts) (node.Demux i) → ⊥) → slice_get srcs' i ≡ slice_get srcs i

@@ -27,6 +27,7 @@ use Rattle.ff_run_plan.specs.Parts.{AreParts, AreBack}
 -- only a Demux and a Mux node have a device
 abbrev pub device_end : PlanNode → WorkEnd RunFault
 device_end (node.Demux i) = work_end.Input i
+device_end (node.Gen i) = work_end.NoMemory
 device_end (node.Dec at) = work_end.NoMemory
 device_end (node.Graph g) = work_end.NoMemory
 device_end (node.Shortest o) = work_end.NoMemory
@@ -36,6 +37,7 @@ device_end (node.Mux o) = work_end.Output o
 -- only a Demux and a Dec node find damage
 abbrev pub damaged_end : ℕ → PlanNode → WorkEnd RunFault
 damaged_end offset (node.Demux i) = work_end.Broken (run_fault.Damaged i offset)
+damaged_end offset (node.Gen i) = work_end.NoMemory
 damaged_end offset (node.Dec at) = work_end.Broken (run_fault.Damaged at.input offset)
 damaged_end offset (node.Graph g) = work_end.NoMemory
 damaged_end offset (node.Shortest o) = work_end.NoMemory
@@ -45,6 +47,7 @@ damaged_end offset (node.Mux o) = work_end.NoMemory
 -- only a Mux node has a greatest size
 abbrev pub large_end : PlanNode → WorkEnd RunFault
 large_end (node.Demux i) = work_end.NoMemory
+large_end (node.Gen i) = work_end.NoMemory
 large_end (node.Dec at) = work_end.NoMemory
 large_end (node.Graph g) = work_end.NoMemory
 large_end (node.Shortest o) = work_end.NoMemory

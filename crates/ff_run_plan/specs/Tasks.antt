@@ -6,6 +6,7 @@ use Rattle.ff_frame.specs.declared.head.StreamHead.{StreamHead}
 use Rattle.ff_stream.specs.declared.item.Lane.{Lane}
 use Rattle.ff_stream.specs.Lanes.{head_of}
 use Rattle.ff_lang.specs.declared.graph.Graph.{Graph}
+use Rattle.ff_source.specs.declared.made.Made.{Made}
 use Rattle.ff_words.specs.declared.job.OutputJob.{OutputJob}
 use Rattle.ff_stream.specs.declared.edges.edge.Edge.{Edge}
 use Rattle.ff_net.specs.Pasts.{Task, no_events}
@@ -42,6 +43,10 @@ module _ {H : Type 0} (is : KindsOf H) where
   demux_by input None bytes = idle
   demux_by input (Some head) bytes = is.demux_task input head bytes
 
+  abbrev pub gen_by : ℕ → Option Made → Task
+  gen_by number None = idle
+  gen_by number (Some made) = is.gen_task number made
+
   abbrev pub dec_by : Option StreamHead → TimeCut → ℕ → Task
   dec_by None cut outputs = idle
   dec_by (Some head) cut outputs = is.dec_task head cut outputs
@@ -67,6 +72,7 @@ module _ {H : Type 0} (is : KindsOf H) where
   -- and outputs has these cuts
   abbrev pub task_of : Asked → List H → List (List ℕ) → ℕ → List OutputCut → List Lane → List Lane → PlanNode → Task
   task_of asked heads bytes first cuts ins outs (node.Demux i) = demux_by i (slice_get heads i) (slice_index_or bytes i [])
+  task_of asked heads bytes first cuts ins outs (node.Gen i) = gen_by i (asked.made i)
   task_of asked heads bytes first cuts ins outs (node.Dec at) = dec_by (first_head ins) (asked.cut at.input) (length outs)
   task_of asked heads bytes first cuts ins outs (node.Graph g) = graph_by g (asked.text g) (heads_on ins) cuts
   task_of asked heads bytes first cuts ins outs (node.Shortest o) = shortest_by (slice_get asked.outputs o) (heads_on ins)

@@ -1,8 +1,10 @@
 //! The part of each node of a plan.
-ghost use Rattle.std.specs.Prelude.{◌≡◌, ◌+◌, ◌^◌, ◌<◌, ◌≤◌, ℕ, List, [], length, map, slice_get, vec_capacity, Option, Some, None, IfSome, IsNone, IfOk, IfErr};
+ghost use Rattle.std.specs.Prelude.{◌≡◌, ◌+◌, ◌-◌, ◌^◌, ◌<◌, ◌≤◌, ◌∷◌, ℕ, List, [], length, map, slice_get, vec_capacity, Option, Some, None, IfSome, IsNone, IfOk, IfErr};
 ghost use Rattle.ff_stream.specs.declared.item.Lane.{Lane};
-ghost use Rattle.ff_stream.specs.declared.item.Lane.TheVariants.{Packets};
+ghost use Rattle.ff_stream.specs.declared.item.Lane.TheVariants.{Frames, Packets};
 ghost use Rattle.ff_net.specs.Pasts.{start};
+ghost use Rattle.ff_source.specs.declared.made.Made.{Made};
+ghost use Rattle.ff_source.specs.Sources.{head_of as head_of_made};
 ghost use Rattle.ff_words.specs.declared.job.OutputJob.{OutputJob};
 ghost use Rattle.ff_plan.specs.declared.planned.PlanNode.TheVariants.{Demux as DemuxNode, Mux as MuxNode};
 ghost use Rattle.ff_run_plan.specs.Asked.{asked_of};
@@ -23,6 +25,7 @@ use ff_host::{Sink, Source};
 use ff_net::Machine;
 use ff_plan::PlanNode;
 use ff_plan_layout::GraphText;
+use ff_source::Made;
 use ff_stream::{Edge, Lane};
 use ff_trim::OutputCut;
 use ff_words::{Job, OutputJob};
@@ -63,6 +66,21 @@ fn demuxer_at<
             None
         }
     }
+}
+
+// The part of a source filter, whose number among the sources is behind those of so many inputs.
+fn generator_at<
+    K: Kinds<Src, Snk, M>,
+    Src: Source + Send + Drop,
+    Snk: Sink + Send + Drop,
+    M: Machine + Send + Drop,
+>(alloc: Global, source: u32, inputs: usize, made: &[Made]) -> M
+    requires { (m : Made) × (slice_get made.now (source - inputs) ≡ Some m) × K.is.CanMake m }
+    ensures new { (m : Made) → slice_get made.now (source - inputs) ≡ Some m → IsNew (Some source) [] (Frames (head_of_made m) ∷ []) None 0 (M.view result) }
+    ensures starts { (m : Made) → slice_get made.now (source - inputs) ≡ Some m → (M.view result).stands (start (K.is.gen_task source m)) }
+{
+    let place = (source as usize).saturating_sub(inputs);
+    K::generator(alloc, source, made[place])
 }
 
 // The muxer of an output, whose first stream has this number, over the sink in its place.
@@ -118,16 +136,17 @@ fn part_at<
     heads: &[K::Head],
     job: &Job,
     texts: &[GraphText],
+    made: &[Made],
     places: &mut Places<Src, Snk>,
 ) -> Option<M>
-    requires fits { IsFitting K.is (asked_of job.now texts.now) heads.now ins.now outs.now node }
+    requires fits { IsFitting K.is (asked_of job.now texts.now made.now) heads.now ins.now outs.now node }
     requires numbers { (o : ℕ) → node ≡ MuxNode o → first + length ins.now ≤ 2 ^ 32 }
     requires as_many { length cuts.now ≡ length outs.now }
     requires source { (i : ℕ) → node ≡ DemuxNode i → (s : Src) × (slice_get places.old.srcs.items i ≡ Some (Some s)) }
     requires sink { (o : ℕ) → node ≡ MuxNode o → (s : Snk) × (slice_get places.old.snks.items o ≡ Some (Some s)) }
     ensures made { IfSome result (λ m. (srcs : List Src) (snks : List Snk) → ((i : ℕ) → node ≡ DemuxNode i → IsAside srcs places.old.srcs.items i)
         → ((o : ℕ) → node ≡ MuxNode o → IsAside snks places.old.snks.items o)
-        → IsPart K.is Src.left Src.name Src.faults Snk.holds Snk.name Snk.faults (asked_of job.now texts.now) heads.now srcs snks
+        → IsPart K.is Src.left Src.name Src.faults Snk.holds Snk.name Snk.faults (asked_of job.now texts.now made.now) heads.now srcs snks
         first cuts.now ins.now outs.now node (M.view m)) }
     ensures srcs_back { IsNone result → (w : ℕ) → slice_get places.new.srcs.items w ≡ slice_get places.old.srcs.items w }
     ensures snks_back { IsNone result → (w : ℕ) → slice_get places.new.snks.items w ≡ slice_get places.old.snks.items w }
@@ -139,6 +158,10 @@ fn part_at<
     match node {
         PlanNode::Demux { input } => {
             demuxer_at::<K, Src, Snk, M>(alloc, input, heads, &mut places.srcs)
+        }
+        PlanNode::Gen { source } => {
+            let inputs = job.inputs.as_slice().len();
+            Some(generator_at::<K, Src, Snk, M>(alloc, source, inputs, made))
         }
         PlanNode::Dec { stream } => {
             let cut = input_cut(job.inputs.as_slice(), stream.input);
@@ -181,17 +204,18 @@ fn part_of<
     heads: &[K::Head],
     job: &Job,
     texts: &[GraphText],
+    made: &[Made],
     places: &mut Places<Src, Snk>,
 ) -> Option<M>
     requires there { number < length nodes.now }
-    requires fitting { AreFitting K.is (asked_of job.now texts.now) heads.now edges.now nodes.now }
-    requires numbers { HaveNumbers (asked_of job.now texts.now) edges.now nodes.now }
+    requires fitting { AreFitting K.is (asked_of job.now texts.now made.now) heads.now edges.now nodes.now }
+    requires numbers { HaveNumbers (asked_of job.now texts.now made.now) edges.now nodes.now }
     requires source { (i : ℕ) → slice_get nodes.now number ≡ Some (DemuxNode i) → (s : Src) × (slice_get places.old.srcs.items i ≡ Some (Some s)) }
     requires sink { (o : ℕ) → slice_get nodes.now number ≡ Some (MuxNode o) → (s : Snk) × (slice_get places.old.snks.items o ≡ Some (Some s)) }
     ensures made { IfSome result (λ m. (n : PlanNode) → slice_get nodes.now number ≡ Some n → (srcs : List Src) (snks : List Snk)
         → ((i : ℕ) → n ≡ DemuxNode i → IsAside srcs places.old.srcs.items i) → ((o : ℕ) → n ≡ MuxNode o → IsAside snks places.old.snks.items o)
-        → IsPart K.is Src.left Src.name Src.faults Snk.holds Snk.name Snk.faults (asked_of job.now texts.now) heads.now srcs snks
-        (first_at (asked_of job.now texts.now) nodes.now edges.now number) (cuts_at (asked_of job.now texts.now) nodes.now edges.now number)
+        → IsPart K.is Src.left Src.name Src.faults Snk.holds Snk.name Snk.faults (asked_of job.now texts.now made.now) heads.now srcs snks
+        (first_at (asked_of job.now texts.now made.now) nodes.now edges.now number) (cuts_at (asked_of job.now texts.now made.now) nodes.now edges.now number)
         (lanes_into_of edges.now number) (lanes_out_of_node edges.now number) n (M.view m)) }
     ensures srcs_back { IsNone result → (w : ℕ) → slice_get places.new.srcs.items w ≡ slice_get places.old.srcs.items w }
     ensures snks_back { IsNone result → (w : ℕ) → slice_get places.new.snks.items w ≡ slice_get places.old.snks.items w }
@@ -222,6 +246,7 @@ fn part_of<
         heads,
         job,
         texts,
+        made,
         places,
     )
 }
@@ -241,24 +266,27 @@ pub(crate) fn build<
     heads: &[K::Head],
     job: &Job,
     texts: &[GraphText],
+    made: &[Made],
     mut parts: Vec<M>,
     places: &mut Places<Src, Snk>,
 ) -> Result<Vec<M>, Vec<M>>
     requires room { (parts.items ≡ []) × (length nodes.now ≤ vec_capacity parts) }
-    requires fitting { AreFitting K.is (asked_of job.now texts.now) heads.now edges.now nodes.now }
-    requires numbers { HaveNumbers (asked_of job.now texts.now) edges.now nodes.now }
+    requires fitting { AreFitting K.is (asked_of job.now texts.now made.now) heads.now edges.now nodes.now }
+    requires numbers { HaveNumbers (asked_of job.now texts.now made.now) edges.now nodes.now }
     requires ordered { AreOrdered (length places.old.srcs.items) (length places.old.snks.items) nodes.now }
     requires aside { (srcs : List Src) × (snks : List Snk) × AllAside srcs places.old.srcs.items × AllAside snks places.old.snks.items }
     ensures all { IfOk result (λ parts. length parts.items ≡ length nodes.now) }
     ensures ok { IfOk result (λ parts. (srcs : List Src) (snks : List Snk) → AllAside srcs places.old.srcs.items → AllAside snks places.old.snks.items
-        → AreParts K.is Src.left Src.name Src.faults Snk.holds Snk.name Snk.faults M.view (asked_of job.now texts.now) heads.now edges.now nodes.now srcs snks
+        → AreParts K.is Src.left Src.name Src.faults Snk.holds Snk.name Snk.faults M.view (asked_of job.now texts.now made.now) heads.now edges.now nodes.now srcs snks
         parts.items places.new.srcs.items places.new.snks.items) }
     ensures err { IfErr result (λ parts. (srcs : List Src) (snks : List Snk) → AllAside srcs places.old.srcs.items → AllAside snks places.old.snks.items
-        → AreParts K.is Src.left Src.name Src.faults Snk.holds Snk.name Snk.faults M.view (asked_of job.now texts.now) heads.now edges.now nodes.now srcs snks
+        → AreParts K.is Src.left Src.name Src.faults Snk.holds Snk.name Snk.faults M.view (asked_of job.now texts.now made.now) heads.now edges.now nodes.now srcs snks
         parts.items places.new.srcs.items places.new.snks.items) }
 {
     for number in 0..nodes.len() {
-        match part_of::<K, Src, Snk, M>(alloc, number, nodes, edges, heads, job, texts, places) {
+        match part_of::<K, Src, Snk, M>(
+            alloc, number, nodes, edges, heads, job, texts, made, places,
+        ) {
             Some(part) => parts.push_reserved(part),
             None => return Err(parts),
         }

@@ -63,6 +63,7 @@ fn cut_before(outputs: &[OutputJob], node: PlanNode) -> OutputCut
     match node {
         PlanNode::Shortest { output } => output_cut(outputs, output),
         PlanNode::Demux { .. }
+        | PlanNode::Gen { .. }
         | PlanNode::Dec { .. }
         | PlanNode::Graph { .. }
         | PlanNode::Enc { .. }

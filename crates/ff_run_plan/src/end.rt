@@ -16,7 +16,8 @@ fn device_end(node: PlanNode) -> WorkEnd<RunFault>
     match node {
         PlanNode::Demux { input } => WorkEnd::Input { input },
         PlanNode::Mux { output } => WorkEnd::Output { output },
-        PlanNode::Dec { .. }
+        PlanNode::Gen { .. }
+        | PlanNode::Dec { .. }
         | PlanNode::Graph { .. }
         | PlanNode::Shortest { .. }
         | PlanNode::Enc { .. } => WorkEnd::NoMemory,
@@ -30,7 +31,8 @@ fn damaged_end(offset: u64, node: PlanNode) -> WorkEnd<RunFault>
     let input = match node {
         PlanNode::Demux { input } => input,
         PlanNode::Dec { stream } => stream.input,
-        PlanNode::Graph { .. }
+        PlanNode::Gen { .. }
+        | PlanNode::Graph { .. }
         | PlanNode::Shortest { .. }
         | PlanNode::Enc { .. }
         | PlanNode::Mux { .. } => return WorkEnd::NoMemory,
@@ -45,6 +47,7 @@ fn large_end(node: PlanNode) -> WorkEnd<RunFault>
     match node {
         PlanNode::Mux { output } => WorkEnd::Broken(RunFault::TooLarge { output }),
         PlanNode::Demux { .. }
+        | PlanNode::Gen { .. }
         | PlanNode::Dec { .. }
         | PlanNode::Graph { .. }
         | PlanNode::Shortest { .. }
@@ -58,7 +61,8 @@ fn read_before(inputs: u32, node: PlanNode) -> u32
 {
     match node {
         PlanNode::Demux { input } => input,
-        PlanNode::Dec { .. }
+        PlanNode::Gen { .. }
+        | PlanNode::Dec { .. }
         | PlanNode::Graph { .. }
         | PlanNode::Shortest { .. }
         | PlanNode::Enc { .. }

@@ -2,7 +2,7 @@
 ghost use Rattle.std.specs.Prelude.{◌≡◌, ◌<◌, ◌≤◌, ℕ, List, [], length, slice_get, Option, Some};
 ghost use Rattle.ff_plan.specs.declared.planned.PlanNode.{PlanNode};
 ghost use Rattle.ff_plan.specs.declared.planned.PlanNode.TheVariants.{Demux as DemuxNode, Mux as MuxNode};
-ghost use Rattle.ff_run_plan.specs.Kinds.{IsSourceOf, IsSinkOf};
+ghost use Rattle.ff_run_plan.specs.Kinds.{IsEndOf, IsSinkOf};
 ghost use Rattle.ff_run_plan.specs.Parts.{IsBefore, AreOrdered, HasEnds};
 
 use crate::build::Places;
@@ -22,7 +22,7 @@ fn put_back<
     requires ends { HasEnds node (M.view part) }
     requires source { (i : ℕ) → node ≡ DemuxNode i → i < length places.old.srcs.items }
     requires sink { (o : ℕ) → node ≡ MuxNode o → o < length places.old.snks.items }
-    ensures source { (i : ℕ) → node ≡ DemuxNode i → (s : Src) × (slice_get places.new.srcs.items i ≡ Some (Some s)) × IsSourceOf Src.name Src.faults (M.view part) s }
+    ensures source { (i : ℕ) → node ≡ DemuxNode i → (s : Src) × (slice_get places.new.srcs.items i ≡ Some (Some s)) × IsEndOf Src.name Src.faults (M.view part) s }
     ensures sink { (o : ℕ) → node ≡ MuxNode o
         → (s : Snk) × (slice_get places.new.snks.items o ≡ Some (Some s)) × IsSinkOf K.is Snk.holds Snk.name Snk.faults (M.view part) s }
     ensures srcs_kept { (w : ℕ) → (node ≡ DemuxNode w → ⊥) → slice_get places.new.srcs.items w ≡ slice_get places.old.srcs.items w }
@@ -56,7 +56,7 @@ pub(crate) fn gather<
     requires ends { (k : ℕ) (n : PlanNode) (m : M) → slice_get nodes.now k ≡ Some n → slice_get parts.items k ≡ Some m → HasEnds n (M.view m) }
     requires ordered { AreOrdered (length places.old.srcs.items) (length places.old.snks.items) nodes.now }
     ensures sources { (k i : ℕ) (m : M) → slice_get nodes.now k ≡ Some (DemuxNode i) → slice_get parts.items k ≡ Some m
-        → (s : Src) × (slice_get places.new.srcs.items i ≡ Some (Some s)) × IsSourceOf Src.name Src.faults (M.view m) s }
+        → (s : Src) × (slice_get places.new.srcs.items i ≡ Some (Some s)) × IsEndOf Src.name Src.faults (M.view m) s }
     ensures sinks { (k o : ℕ) (m : M) → slice_get nodes.now k ≡ Some (MuxNode o) → slice_get parts.items k ≡ Some m
         → (s : Snk) × (slice_get places.new.snks.items o ≡ Some (Some s)) × IsSinkOf K.is Snk.holds Snk.name Snk.faults (M.view m) s }
     ensures other_srcs { (i : ℕ) → (IsBefore nodes.now (length parts.items) (DemuxNode i) → ⊥) → slice_get places.new.srcs.items i ≡ slice_get places.old.srcs.items i }

@@ -5,7 +5,7 @@ ghost use Rattle.ff_lang.specs.declared.graph.Graph.{Graph};
 ghost use Rattle.ff_net.specs.Pasts.{start};
 ghost use Rattle.ff_plan_layout.specs.Streams.{null_graph as null_of, simple_of};
 ghost use Rattle.ff_plan_layout.specs.Texts.{graph_text};
-ghost use Rattle.ff_run_plan.specs.Asked.{asked_of};
+ghost use Rattle.ff_run_plan.specs.Asked.{text_there};
 ghost use Rattle.ff_run_plan.specs.Kinds.{IsNew};
 ghost use Rattle.ff_frame.specs.declared.head.StreamHead.{StreamHead};
 ghost use Rattle.ff_words.specs.declared.job.OutputJob.{OutputJob};
@@ -94,11 +94,11 @@ pub(crate) fn graph_at<
     heads: &[StreamHead],
     cuts: &[OutputCut],
 ) -> Option<M>
-    requires { (text : Graph) × ((asked_of job.now texts.now).text number ≡ Some text)
+    requires { (text : Graph) × (text_there job.now (slice_get texts.now number) ≡ Some text)
         × (made : List StreamHead) × K.is.CanFilter text heads.now made × (length cuts.now ≡ length made) }
-    ensures new { IfSome result (λ m. (text : Graph) (made : List StreamHead) → (asked_of job.now texts.now).text number ≡ Some text → K.is.CanFilter text heads.now made
+    ensures new { IfSome result (λ m. (text : Graph) (made : List StreamHead) → text_there job.now (slice_get texts.now number) ≡ Some text → K.is.CanFilter text heads.now made
         → IsNew None (map (λ head. Frames head) heads.now) (map (λ head. Frames head) made) None 0 (M.view m)) }
-    ensures starts { IfSome result (λ m. (text : Graph) → (asked_of job.now texts.now).text number ≡ Some text
+    ensures starts { IfSome result (λ m. (text : Graph) → text_there job.now (slice_get texts.now number) ≡ Some text
         → (M.view m).stands (start (K.is.graph_task number text heads.now cuts.now))) }
 {
     graph_by::<K, Src, Snk, M>(alloc, number, job, texts[number as usize], heads, cuts)

@@ -14,10 +14,11 @@ ghost use Rattle.ff_plan.specs.Planned.{planned};
 ghost use Rattle.ff_plan_layout.specs.Refusals.{IsRefused};
 ghost use Rattle.ff_plan_layout.specs.Streams.{most_streams, packed_as, takes_head};
 ghost use Rattle.ff_plan.specs.Taken.{AreKeptBy};
+ghost use Rattle.ff_source.specs.Sources.{head_of};
 ghost use Rattle.ff_words.specs.declared.job.OutputJob.{OutputJob};
 ghost use Rattle.ff_frame.specs.declared.head.StreamHead.{StreamHead};
 ghost use Rattle.ff_run_plan.specs.Events.{TellOfThemselves};
-ghost use Rattle.ff_run_plan.specs.Kinds.{KindsOf, IsNew, GivesEnds, GraphsAreHad};
+ghost use Rattle.ff_run_plan.specs.Kinds.{KindsOf, IsNew, TellsExit, GivesEnds, GraphsAreHad, SourcesAreHad};
 ghost use Rattle.ff_plan.specs.Sound.{HasFewIns, KeepsTaken};
 
 use ff_frame::StreamHead;
@@ -26,6 +27,7 @@ use ff_lang::Graph;
 use ff_net::Machine;
 use ff_plan::Plan;
 use ff_plan_layout::PlanError;
+use ff_source::Made;
 use ff_time::TimeCut;
 use ff_trim::OutputCut;
 use ff_words::{Job, OutputJob};
@@ -38,7 +40,7 @@ pub enum Ends<Src: Drop, Snk: Drop> {
     Source(Src),
     /// The sink of a muxer.
     Sink(Snk),
-    /// The part has neither.
+    /// The part has neither, as a source filter's.
     Neither,
 }
 
@@ -68,6 +70,12 @@ pub trait Kinds<Src: Source + Send + Drop, Snk: Sink + Send + Drop, Part: Machin
         ensures new { IfOk result (λ m. IsNew (Some input) [] (Packets (is.stream head.now) ∷ []) (Src.name src) (Src.faults src) (Part.view m)) }
         ensures starts { IfOk result (λ m. (bytes : List ℕ) → Src.left src ≡ Some bytes → (Part.view m).stands (start (is.demux_task input head.now bytes))) }
         ensures back { IfErr result (λ back. back ≡ src) };
+
+    /// Gives the frames of a source filter, the source of this number.
+    fn generator(alloc: Global, number: u32, made: Made) -> Part
+        requires { is.CanMake made }
+        ensures new { IsNew (Some number) [] (Frames (head_of made) ∷ []) None 0 (Part.view result) }
+        ensures starts { (Part.view result).stands (start (is.gen_task number made)) };
 
     /// Decodes the packets of a stream, and cuts what that gives, for so many outputs.
     fn decoder(
@@ -158,8 +166,10 @@ pub trait Kinds<Src: Source + Send + Drop, Snk: Sink + Send + Drop, Part: Machin
     /// and an output that takes a stream takes what a graph of one input makes of it.
     ghost takes: { KeepsTaken is.rules };
 
-    /// What the rules make can be had as a graph,
+    /// What the rules make can be had as a graph, and what its source filters give can be made,
     ghost filters: { GraphsAreHad is };
+
+    ghost makes: { SourcesAreHad is };
 
     /// frames of some streams can go to an output together,
     ghost joins: { (heads : List StreamHead) → AllByRecursion is.IsFrames heads → 1 ≤ length heads → is.CanJoin heads };
@@ -171,8 +181,11 @@ pub trait Kinds<Src: Source + Send + Drop, Snk: Sink + Send + Drop, Part: Machin
     ghost writes: { (hs : List StreamHead) (out : OutputJob) → AllByRecursion (λ h. is.IsFrames h × (takes_head out h ≡ true)) hs
         → 1 ≤ length hs → length hs ≤ most_streams out.format → is.CanMux out (map (λ h. packed_as out h) hs) };
 
-    /// Each node tells of its own input or output alone.
+    /// Each node tells of its own source or output alone.
     ghost own: { TellOfThemselves is };
+
+    /// A part that is a source tells that it has exited, and tried no more than its stream and the end.
+    ghost exits: { (m : Part) → TellsExit (Part.view m) };
 
     /// What is held of streams is held of longer ones.
     ghost holds_on: { (out : OutputJob) (coded : List StreamHead) (held : Option (List ℕ)) (rs ss : List Flow) → AllBelow (map opened rs) ss

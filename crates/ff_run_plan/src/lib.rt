@@ -5,6 +5,7 @@
 //! parts of each edge are told of each other. The cut of an input stands after its decoders, that of an output after
 //! the graphs whose frames go to it. The sources of the inputs and the sinks of the outputs stand in numbered places.
 //! A demuxer takes its source out of its place, a muxer its sink. Once the run is over each gives back what it has.
+//! A source filter is a source without a place: it makes its frames.
 //!
 //! ```text
 //!       sources            parts, one for each node of the plan              sinks

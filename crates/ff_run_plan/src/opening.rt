@@ -9,12 +9,13 @@ ghost use Rattle.ff_run_plan.specs.Openings.{reads_in, is_read, is_unused, IsOpe
 use ff_plan::PlanNode;
 use ff_sched::{Routes, SchedState};
 
-/// Whether a node reads the input of this number.
+/// Whether a node reads the source of this number: an input, or what a source filter gives.
 pub(crate) fn reads(node: PlanNode, number: u32) -> bool
     ensures { result ≡ reads_in number node }
 {
     match node {
         PlanNode::Demux { input } => input == number,
+        PlanNode::Gen { source } => source == number,
         PlanNode::Dec { .. }
         | PlanNode::Graph { .. }
         | PlanNode::Shortest { .. }
@@ -35,14 +36,14 @@ fn some_reads(nodes: &[PlanNode], number: u32) -> bool
     false
 }
 
-// A mark for each input that no node reads, in a machine word whose lowest bit is that of input 0.
-fn unused_inputs(nodes: &[PlanNode], inputs: u32) -> u16
-    requires { inputs ≤ 16 }
-    ensures { (i : ℕ) → mark_at result i ≡ is_unused nodes.now inputs i }
+// A mark for each source that no node reads, in a machine word whose lowest bit is that of source 0.
+fn unused_sources(nodes: &[PlanNode], sources: u32) -> u16
+    requires { sources ≤ 16 }
+    ensures { (i : ℕ) → mark_at result i ≡ is_unused nodes.now sources i }
 {
     let mut marks: u16 = 0;
-    for k in 0..inputs {
-        let last = if some_reads(nodes, inputs - 1 - k) {
+    for k in 0..sources {
+        let last = if some_reads(nodes, sources - 1 - k) {
             0
         } else {
             1
@@ -61,13 +62,13 @@ pub(crate) struct Opening {
     pub(crate) routes: Routes,
 }
 
-/// Nothing has happened yet, and the inputs that no node reads have exited.
+/// Nothing has happened yet, and the sources that no node reads have exited.
 pub(crate) fn before_run(nodes: &[PlanNode], routes: Routes) -> Opening
     requires { AreRoutes routes }
     ensures state { IsOpening nodes.now routes result.state }
     ensures routes { result.routes ≡ routes }
 {
-    let unused = unused_inputs(nodes, routes.sources);
+    let unused = unused_sources(nodes, routes.sources);
     Opening {
         state: SchedState::opening(&routes, unused),
         routes,

@@ -9,7 +9,7 @@ ghost use Rattle.ff_files.specs.Works.{AreTold};
 ghost use Rattle.ff_run_plan.specs.Asked.{asked_of};
 ghost use Rattle.ff_run_plan.specs.Claims.{tell_all};
 ghost use Rattle.ff_net_threads.specs.network.Fits.{ports_by};
-ghost use Rattle.ff_run_plan.specs.Parts.{AreFitting, AreOrdered, AllAside, HaveNumbers};
+ghost use Rattle.ff_run_plan.specs.Parts.{AreBelow, AreFitting, AreOrdered, AllAside, HaveNumbers};
 ghost use Rattle.ff_net_threads.specs.network.Scheduling.{AllRouted};
 ghost use Rattle.ff_run_plan.specs.Histories.{AreScheduled};
 ghost use Rattle.ff_run_plan.specs.Reads.{AreSufficient, IsLogOf, first_reads, places_in};
@@ -32,6 +32,7 @@ use ff_net::{Fault, Machine};
 use ff_net_threads::network::{NodeFault, Ran, run_network};
 use ff_plan::PlanNode;
 use ff_plan_layout::GraphText;
+use ff_source::Made;
 use ff_stream::Edge;
 use ff_words::Job;
 use std::alloc::{AllocError, Global};
@@ -92,7 +93,6 @@ fn run_parts<
 >(
     rt: &R,
     alloc: Global,
-    inputs: u32,
     nodes: &[PlanNode],
     parts: Vec<M>,
     edges: &[Edge],
@@ -115,9 +115,10 @@ fn run_parts<
     ensures scheduled { IfSome result.log (λ log. AreScheduled M.view edges.now C.claims parts.items result.machines.items
         opening.routes opening.state result.fault log.history) }
     ensures suffice { AreSufficient M.view edges.now C.claims parts.items result.machines.items result.fault }
-    ensures reads { IfSome result.log (λ log. places_in log.reads.items ≡ first_reads M.view inputs nodes.now result.machines.items log.history) }
+    ensures reads { IfSome result.log (λ log. places_in log.reads.items ≡ first_reads M.view opening.routes.sources nodes.now result.machines.items log.history) }
 {
     let Opening { state, routes } = opening;
+    let sources = routes.sources;
     match run_network::<C, R, M>(rt, alloc, parts, edges, size, state, routes) {
         Ok(
             Ran {
@@ -126,7 +127,7 @@ fn run_parts<
                 history,
             },
         ) => {
-            let log = logged::<K, Src, Snk, M>(alloc, inputs, nodes, &machines, history);
+            let log = logged::<K, Src, Snk, M>(alloc, sources, nodes, &machines, history);
             RanParts {
                 machines,
                 fault: fault_or_memory(fault, log.is_some()),
@@ -154,6 +155,7 @@ fn build_and_run<
     heads: &[K::Head],
     job: &Job,
     texts: &[GraphText],
+    made: &[Made],
     opening: Opening,
     parts: Vec<M>,
     places: &mut Places<Src, Snk>,
@@ -162,26 +164,27 @@ fn build_and_run<
     requires few { (length nodes.now < 2 ^ 16) × (length heads.now < 2 ^ 32) }
     requires size { (1 ≤ size) × (size ≤ 1024) }
     requires fits { AreFit (ports_by edges.now) (length nodes.now) edges.now }
-    requires fitting { AreFitting K.is (asked_of job.now texts.now) heads.now edges.now nodes.now }
-    requires numbers { HaveNumbers (asked_of job.now texts.now) edges.now nodes.now }
+    requires fitting { AreFitting K.is (asked_of job.now texts.now made.now) heads.now edges.now nodes.now }
+    requires numbers { HaveNumbers (asked_of job.now texts.now made.now) edges.now nodes.now }
     requires ordered { AreOrdered (length places.old.srcs.items) (length places.old.snks.items) nodes.now }
     requires opening { CanBegin opening }
-    requires sources { length places.old.srcs.items ≤ opening.routes.sources }
+    requires sources { AreBelow opening.routes.sources nodes.now }
     requires aside { (srcs : List Src) × (snks : List Snk) × AllAside srcs places.old.srcs.items × AllAside snks places.old.snks.items
         × (C.claims ≡ true → (bytes : List (List ℕ)) × AreTold Src.left Snk.holds srcs snks bytes) }
     ensures ran { (srcs : List Src) (snks : List Snk) → AllAside srcs places.old.srcs.items → AllAside snks places.old.snks.items
         → (olds : List M) × AreRun K.is Src.left Src.name Src.faults Snk.holds Snk.name Snk.faults M.view
-        (asked_of job.now texts.now) heads.now edges.now nodes.now srcs snks C.claims
+        (asked_of job.now texts.now made.now) heads.now edges.now nodes.now srcs snks C.claims
         olds result.machines.items places.new.srcs.items places.new.snks.items result.fault
         × IfSome result.log (λ log. AreScheduled M.view edges.now C.claims olds result.machines.items opening.routes opening.state result.fault log.history)
         × AreSufficient M.view edges.now C.claims olds result.machines.items result.fault }
     ensures told { result.fault ≡ None → IsSome result.log }
-    ensures reads { IfSome result.log (λ log. places_in log.reads.items ≡ first_reads M.view (length heads.now) nodes.now result.machines.items log.history) }
+    ensures reads { IfSome result.log (λ log. places_in log.reads.items ≡ first_reads M.view opening.routes.sources nodes.now result.machines.items log.history) }
 {
-    match build::<K, Src, Snk, M>(alloc, nodes, edges, size, heads, job, texts, parts, places) {
+    match build::<K, Src, Snk, M>(
+        alloc, nodes, edges, size, heads, job, texts, made, parts, places,
+    ) {
         Ok(parts) => {
-            let inputs = heads.len() as u32;
-            run_parts::<C, K, R, Src, Snk, M>(rt, alloc, inputs, nodes, parts, edges, size, opening)
+            run_parts::<C, K, R, Src, Snk, M>(rt, alloc, nodes, parts, edges, size, opening)
         }
         Err(parts) => unstarted(parts),
     }
@@ -237,6 +240,7 @@ pub(crate) fn run_nodes<
     heads: &[K::Head],
     job: &Job,
     texts: &[GraphText],
+    made: &[Made],
     opening: Opening,
     srcs: Vec<Src>,
     snks: Vec<Snk>,
@@ -246,19 +250,19 @@ pub(crate) fn run_nodes<
     requires few { (length nodes.now < 2 ^ 16) × (length heads.now < 2 ^ 32) }
     requires size { (1 ≤ size) × (size ≤ 1024) }
     requires fits { AreFit (ports_by edges.now) (length nodes.now) edges.now }
-    requires fitting { AreFitting K.is (asked_of job.now texts.now) heads.now edges.now nodes.now }
-    requires numbers { HaveNumbers (asked_of job.now texts.now) edges.now nodes.now }
+    requires fitting { AreFitting K.is (asked_of job.now texts.now made.now) heads.now edges.now nodes.now }
+    requires numbers { HaveNumbers (asked_of job.now texts.now made.now) edges.now nodes.now }
     requires ordered { AreOrdered (length srcs.items) (length snks.items) nodes.now }
     requires queue { size ≡ job.now.queue }
     requires opening { CanBegin opening }
-    requires sources { length srcs.items ≤ opening.routes.sources }
+    requires sources { AreBelow opening.routes.sources nodes.now }
     requires told { C.claims ≡ tell_all Src.left Snk.holds srcs.items snks.items }
     ensures done { IsDone K.is Src.left Src.name Src.faults Snk.holds Snk.name Snk.faults M.view
-        (asked_of job.now texts.now) heads.now edges.now nodes.now srcs.items snks.items C.claims
+        (asked_of job.now texts.now made.now) heads.now edges.now nodes.now srcs.items snks.items C.claims
         result.end result.srcs.items result.snks.items }
     ensures told { result.end ≡ WorkEnd.Fine → IsSome result.log }
     ensures logged { IfSome result.log (λ log. IsLogOf K.is Src.left Src.name Src.faults Snk.holds Snk.name Snk.faults M.view
-        (asked_of job.now texts.now) heads.now edges.now nodes.now
+        (asked_of job.now texts.now made.now) heads.now edges.now nodes.now
         srcs.items snks.items C.claims opening.routes opening.state result.end result.srcs.items result.snks.items log) }
 {
     let mut places = Places {
@@ -278,6 +282,7 @@ pub(crate) fn run_nodes<
         heads,
         job,
         texts,
+        made,
         opening,
         room.parts,
         &mut places,

@@ -20,7 +20,8 @@ use ff_graph_links::{orders_are_whole, orders_go_upward};
 use ff_host::{Sink, Source};
 use ff_net::Machine;
 use ff_plan::{
-    Plan, graph_plans_are_fed, graphs_fit, nodes_have_rows, plans_are_sound, starts_fit,
+    Plan, graph_plans_are_fed, graphs_fit, nodes_have_rows, plans_are_sound, sources_are_asked,
+    starts_fit,
 };
 use ff_plan_layout::{PlanError, is_within_limits};
 use ff_words::Job;
@@ -67,6 +68,7 @@ pub fn make_plan<
     plans_are_sound();
     graph_plans_are_fed();
     graphs_fit();
+    sources_are_asked();
     starts_fit();
     nodes_have_rows();
     let lists = streams.as_slice();
@@ -83,7 +85,8 @@ pub fn make_plan<
 /// Runs a plan, each node of it in a thread of its own. Where there is no memory to begin, the sources and sinks are as they were.
 ///
 /// What comes back with them is the history of the run: all that its scheduler granted and was told, in one order.
-/// For each input there are the places of the grants in it under which its source has tried a unit.
+/// For each source, the inputs and then the source filters, there are the places of the grants in it under which it has
+/// tried a unit.
 pub fn run_plan<
     K: Kinds<Src, Snk, M>,
     R: Threads + Wait + Sync,
@@ -103,7 +106,7 @@ pub fn run_plan<
     ensures ran { RunSays (means_of K.is job.now) Src.left Src.name Src.faults Snk.holds Snk.name Snk.faults
         (IsLogFor K.is job.now heads.now) heads.now srcs.items snks.items result.end result.log result.srcs.items result.snks.items }
     ensures scheduled { IfSome result.log (λ log. IsLogOf K.is Src.left Src.name Src.faults Snk.holds Snk.name Snk.faults M.view
-        (asked_of job.now plan.texts) heads.now plan.edges plan.nodes
+        (asked_of job.now plan.texts plan.made) heads.now plan.edges plan.nodes
         srcs.items snks.items (tell_all Src.left Snk.holds srcs.items snks.items) plan.routes (state_before plan) result.end result.srcs.items result.snks.items log) }
 {
     let Plan {
@@ -111,10 +114,12 @@ pub fn run_plan<
         edges,
         routes,
         texts,
+        made,
     } = plan;
     let nodes = nodes.as_slice();
     let edges = edges.as_slice();
     let texts = texts.as_slice();
+    let made = made.as_slice();
     let outputs = job.outputs.as_slice();
     if srcs.len() != heads.len() || snks.len() != outputs.len() {
         return Done {
@@ -135,6 +140,6 @@ pub fn run_plan<
     let size = job.queue as usize;
     let opening = before_run(nodes, routes);
     run_nodes::<Brand, K, R, Src, Snk, M>(
-        rt, alloc, nodes, edges, size, heads, job, texts, opening, srcs, snks, room,
+        rt, alloc, nodes, edges, size, heads, job, texts, made, opening, srcs, snks, room,
     )
 }

@@ -76,6 +76,7 @@ joint_tells ends heads feeds = refl
 pub parts_tell_of_themselves : TellOfThemselves all_kinds
 parts_tell_of_themselves = record {
   demuxer = λ i head bytes feeds. refl;
+  generator = λ i made feeds. refl;
   decoder = λ head cut outputs feeds. refl;
   graph = λ g text heads cuts feeds. graph_tells g heads feeds;
   shortest = joint_tells;

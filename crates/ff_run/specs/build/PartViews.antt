@@ -4,6 +4,8 @@ use Rattle.ff_node_codec.specs.codecs.AnyCoders.{any_head, any_frame, any_serves
 use Rattle.ff_host.specs.declared.sink.Sink.{Ghosts as SinkGhosts}
 use Rattle.ff_net.specs.Views.{View}
 use Rattle.ff_node_demux.specs.DemuxViews.{demux_view}
+use Rattle.ff_node_demux.specs.gens.GenViews.{gen_view}
+use Rattle.ff_source.specs.Left.{left as frames_left}
 use Rattle.ff_node_codec.specs.Kinds.{dec_view, enc_view}
 use Rattle.ff_node_flac.specs.Machines as flac
 use Rattle.ff_node_mux.specs.Kinds.{mux_view}
@@ -14,6 +16,7 @@ use Rattle.ff_run.specs.declared.build.part.Part.TheVariants as part
 -- what a part shows to contracts: what its kind shows
 abbrev pub part_view : {S K : Type 0} {G : SinkGhosts K} → (S → Option (List ℕ)) → (S → Option (List ℕ)) → (S → ℕ) → Part S K G → View
 part_view left named failed (part.Demux m) = demux_view left named failed m
+part_view left named failed (part.Gen m) = gen_view frames_left m
 part_view left named failed (part.Dec m) = dec_view any_head any_frame m
 part_view left named failed (part.Graph m) = through_shown m
 part_view left named failed (part.Joint m) = through_shown m

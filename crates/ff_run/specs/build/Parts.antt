@@ -16,6 +16,7 @@ use Rattle.ff_node_codec.specs.Encoding.{enc_task}
 use Rattle.ff_graph_links.specs.labels.Clear.{IsClear}
 use Rattle.ff_graph.specs.composed.Cuts.{all_given, graph_outs, graph_task}
 use Rattle.ff_node_demux.specs.Demuxing.{demux_task}
+use Rattle.ff_node_demux.specs.gens.Generating.{gen_task}
 use Rattle.ff_node_flac.specs.Coding.{CanCode, coded_head, flac_task}
 use Rattle.ff_graph.specs.Configured.{CanBeHad}
 use Rattle.ff_graph.specs.Opens.{open_ins}
@@ -31,6 +32,7 @@ use Rattle.ff_plan_rules.specs.Kept.{IsFitHead, AreFitHeads}
 use Rattle.ff_plan_rules.specs.Rules.{graph_rules}
 use Rattle.ff_run_plan.specs.Kinds.{KindsOf}
 use Rattle.ff_node_sync.specs.JointTask.{joint_task}
+use Rattle.ff_source.specs.Sources.{CanGive}
 use Rattle.ff_words.specs.declared.job.OutputJob.{OutputJob}
 
 abbrev pub is_flac_coding : Coding → Bool
@@ -76,7 +78,7 @@ told_graph g text heads cuts = record (graph_task text heads cuts) { tells = bes
 abbrev pub options_of : OutputJob → OutputOptions
 options_of out = record { hash = out.hash; rf64 = out.rf64 }
 
--- a demuxer gives an input's packets, a decoder their frames, cut, a graph frames of frames, an encoder packets of frames, and a muxer writes
+-- a demuxer gives an input's packets, a source filter frames, a decoder those of packets, cut, a graph frames of frames, an encoder packets of frames, and a muxer writes
 -- them in the output's format
 abbrev pub all_kinds : KindsOf InputHead
 all_kinds = record {
@@ -85,6 +87,8 @@ all_kinds = record {
   rules = graph_rules;
   IsFrames = IsFitHead;
   demux_task = demux_task any_cutter;
+  CanMake = CanGive;
+  gen_task = gen_task;
   CanDecode = CanDecode;
   dec_task = λ head cut outputs. dec_task head (frame_made head) cut outputs;
   CanFilter = CanFilter;

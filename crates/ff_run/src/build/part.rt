@@ -7,11 +7,12 @@ use ff_input::AnyCut;
 use ff_mux::AnyWriter;
 use ff_net::{Fault, Machine};
 use ff_node_codec::{AnyDecoder, AnyEncoder, Dec, Enc};
-use ff_node_demux::Demux;
+use ff_node_demux::{Demux, Gen};
 use ff_node_filter::{Alone, Leading};
 use ff_node_flac::{FlacEnc, InOrder};
 use ff_node_mux::Mux;
 use ff_node_sync::Joint;
+use ff_source::GenSource;
 use ff_stream::{Item, Refused};
 use std::alloc::AllocError;
 
@@ -21,6 +22,8 @@ use std::alloc::AllocError;
 pub enum Part<Src: Source + Drop, Snk: Sink + Drop> {
     /// Gives an input's packets.
     Demux(Demux<Src, AnyCut>),
+    /// Gives the frames of a source filter.
+    Gen(Gen<GenSource>),
     /// Decodes packets to frames, and cuts these.
     Dec(Dec<AnyDecoder>),
     /// Filters frames, cuts what it gives, and tells which of its inputs is the best one.
@@ -41,6 +44,8 @@ impl<Src: Source + Drop, Snk: Sink + Drop> Machine for Part<Src, Snk> {
     ghost use Rattle.ff_node_codec.specs.codecs.AnyCoders.{any_head, any_frame, any_serves, any_coded, any_packet};
     ghost use Rattle.ff_input.specs.Formats.{any_owes};
     ghost use Rattle.ff_node_demux.specs.DemuxViews.{demux_laws};
+    ghost use Rattle.ff_node_demux.specs.gens.GenViews.{gen_laws};
+    ghost use Rattle.ff_source.specs.Left.{left as frames_left};
     ghost use Rattle.ff_node_codec.specs.Kinds.{dec_laws, enc_laws};
     ghost use Rattle.ff_node_flac.specs.Machines as flac;
     ghost use Rattle.ff_node_mux.specs.Kinds.{mux_laws};
@@ -54,6 +59,7 @@ impl<Src: Source + Drop, Snk: Sink + Drop> Machine for Part<Src, Snk> {
     fn inputs(&self) -> usize {
         match self {
             Part::Demux(m) => m.inputs(),
+            Part::Gen(m) => m.inputs(),
             Part::Dec(m) => m.inputs(),
             Part::Graph(m) => m.inputs(),
             Part::Joint(m) => m.inputs(),
@@ -66,6 +72,7 @@ impl<Src: Source + Drop, Snk: Sink + Drop> Machine for Part<Src, Snk> {
     fn outputs(&self) -> usize {
         match self {
             Part::Demux(m) => m.outputs(),
+            Part::Gen(m) => m.outputs(),
             Part::Dec(m) => m.outputs(),
             Part::Graph(m) => m.outputs(),
             Part::Joint(m) => m.outputs(),
@@ -78,6 +85,7 @@ impl<Src: Source + Drop, Snk: Sink + Drop> Machine for Part<Src, Snk> {
     fn source(&self) -> Option<u32> {
         match self {
             Part::Demux(m) => m.source(),
+            Part::Gen(m) => m.source(),
             Part::Dec(m) => m.source(),
             Part::Graph(m) => m.source(),
             Part::Joint(m) => m.source(),
@@ -90,6 +98,7 @@ impl<Src: Source + Drop, Snk: Sink + Drop> Machine for Part<Src, Snk> {
     fn fault(&self) -> Option<Fault> {
         match self {
             Part::Demux(m) => m.fault(),
+            Part::Gen(m) => m.fault(),
             Part::Dec(m) => m.fault(),
             Part::Graph(m) => m.fault(),
             Part::Joint(m) => m.fault(),
@@ -102,6 +111,7 @@ impl<Src: Source + Drop, Snk: Sink + Drop> Machine for Part<Src, Snk> {
     fn allow(&mut self, ticket: Ticket) -> Option<Ticket> {
         match self {
             Part::Demux(m) => m.allow(ticket),
+            Part::Gen(m) => m.allow(ticket),
             Part::Dec(m) => m.allow(ticket),
             Part::Graph(m) => m.allow(ticket),
             Part::Joint(m) => m.allow(ticket),
@@ -114,6 +124,7 @@ impl<Src: Source + Drop, Snk: Sink + Drop> Machine for Part<Src, Snk> {
     fn feed(&mut self, port: usize, item: Item) -> Result<(), Refused> {
         match self {
             Part::Demux(m) => m.feed(port, item),
+            Part::Gen(m) => m.feed(port, item),
             Part::Dec(m) => m.feed(port, item),
             Part::Graph(m) => m.feed(port, item),
             Part::Joint(m) => m.feed(port, item),
@@ -126,6 +137,7 @@ impl<Src: Source + Drop, Snk: Sink + Drop> Machine for Part<Src, Snk> {
     fn pull(&mut self, port: usize) -> Result<Option<Item>, AllocError> {
         match self {
             Part::Demux(m) => m.pull(port),
+            Part::Gen(m) => m.pull(port),
             Part::Dec(m) => m.pull(port),
             Part::Graph(m) => m.pull(port),
             Part::Joint(m) => m.pull(port),
@@ -138,6 +150,7 @@ impl<Src: Source + Drop, Snk: Sink + Drop> Machine for Part<Src, Snk> {
     fn stop(&mut self, port: usize) {
         match self {
             Part::Demux(m) => m.stop(port),
+            Part::Gen(m) => m.stop(port),
             Part::Dec(m) => m.stop(port),
             Part::Graph(m) => m.stop(port),
             Part::Joint(m) => m.stop(port),
@@ -150,6 +163,7 @@ impl<Src: Source + Drop, Snk: Sink + Drop> Machine for Part<Src, Snk> {
     fn spent(&self, port: usize) -> bool {
         match self {
             Part::Demux(m) => m.spent(port),
+            Part::Gen(m) => m.spent(port),
             Part::Dec(m) => m.spent(port),
             Part::Graph(m) => m.spent(port),
             Part::Joint(m) => m.spent(port),
@@ -162,6 +176,7 @@ impl<Src: Source + Drop, Snk: Sink + Drop> Machine for Part<Src, Snk> {
     fn next_event(&mut self) -> Option<Event> {
         match self {
             Part::Demux(m) => m.next_event(),
+            Part::Gen(m) => m.next_event(),
             Part::Dec(m) => m.next_event(),
             Part::Graph(m) => m.next_event(),
             Part::Joint(m) => m.next_event(),
@@ -174,6 +189,7 @@ impl<Src: Source + Drop, Snk: Sink + Drop> Machine for Part<Src, Snk> {
     fn lacks(&self, port: usize) -> bool {
         match self {
             Part::Demux(m) => m.lacks(port),
+            Part::Gen(m) => m.lacks(port),
             Part::Dec(m) => m.lacks(port),
             Part::Graph(m) => m.lacks(port),
             Part::Joint(m) => m.lacks(port),
@@ -186,6 +202,7 @@ impl<Src: Source + Drop, Snk: Sink + Drop> Machine for Part<Src, Snk> {
     fn defers(&self) -> bool {
         match self {
             Part::Demux(m) => m.defers(),
+            Part::Gen(m) => m.defers(),
             Part::Dec(m) => m.defers(),
             Part::Graph(m) => m.defers(),
             Part::Joint(m) => m.defers(),
@@ -197,6 +214,7 @@ impl<Src: Source + Drop, Snk: Sink + Drop> Machine for Part<Src, Snk> {
 
     ghost laws = { elim [
       | part.Demux m ↦ demux_laws Src.left Src.name Src.faults any_owes.shaped m m.same_head
+      | part.Gen m ↦ gen_laws frames_left m
       | part.Dec m ↦ dec_laws any_head any_frame m
       | part.Graph m ↦
           leading_laws (⟦<GraphMachine as Machine>⟧.view m.machine.machine) m.machine.lead (graph_laws grows-law quiet-law spent_only-law m.machine.machine.machine)

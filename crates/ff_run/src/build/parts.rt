@@ -13,7 +13,7 @@ use ff_input::{AnyCut, InputHead};
 use ff_lang::Graph;
 use ff_mux::writer_of;
 use ff_node_codec::{AnyDecoder, Dec, Enc, decoder_of, encoder_of};
-use ff_node_demux::Demux;
+use ff_node_demux::{Demux, generator_of};
 use ff_node_filter::Leading;
 use ff_node_flac::{FlacEnc, InOrder};
 use ff_node_mux::Mux;
@@ -22,6 +22,7 @@ use ff_plan::{Plan, plan};
 use ff_plan_layout::PlanError;
 use ff_plan_rules::GraphRules;
 use ff_run_plan::{Ends, Kinds};
+use ff_source::Made;
 use ff_time::TimeCut;
 use ff_trim::OutputCut;
 use ff_words::{Job, OutputJob};
@@ -86,9 +87,11 @@ pub struct Parts;
 
 impl<Src: Source + Send + Drop, Snk: Sink + Send + Drop> Kinds<Src, Snk, Part<Src, Snk>> for Parts {
     ghost use Rattle.ff_run.specs.build.Events.{parts_tell_of_themselves};
+    ghost use Rattle.ff_run.specs.build.Exits.{parts_exit};
     ghost use Rattle.ff_run.specs.build.Graphs.{graphs_are_had};
     ghost use Rattle.ff_run.specs.build.Held.{parts_are_held};
     ghost use Rattle.ff_run.specs.build.Parts.{all_kinds};
+    ghost use Rattle.ff_run.specs.build.Sources.{sources_are_had};
     ghost use Rattle.ff_plan_rules.proofs.Holds.{are_rules};
     ghost use Rattle.ff_plan_rules.proofs.Keeping.{keep_heads};
     ghost use Rattle.ff_run.specs.build.Takes.{heads_decode, heads_fit, heads_encode, heads_are_written};
@@ -115,6 +118,10 @@ impl<Src: Source + Send + Drop, Snk: Sink + Send + Drop> Kinds<Src, Snk, Part<Sr
             Ok(demux) => Ok(Part::Demux(demux)),
             Err(src) => Err(src),
         }
+    }
+
+    fn generator(alloc: Global, number: u32, made: Made) -> Part<Src, Snk> {
+        Part::Gen(generator_of(alloc, number, made))
     }
 
     fn decoder(
@@ -207,6 +214,7 @@ impl<Src: Source + Send + Drop, Snk: Sink + Send + Drop> Kinds<Src, Snk, Part<Sr
     fn tried(part: &Part<Src, Snk>) -> u64 {
         match part {
             Part::Demux(m) => m.tried(),
+            Part::Gen(m) => m.tried(),
             Part::Dec(_)
             | Part::Graph(_)
             | Part::Joint(_)
@@ -219,8 +227,12 @@ impl<Src: Source + Send + Drop, Snk: Sink + Send + Drop> Kinds<Src, Snk, Part<Sr
     fn into_ends(part: Part<Src, Snk>) -> Ends<Src, Snk> {
         match part {
             Part::Demux(m) => Ends::Source(m.into_source()),
-            Part::Dec(_) | Part::Graph(_) | Part::Joint(_) | Part::Enc(_) | Part::FlacEnc(_) =>
-                Ends::Neither,
+            Part::Dec(_)
+            | Part::Graph(_)
+            | Part::Joint(_)
+            | Part::Enc(_)
+            | Part::FlacEnc(_)
+            | Part::Gen(_) => Ends::Neither,
             Part::Mux(m) => Ends::Sink(m.into_sink()),
         }
     }
@@ -239,6 +251,8 @@ impl<Src: Source + Send + Drop, Snk: Sink + Send + Drop> Kinds<Src, Snk, Part<Sr
 
     ghost filters = { graphs_are_had };
 
+    ghost makes = { sources_are_had };
+
     ghost joins = { λ heads all some. some };
 
     ghost encodes = { heads_encode };
@@ -246,6 +260,8 @@ impl<Src: Source + Send + Drop, Snk: Sink + Send + Drop> Kinds<Src, Snk, Part<Sr
     ghost writes = { heads_are_written };
 
     ghost own = { parts_tell_of_themselves };
+
+    ghost exits = { parts_exit Src.left Src.name Src.faults };
 
     ghost holds_on = { parts_are_held };
 }

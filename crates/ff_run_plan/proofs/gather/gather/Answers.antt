@@ -3,7 +3,7 @@ use Rattle.std.proofs.lemmas.Option.{slice_get-get_or, slice_get_within}
 use Rattle.std.specs.Vec.Iter.{into_iter_items}
 use Rattle.ff_plan.specs.declared.planned.PlanNode.{PlanNode}
 use Rattle.ff_plan.specs.declared.planned.PlanNode.TheVariants as node
-use Rattle.ff_run_plan.specs.Kinds.{IsSourceOf, IsSinkOf}
+use Rattle.ff_run_plan.specs.Kinds.{IsEndOf, IsSinkOf}
 use Rattle.ff_run_plan.proofs.Places.{no_length}
 use Rattle.ff_run_plan.proofs.Gathering.{next_left, none_left, demux_once, mux_once, back_next, others_next}
 use Rattle.ff_run_plan.proofs.gather.gather.Goals.{else-loop-number-test, then-loop-number-test+in_default}
@@ -61,11 +61,11 @@ loop-number-preserved g c =
       left = sym left.1;
       src_count = back.src_count ∙ was.src_count;
       snk_count = back.snk_count ∙ was.snk_count;
-      sources = back_next (λ y s. IsSourceOf S.name S.faults (view y) s) node.Demux nodes parts old.srcs.items new.srcs.items n x part at left.0 back.srcs_kept
+      sources = back_next (λ y s. IsEndOf S.name S.faults (view y) s) node.Demux nodes parts old.srcs.items new.srcs.items n x part at left.0 back.srcs_kept
           (demux_once (length first.srcs.items) (length first.snks.items) nodes c.requires.ordered) was.sources back.source;
       sinks = back_next (λ y s. IsSinkOf g.K.Kinds.is K.holds K.name K.faults (view y) s) node.Mux nodes parts old.snks.items new.snks.items n x part at left.0 back.snks_kept
           (mux_once (length first.srcs.items) (length first.snks.items) nodes c.requires.ordered) was.sinks back.sink;
-      other_srcs = others_next (λ y s. IsSourceOf S.name S.faults (view y) s) node.Demux nodes parts old.srcs.items new.srcs.items n x part at left.0 back.srcs_kept first.srcs.items was.other_srcs;
+      other_srcs = others_next (λ y s. IsEndOf S.name S.faults (view y) s) node.Demux nodes parts old.srcs.items new.srcs.items n x part at left.0 back.srcs_kept first.srcs.items was.other_srcs;
       other_snks = others_next (λ y s. IsSinkOf g.K.Kinds.is K.holds K.name K.faults (view y) s) node.Mux nodes parts old.snks.items new.snks.items n x part at left.0 back.snks_kept first.snks.items was.other_snks;
     }
 

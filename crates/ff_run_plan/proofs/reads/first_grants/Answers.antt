@@ -9,7 +9,7 @@ use Rattle.ff_run_plan.proofs.reads.first_grants.Goals as goal
 
 pub loop-at-preserved : goal.loop-at-preserved
 loop-at-preserved c =
-    let i = c.args.input in
+    let i = c.args.source in
     let count = c.args.count in
     let events = c.args.events.now in
     let at = c.loop-at.at in

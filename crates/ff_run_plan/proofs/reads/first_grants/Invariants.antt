@@ -6,5 +6,5 @@ use Rattle.ff_run_plan.proofs.reads.first_grants.Given as goal
 abbrev pub invariant-loop-at : goal.invariant-loop-at
 invariant-loop-at l = record {
   few : vec_len l.places ≤ l.count;
-  so_far : vec_items l.places ++ still l.input l.count (vec_len l.places) l.at l.events ≡ take l.count (grants_of l.input l.events);
+  so_far : vec_items l.places ++ still l.source l.count (vec_len l.places) l.at l.events ≡ take l.count (grants_of l.source l.events);
 }

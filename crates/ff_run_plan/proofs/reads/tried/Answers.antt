@@ -15,7 +15,7 @@ loop-number-preserved g c =
     let lt : k < length nodes = ltb-true k (length nodes) (sym found.0) in
     let at : slice_get nodes k ≡ Some c.in-Some.node.now = slice_get-get_or nodes k _ lt ∙ ap (λ (n : PlanNode). Some n) (sym found.1) in
     let here = there parts k c.loop-number-test.true in
-    tried_next g.M.Machine.view c.args.input nodes parts k c.in-Some.node.now here.0 at here.1 (sym c.reads.ensures ∙ c.if-reads.false) ∙ c.loop-number.invariant
+    tried_next g.M.Machine.view c.args.source nodes parts k c.in-Some.node.now here.0 at here.1 (sym c.reads.ensures ∙ c.if-reads.false) ∙ c.loop-number.invariant
 
 pub returns-after-loop-number : goal.returns-after-loop-number
 returns-after-loop-number g c =
@@ -24,4 +24,4 @@ returns-after-loop-number g c =
     let parts = c.args.parts.now in
     let k = c.loop-number.number in
     let over = c.loop-number-test.false in
-    sym (tried_all view c.args.input nodes parts k (omega (arith, over))) ∙ c.loop-number.invariant
+    sym (tried_all view c.args.source nodes parts k (omega (arith, over))) ∙ c.loop-number.invariant

@@ -15,8 +15,10 @@ returns-in-Ok-plan-clause-ok g c =
       decodes = kinds.decodes;
       frames = kinds.frames;
       plans = λ job heads p within some made. c.plans_are_sound.ensures g.K.Kinds.is.rules job heads p kinds.ruled kinds.few kinds.takes within some made;
-      carries = λ job heads p some made all.
-          frames_kept g.K.Kinds.is.IsFrames g.K.Kinds.is.rules job heads p kinds.ruled kinds.kept all (c.orders_go_upward.ensures (feeds job.graphs) (length job.graphs))
+      sources = c.sources_are_asked.ensures g.K.Kinds.is.rules;
+      makes = kinds.makes;
+      carries = λ job heads p some made all made_all.
+          frames_kept g.K.Kinds.is.IsFrames g.K.Kinds.is.rules job heads p kinds.ruled kinds.kept all made_all (c.orders_go_upward.ensures (feeds job.graphs) (length job.graphs))
           (λ no graph lt. c.orders_are_whole.ensures (feeds job.graphs) (length job.graphs) graph no lt) some made;
       filters = kinds.filters;
       joins = kinds.joins;

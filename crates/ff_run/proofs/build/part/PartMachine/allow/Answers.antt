@@ -1,4 +1,6 @@
 use Rattle.ff_node_demux.specs.Demuxers.{demux_stands}
+use Rattle.ff_node_demux.specs.gens.Generators.{gen_stands}
+use Rattle.ff_source.specs.Left.{left as frames_left}
 use Rattle.std.specs.Prelude.{◌≡◌}
 use Rattle.std.specs.Option.{IfSome}
 use Rattle.std.proofs.Common.{subst, sym}
@@ -32,3 +34,13 @@ returns-in-Graph-clause-back g c =
     (λ (p : Part g.row.Src.Denot g.row.Snk.Denot g.Snk.Sink). IfSome c.allow-in-Graph.result (λ t. (t ≡ c.args.ticket) × ((past : Past) → (part_view g.Src.Source.left g.Src.Source.name g.Src.Source.faults p).stands past → (through_shown c.allow-in-Graph.new.self).stands past)))
     (sym c.in-Graph.is)
     c.allow-in-Graph.ensures.back
+
+pub returns-in-Gen-clause-taken : goal.returns-in-Gen-clause-taken
+returns-in-Gen-clause-taken g c n past s = c.allow-in-Gen.ensures.taken n past (rw c.in-Gen.is at s)
+
+pub returns-in-Gen-clause-back : goal.returns-in-Gen-clause-back
+returns-in-Gen-clause-back g c =
+    subst
+    (λ (p : Part g.row.Src.Denot g.row.Snk.Denot g.Snk.Sink). IfSome c.allow-in-Gen.result (λ t. (t ≡ c.args.ticket) × ((past : Past) → (part_view g.Src.Source.left g.Src.Source.name g.Src.Source.faults p).stands past → gen_stands frames_left c.allow-in-Gen.new.self past)))
+    (sym c.in-Gen.is)
+    c.allow-in-Gen.ensures.back

@@ -23,3 +23,9 @@ returns-in-Demux-clause-waits g c n past s = c.next_event.ensures.waits n past (
 
 pub returns-in-Graph-clause-waits : goal.returns-in-Graph-clause-waits
 returns-in-Graph-clause-waits g c n past s = c.next_event-in-Graph.ensures.waits n past (rw c.in-Graph.is at s)
+
+pub returns-in-Gen-clause-gives : goal.returns-in-Gen-clause-gives
+returns-in-Gen-clause-gives g c e is past s = let h = c.next_event-in-Gen.ensures.gives e is past (rw c.in-Gen.is at s) in (h.0, λ r. h.1 (rw c.in-Gen.is at r))
+
+pub returns-in-Gen-clause-waits : goal.returns-in-Gen-clause-waits
+returns-in-Gen-clause-waits g c n past s = c.next_event-in-Gen.ensures.waits n past (rw c.in-Gen.is at s)

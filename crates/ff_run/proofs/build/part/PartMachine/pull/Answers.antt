@@ -4,6 +4,8 @@ use Rattle.ff_net.specs.Pasts.{Past}
 use Rattle.std.proofs.Common.{subst, sym}
 use Rattle.std.specs.Result.{OnErr}
 use Rattle.ff_node_demux.specs.Demuxers.{demux_stands}
+use Rattle.ff_node_demux.specs.gens.Generators.{gen_stands}
+use Rattle.ff_source.specs.Left.{left as frames_left}
 use Rattle.ff_run.specs.build.Throughs.{through_shown}
 use Rattle.ff_run.proofs.build.part.PartMachine.pull.Goals as goal
 
@@ -44,3 +46,16 @@ returns-in-Graph-clause-unchanged g c =
 
 pub returns-in-Joint-clause-gives : goal.returns-in-Joint-clause-gives
 returns-in-Joint-clause-gives g c x is past s stopped = c.pull-in-Joint.ensures.gives x is past (rw c.in-Joint.is at s) stopped
+
+pub returns-in-Gen-clause-gives : goal.returns-in-Gen-clause-gives
+returns-in-Gen-clause-gives g c x is past s stopped = c.pull-in-Gen.ensures.gives x is past (rw c.in-Gen.is at s) stopped
+
+pub returns-in-Gen-clause-waits : goal.returns-in-Gen-clause-waits
+returns-in-Gen-clause-waits g c w past s out = c.pull-in-Gen.ensures.waits w past (rw c.in-Gen.is at s) out
+
+pub returns-in-Gen-clause-unchanged : goal.returns-in-Gen-clause-unchanged
+returns-in-Gen-clause-unchanged g c =
+    subst
+    (λ (p : Part g.row.Src.Denot g.row.Snk.Denot g.Snk.Sink). OnErr c.pull-in-Gen.result ((past : Past) → (part_view g.Src.Source.left g.Src.Source.name g.Src.Source.faults p).stands past → gen_stands frames_left c.pull-in-Gen.new.self past))
+    (sym c.in-Gen.is)
+    c.pull-in-Gen.ensures.unchanged

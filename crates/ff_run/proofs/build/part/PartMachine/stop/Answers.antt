@@ -5,3 +5,6 @@ returns-in-Demux-clause-stopped g c past s = c.stop.ensures.stopped past (rw c.i
 
 pub returns-in-Graph-clause-stopped : goal.returns-in-Graph-clause-stopped
 returns-in-Graph-clause-stopped g c past s = c.stop-in-Graph.ensures.stopped past (rw c.in-Graph.is at s)
+
+pub returns-in-Gen-clause-stopped : goal.returns-in-Gen-clause-stopped
+returns-in-Gen-clause-stopped g c past s = c.stop-in-Gen.ensures.stopped past (rw c.in-Gen.is at s)

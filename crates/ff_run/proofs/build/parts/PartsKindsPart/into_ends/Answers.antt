@@ -1,5 +1,5 @@
 use Rattle.std.specs.Prelude.{◌≡◌, ◌+◌, ◌<◌, ◌≤◌, ℕ, zero, suc, List, [], ◌∷◌, length, Option, IsSome, replicate}
-use Rattle.std.proofs.Common.{ap, arith, inl, inr, subst, sym, ◌∙◌}
+use Rattle.std.proofs.Common.{ap, refl, arith, inl, inr, subst, sym, ◌∙◌}
 use Rattle.ff_node_codec.specs.codecs.AnyCoders.{any_head, any_coded}
 use Rattle.ff_node_flac.specs.Coding.{coded_head}
 use Rattle.ff_stream.specs.declared.item.Lane.{Lane}
@@ -12,7 +12,7 @@ use Rattle.ff_mux.specs.writers.AnyWriters.{layout_of}
 use Rattle.ff_node_mux.specs.StreamEvents.{stream_events}
 use Rattle.ff_time.specs.Fraction.{Fraction}
 use Rattle.ff_frame.specs.declared.head.StreamHead.{StreamHead}
-use Rattle.ff_run_plan.specs.Kinds.{IsSourceOf, IsSinkOf}
+use Rattle.ff_run_plan.specs.Kinds.{AreOneStream, IsEndOf, IsSinkOf}
 use Rattle.ff_run.specs.declared.build.part.Part.{Part}
 use Rattle.ff_run.specs.build.Parts.{all_kinds, options_of}
 use Rattle.ff_run.specs.build.PartViews.{part_view}
@@ -38,25 +38,28 @@ returns-in-Demux g c =
     let S = g.Src.Source in
     let source = c.into_source.ensures in
     let GivesSource : Part g.row.Src.Denot g.row.Snk.Denot g.Snk.Sink → Type 0 =
-    λ p. IsSourceOf S.name S.faults (part_view S.left S.name S.faults p) c.into_source.result × ((part_view S.left S.name S.faults p).out_lanes ≡ [] → ⊥) in
+    λ p. IsEndOf S.name S.faults (part_view S.left S.name S.faults p) c.into_source.result × ((part_view S.left S.name S.faults p).out_lanes ≡ [] → ⊥) in
     subst GivesSource (sym c.in-Demux.is) (
-      record { name = source.name; faults = source.faults; exits = source.exits; few = source.few },
+      record { name = source.name; faults = source.faults },
       one_lane (Packets c.in-Demux.m.head),
     )
 
 pub returns-in-Dec : goal.returns-in-Dec
 returns-in-Dec g c =
     let HasEnds : Part g.row.Src.Denot g.row.Snk.Denot g.Snk.Sink → Type 0 =
-    λ p. ((part_view g.Src.Source.left g.Src.Source.name g.Src.Source.faults p).in_lanes ≡ [] → ⊥) × ((part_view g.Src.Source.left g.Src.Source.name g.Src.Source.faults p).out_lanes ≡ [] → ⊥) in
+    λ p. ((part_view g.Src.Source.left g.Src.Source.name g.Src.Source.faults p).in_lanes ≡ [] → AreOneStream (part_view g.Src.Source.left g.Src.Source.name g.Src.Source.faults p).out_lanes) × ((part_view g.Src.Source.left g.Src.Source.name g.Src.Source.faults p).out_lanes ≡ [] → ⊥) in
     elim c.in-Dec.is [
-      | inl w ↦ subst HasEnds (sym w.1) (one_lane (Packets (any_head w.0.decoder)), some_lanes (length w.0.spread.outs.items) (Frames (any_head w.0.decoder)) w.0.spread.some)
+      | inl w ↦ subst HasEnds (sym w.1) (λ e. absurd (one_lane (Packets (any_head w.0.decoder)) e), some_lanes (length w.0.spread.outs.items) (Frames (any_head w.0.decoder)) w.0.spread.some)
       | inr v ↦ elim v [
-        | inl w ↦ subst HasEnds (sym w.1) (w.0.ins, w.0.outs)
+        | inl w ↦ subst HasEnds (sym w.1) (λ e. absurd (w.0.ins e), w.0.outs)
         | inr u ↦ elim u [
-          | inl w ↦ subst HasEnds (sym w.1) (w.0.ins, w.0.outs)
+          | inl w ↦ subst HasEnds (sym w.1) (λ e. absurd (w.0.ins e), w.0.outs)
           | inr t ↦ elim t [
-            | inl w ↦ subst HasEnds (sym w.1) (one_lane (Frames w.0.head), some_lanes (length w.0.spread.outs.items) (Packets (any_coded w.0.encoder w.0.head)) w.0.spread.some)
-            | inr w ↦ subst HasEnds (sym w.1) (one_lane (Frames w.0.head), one_lane (Packets (coded_head w.0.head)))
+            | inl w ↦ subst HasEnds (sym w.1) (λ e. absurd (one_lane (Frames w.0.head) e), some_lanes (length w.0.spread.outs.items) (Packets (any_coded w.0.encoder w.0.head)) w.0.spread.some)
+            | inr r ↦ elim r [
+              | inl w ↦ subst HasEnds (sym w.1) (λ e. absurd (one_lane (Frames w.0.head) e), one_lane (Packets (coded_head w.0.head)))
+              | inr w ↦ subst HasEnds (sym w.1) (λ e. (w.0.head, refl), one_lane (Frames w.0.head))
+            ]
           ]
         ]
       ]
