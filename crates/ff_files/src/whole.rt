@@ -217,7 +217,8 @@ fn run_files<H: Host, I: InputFile, N: OutputFile, W: Work<I::Head, Begun<H::Src
         (sound_outputs (command_of I.name_text I.head N.file_name inputs.now outputs.now count (W.means work.now)) result.end) }
     ensures logged { result.end ≡ RunEnd.Fine → HasLog (λ log. (heads : List I.Head)
         × AreHeadsIn (command_of I.name_text I.head N.file_name inputs.now outputs.now count (W.means work.now)) (H.files host.old) heads
-        × W.tells work.now heads (told_bytes (command_of I.name_text I.head N.file_name inputs.now outputs.now count (W.means work.now)) (H.files host.old)) log) result.log }
+        × W.tells work.now heads
+        (told_bytes (command_of I.name_text I.head N.file_name inputs.now outputs.now count (W.means work.now)) (H.files host.old)) log) result.log }
     ensures traced { result.end ≡ RunEnd.Fine → IfSome result.log (λ log. HoldTrace
         (command_of I.name_text I.head N.file_name inputs.now outputs.now count (W.means work.now)) (W.printed log) (H.files host.old) (H.files host.new)) }
     ensures created { CreatesOutputs (H.created host.new) (H.files host.old) (H.files host.new)
@@ -290,7 +291,8 @@ pub fn over_files<
         (sound_outputs (command_of I.name_text I.head N.file_name inputs.now outputs.now count (W.means work.now)) result.end) }
     ensures logged { result.end ≡ RunEnd.Fine → HasLog (λ log. (heads : List I.Head)
         × AreHeadsIn (command_of I.name_text I.head N.file_name inputs.now outputs.now count (W.means work.now)) (H.files host.old) heads
-        × W.tells work.now heads (told_bytes (command_of I.name_text I.head N.file_name inputs.now outputs.now count (W.means work.now)) (H.files host.old)) log) result.log }
+        × W.tells work.now heads
+        (told_bytes (command_of I.name_text I.head N.file_name inputs.now outputs.now count (W.means work.now)) (H.files host.old)) log) result.log }
     ensures traced { result.end ≡ RunEnd.Fine → IfSome result.log (λ log. HoldTrace
         (command_of I.name_text I.head N.file_name inputs.now outputs.now count (W.means work.now)) (W.printed log) (H.files host.old) (H.files host.new)) }
     // No output is created before all inputs have heads and a plan. Where one can't be, that is the end, whatever a closing does.

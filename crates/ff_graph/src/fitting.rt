@@ -2,7 +2,8 @@
 ghost use Rattle.std.specs.Prelude.{◌≡◌, ◌-◌, [], is_some, length, slice_get, slice_index_or};
 ghost use Rattle.std.specs.List.{list_any};
 ghost use Rattle.ff_graph_links.specs.pads.Links.{Seen, seen, all_seen, pads_in};
-ghost use Rattle.ff_graph.specs.Configured.{leaves_over as left_over, stands_at as is_at, is_fed_source as fed_source, is_misfit as misfits, too_few_channels, is_surplus as has_surplus};
+ghost use Rattle.ff_graph.specs.Configured.{leaves_over as left_over, stands_at as is_at, is_fed_source as fed_source, is_misfit as misfits};
+ghost use Rattle.ff_graph.specs.Configured.{too_few_channels, is_surplus as has_surplus};
 ghost use Rattle.ff_graph.specs.Opens.{sources_in};
 
 use crate::sources::is_source_filter;

@@ -1,5 +1,6 @@
 -- Which stream each open input pad of the complex graphs gets, and the graphs with their heads.
-use Rattle.std.specs.Prelude.{ℕ, suc, ◌==◌, ◌&&◌, ◌||◌, nat_le, Bool, false, not, List, [], ◌∷◌, ◌++◌, length, map, slice_get, slice_index_or, Option, Some, None, Result, Ok, Err}
+use Rattle.std.specs.Prelude.{ℕ, suc, ◌==◌, ◌&&◌, ◌||◌, nat_le, Bool, false, not, List, [], ◌∷◌, ◌++◌, length, map, slice_get, slice_index_or}
+use Rattle.std.specs.Prelude.{Option, Some, None, Result, Ok, Err}
 use Rattle.std.specs.List.{find, filter_map, flat_map, position_or_len, cons_option}
 use Rattle.std.specs.Str.{bytes_eq}
 use Rattle.ff_frame.specs.declared.head.StreamHead.{StreamHead}

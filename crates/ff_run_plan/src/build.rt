@@ -1,5 +1,6 @@
 //! The part of each node of a plan.
-ghost use Rattle.std.specs.Prelude.{◌≡◌, ◌+◌, ◌-◌, ◌^◌, ◌<◌, ◌≤◌, ◌∷◌, ℕ, List, [], length, map, slice_get, vec_capacity, Option, Some, None, IfSome, IsNone, IfOk, IfErr};
+ghost use Rattle.std.specs.Prelude.{◌≡◌, ◌+◌, ◌-◌, ◌^◌, ◌<◌, ◌≤◌, ◌∷◌, ℕ, List, [], length, map, slice_get, vec_capacity};
+ghost use Rattle.std.specs.Prelude.{Option, Some, None, IfSome, IsNone, IfOk, IfErr};
 ghost use Rattle.ff_stream.specs.declared.item.Lane.{Lane};
 ghost use Rattle.ff_stream.specs.declared.item.Lane.TheVariants.{Frames, Packets};
 ghost use Rattle.ff_net.specs.Pasts.{start};

@@ -96,7 +96,8 @@ pub(crate) fn graph_at<
 ) -> Option<M>
     requires { (text : Graph) × (text_there job.now (slice_get texts.now number) ≡ Some text)
         × (made : List StreamHead) × K.is.CanFilter text heads.now made × (length cuts.now ≡ length made) }
-    ensures new { IfSome result (λ m. (text : Graph) (made : List StreamHead) → text_there job.now (slice_get texts.now number) ≡ Some text → K.is.CanFilter text heads.now made
+    ensures new { IfSome result (λ m. (text : Graph) (made : List StreamHead) → text_there job.now (slice_get texts.now number) ≡ Some text
+        → K.is.CanFilter text heads.now made
         → IsNew None (map (λ head. Frames head) heads.now) (map (λ head. Frames head) made) None 0 (M.view m)) }
     ensures starts { IfSome result (λ m. (text : Graph) → text_there job.now (slice_get texts.now number) ≡ Some text
         → (M.view m).stands (start (K.is.graph_task number text heads.now cuts.now))) }

@@ -1,6 +1,6 @@
 -- What a source of frames does at each step.
-use Rattle.std.proofs.Common.{◌≡◌, ℕ, zero, suc, ◌+◌, ◌<◌, ◌≤◌, ◌⊎◌, inl, inr, Bool, true, false, cond, List, [], ◌∷◌, ◌++◌, drop, length, Option, None, Some, refl, sym, ap, subst, ◌∙◌, arith, length-append, le_trans, add-one}
-use Rattle.std.specs.Prelude.{slice_get, IsSome}
+use Rattle.std.proofs.Common.{◌≡◌, ℕ, zero, suc, ◌+◌, ◌<◌, ◌≤◌, ◌⊎◌, inl, inr, Bool, true, false, cond, List, [], ◌∷◌, ◌++◌, drop, length, Some, refl, sym, ap, subst, ◌∙◌, arith, length-append, le_trans, add-one}
+use Rattle.std.specs.Prelude.{slice_get}
 use Rattle.std.proofs.lemmas.List.Elements.{All-drop, All-same, All-head}
 use Rattle.ff_frame.specs.declared.head.StreamHead.{StreamHead}
 use Rattle.ff_frame.specs.declared.head.StreamHead.TheVariants.{Audio as AudioHead, Video as VideoHead}
@@ -18,8 +18,8 @@ use Rattle.ff_net.specs.Laws.{IsPending}
 use Rattle.ff_net.specs.Ways.{Flow}
 use Rattle.ff_net.specs.Pasts.{Past, start, due, gave_item, was_asked, was_allowed, was_stopped, was_told}
 use Rattle.ff_node_demux.specs.Exiting.{Exits}
-use Rattle.ff_node_demux.specs.Sources.{Sources, source_gives, source_ends, source_waits, source_over}
-use Rattle.ff_node_demux.specs.gens.Generating.{limited_frames, are_too_long, frames_task, Generates, GenStands}
+use Rattle.ff_node_demux.specs.Sources.{source_gives, source_ends, source_waits, source_over}
+use Rattle.ff_node_demux.specs.gens.Generating.{limited_frames, are_too_long, frames_task, GenStands}
 use Rattle.ff_node_demux.specs.gens.GenLaws.{frames_closed}
 use Rattle.ff_node_demux.proofs.LimitSteps.{before_get, before_stop, before_all}
 

@@ -12,7 +12,8 @@ use Rattle.ff_net.specs.declared.fault.Fault.{Fault}
 use Rattle.ff_net.specs.Laws.{IsOfInputs, CauseStays, IsPending, AllAsked}
 use Rattle.ff_net.specs.Pasts.{Past, due, cut_to}
 use Rattle.ff_net.specs.Ways.{Flow, AreValid}
-use Rattle.ff_node_demux.specs.Sources.{source_valid, source_keeps, source_monotone, source_calm, source_unbroken, source_given, tried_of, source_tried, source_few, source_units}
+use Rattle.ff_node_demux.specs.Sources.{source_valid, source_keeps, source_monotone, source_calm, source_unbroken, source_given, tried_of}
+use Rattle.ff_node_demux.specs.Sources.{source_tried, source_few, source_units}
 use Rattle.ff_node_demux.specs.gens.Generating.{limited_frames, are_too_long, length_fault, GenStands}
 
 pub frames_closed : (head : StreamHead) (frames : List Item) → IsClosed (limited_frames head frames)
@@ -77,7 +78,8 @@ module _ (left : List Item) (head : StreamHead) (given : ℕ) (ticket ended long
     where
       at_end : (b : Bool) → ended ≡ b → length_fault (are_too_long head d.0) ≡ Some f
       at_end true x = sym (ap length_fault (long_at_end x)) ∙ e
-      at_end false x = let short : long ≡ false = d.1.long_is ∙ ap (λ (b : Bool). cond b (are_too_long head d.0) false) x in absurd (none_some f (sym (ap length_fault short) ∙ e))
+      at_end false x = let short : long ≡ false = d.1.long_is ∙ ap (λ (b : Bool). cond b (are_too_long head d.0) false) x in
+          absurd (none_some f (sym (ap length_fault short) ∙ e))
 
   -- with a pending output, which had nothing to give, no ticket is left
   pub gen_ticket_used : (q : ℕ) → IsPending 1 past q → AllAsked 1 past → ticket ≡ false

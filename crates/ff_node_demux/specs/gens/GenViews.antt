@@ -6,7 +6,8 @@ use Rattle.ff_net.specs.Views.{View}
 use Rattle.ff_net.specs.Ways.{AreValid}
 use Rattle.ff_node_demux.specs.DemuxClaims.{no_input, is_some_source, holds_none}
 use Rattle.ff_node_demux.specs.Exiting.{exits_front}
-use Rattle.ff_node_demux.specs.gens.GenLaws.{gen_is_source, gen_fed, gen_keeps, gen_monotone, gen_cause_stays, gen_calm, gen_given, gen_unbroken, gen_caused, gen_ticket_used, gen_tickets, gen_units}
+use Rattle.ff_node_demux.specs.gens.GenLaws.{gen_is_source, gen_fed, gen_keeps, gen_monotone, gen_cause_stays, gen_calm, gen_given, gen_unbroken}
+use Rattle.ff_node_demux.specs.gens.GenLaws.{gen_caused, gen_ticket_used, gen_tickets, gen_units}
 use Rattle.ff_node_demux.specs.gens.Generators.{gen_in_lanes, gen_out_lanes, gen_source, gen_fault, gen_holds, gen_tried, gen_spent, gen_stands}
 use Rattle.ff_node_demux.specs.declared.gens.generator.Gen.{Gen}
 

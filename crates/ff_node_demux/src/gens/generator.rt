@@ -143,7 +143,8 @@ impl<G: FrameSource + Drop> Machine for Gen<G> {
         ensures gives { (x : Item) → result ≡ Ok (Some x) → (past : Past) → gen_stands G.left self.old past → (IsIn _port past.stopped → ⊥)
             → gen_stands G.left self.new (gave_item past _port x) × ((stream_at past.gave _port).mark ≡ still_open)
             × LiesBelow (with_item (stream_at past.gave _port) x) (stream_at (due past) _port) }
-        ensures waits { result ≡ Ok None → (past : Past) → gen_stands G.left self.old past → (IsIn _port past.stopped → ⊥) → gen_stands G.left self.new (was_asked past _port) }
+        ensures waits { result ≡ Ok None → (past : Past) → gen_stands G.left self.old past → (IsIn _port past.stopped → ⊥)
+            → gen_stands G.left self.new (was_asked past _port) }
         ensures none_due { result ≡ Ok None → GoesOn (gen_fault self.old) → (past : Past) → gen_stands G.left self.old past → (IsIn _port past.stopped → ⊥)
             → (stream_at past.gave _port ≡ stream_at (due past) _port) ⊎ (gen_fault self.new ≡ Some Device) }
         ensures unchanged { OnErr result ((past : Past) → gen_stands G.left self.old past → gen_stands G.left self.new past) }
@@ -190,7 +191,8 @@ impl<G: FrameSource + Drop> Machine for Gen<G> {
         ensures gives { (e : Event) → result ≡ Some e → (past : Past) → gen_stands G.left self.old past
             → gen_stands G.left self.new (was_told past e) × (IsReading (gen_view G.left self.old) past → ⊥) }
         ensures waits { IsNone result → (past : Past) → gen_stands G.left self.old past → gen_stands G.left self.new past }
-        ensures none_due { IsNone result → (past : Past) → gen_stands G.left self.old past → (past.told ≡ past.task.tells past.feeds) ⊎ IsReading (gen_view G.left self.old) past }
+        ensures none_due { IsNone result → (past : Past) → gen_stands G.left self.old past
+            → (past.told ≡ past.task.tells past.feeds) ⊎ IsReading (gen_view G.left self.old) past }
     {
         if self.told {
             return None;

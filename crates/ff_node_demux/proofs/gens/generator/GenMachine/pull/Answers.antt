@@ -1,4 +1,4 @@
-use Rattle.std.proofs.Common.{◌≡◌, ◌∙◌, ◌+◌, ℕ, Bool, Ok, Some, None, true, false, refl, sym, ap, subst}
+use Rattle.std.proofs.Common.{◌≡◌, ◌∙◌, ◌+◌, Bool, Ok, true, false, sym, ap, subst}
 use Rattle.ff_stream.specs.declared.item.Item.{Item}
 use Rattle.ff_stream.specs.declared.item.Item.TheVariants.{End, Broken}
 use Rattle.ff_node_demux.proofs.gens.GenSteps.{gen_going, GenGives, gen_frame, gen_long, gen_end}
