@@ -1,10 +1,9 @@
 -- Sample frames that wait on inputs.
-use Rattle.std.proofs.Common.{◌≡◌, ◌≢◌, ℕ, zero, suc, ℤ, pos, ◌+◌, ◌-◌, ◌*◌, ◌<◌, ◌≤◌, true, Option, Some, None, List, [], ◌∷◌, ◌++◌, length, take}
-use Rattle.std.proofs.Common.{drop, map, get_or, set, refl, ap, sym, ◌∙◌, arith, append-nil, append_assoc}
-use Rattle.std.proofs.lemmas.Nat.{mul-add-lt}
-use Rattle.std.proofs.lemmas.List.{take-append-drop, take-append-le, drop-append-le, length-drop, length-take-le, get_or-drop, drop-drop}
+use Rattle.std.proofs.Common.{◌≡◌, ◌≢◌, ℕ, zero, suc, ℤ, ◌+◌, ◌-◌, ◌*◌, ◌<◌, ◌≤◌, true, Option, Some, None, List, [], ◌∷◌, ◌++◌, length, take}
+use Rattle.std.proofs.Common.{drop, map, get_or, set, refl, ap, sym, ◌∙◌, arith, append-nil}
+use Rattle.std.proofs.lemmas.List.{take-append-drop, take-append-le, drop-append-le, length-drop, length-take-le, drop-drop}
 use Rattle.std.proofs.Math.Nat.{mul-le-mul_right}
-use Rattle.std.proofs.Math.Seq.{take-suc, drop-nil}
+use Rattle.std.proofs.Math.Seq.{drop-nil}
 use Rattle.ff_filter.specs.declared.after.After.TheVariants.{More}
 use Rattle.ff_stream.specs.declared.item.Lane.{Lane}
 use Rattle.ff_stream.specs.declared.item.Lane.TheVariants.{Frames}
@@ -14,38 +13,6 @@ use Rattle.ff_joins.specs.Lots.{Lot, lots, lot_of, lane_of, rows_kept, skipped, 
 
 pub few_samples : (count channels most : ℕ) → count * channels ≤ most → count * channels ≤ most
 few_samples count channels most le = le
-
--- a sample of a place is there
-pub cell_there : (row count channels k size : ℕ) → size ≡ count * channels → row < count → k < channels → row * channels + k < size
-cell_there row count channels k size is less lt =
-    let h : row * channels + k < channels * count = mul-add-lt row channels k count less lt in
-    let e : channels * count ≡ count * channels = omega arith in
-    omega (arith, h, e, is)
-
--- one more of the first elements
-pub take_next : (xs : List ℤ) (k : ℕ) (x : ℤ) → k < length xs → x ≡ get_or xs k x → take (k + 1) xs ≡ take k xs ++ x ∷ []
-take_next xs k x lt is =
-    let e : k + 1 ≡ suc k = omega arith in
-    ap (λ (n : ℕ). take n xs) e ∙ (take-suc xs k x lt ∙ ap (λ (y : ℤ). take k xs ++ y ∷ []) (sym is))
-
-pub append_next : (start xs : List ℤ) (k : ℕ) (x : ℤ) (out : List ℤ) → k < length xs → x ≡ get_or xs k x → out ≡ start ++ take k xs → out ++ x ∷ [] ≡ start ++ take
-    (k + 1) xs
-append_next start xs k x out lt is e =
-    ap (λ (ys : List ℤ). ys ++ x ∷ []) e ∙ (append_assoc start (take k xs) (x ∷ []) ∙ ap (λ (ys : List ℤ). start ++ ys) (sym (take_next xs k x lt is)))
-
--- one more, as an index reads it
-pub append_at : (start xs : List ℤ) (k : ℕ) (out : List ℤ) → k < length xs → out ≡ start ++ take k xs → out ++ get_or xs k (pos 0) ∷ [] ≡ start ++ take (k + 1) xs
-append_at start xs k out lt e =
-    let n : suc k ≡ k + 1 = omega arith in
-    ap (λ (ys : List ℤ). ys ++ get_or xs k (pos 0) ∷ []) e
-    ∙ (append_assoc start (take k xs) (get_or xs k (pos 0) ∷ [])
-    ∙ (ap (λ (ys : List ℤ). start ++ ys) (sym (take-suc xs k (pos 0) lt)) ∙ ap (λ (j : ℕ). start ++ take j xs) n))
-
-pub cell_next : (start samples : List ℤ) (from k : ℕ) (x : ℤ) (out : List ℤ) → from + k < length samples → x ≡ get_or samples (from + k) x → out ≡ start ++ take k
-    (drop from samples)
-    → out ++ x ∷ [] ≡ start ++ take (k + 1) (drop from samples)
-cell_next start samples from k x out lt is e =
-    append_next start (drop from samples) k x out (let l = length-drop from samples in omega (arith, l, lt)) (is ∙ sym (get_or-drop from samples k x)) e
 
 -- rows -------------------------------------------------------------------------------------------------------------------
 

@@ -1,8 +1,10 @@
+pub mod Outcomes
 pub mod Moving
 pub mod Placing
 pub mod Settling
 pub mod Starting
 pub mod Framing
+pub mod RowSteps
 pub mod FrameSteps
 pub mod Decisions
 pub mod Feeding

@@ -24,7 +24,7 @@ pub record Lot : Type 0 where
   pub after : After
 
 abbrev pub lot_of : SoundInlet → Lot
-lot_of i = record { channels = channels_of i.head; count = i.count; samples = i.samples.items; after = i.after }
+lot_of i = record { channels = channels_of i.head; count = i.count; samples = i.samples; after = i.after }
 
 -- on an input that isn't there nothing waits
 abbrev pub lots : List SoundInlet → ℕ → Lot

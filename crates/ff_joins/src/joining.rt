@@ -14,9 +14,10 @@ ghost use Rattle.ff_joins.specs.JoinSeen.{join_seen, join_spent, fed_mark, is_de
 ghost use Rattle.ff_joins.specs.JoinCuts.{frame_length, frame_end, is_late as is_late_by, next_frames};
 ghost use Rattle.ff_joins.specs.JoinDrawing.{due, frame_start, frame_with, HaveAll, IsNextFrame, StandsSo, IsLast};
 
+use crate::interleaving::first_rows;
 use crate::join::Join;
 use crate::join_options::{channels, rate_and_bits};
-use crate::rows::{any_stands, fewest, first_rows, skip_rows, width};
+use crate::rows::{any_stands, fewest, skip_rows, width};
 use ff_filter::{After, closing_of};
 use ff_frame::AFrame;
 use ff_stream::{Item, Refused, discard, ends_past, is_long, ticks_from, time_base};
@@ -88,12 +89,7 @@ impl Join {
         ensures { IfOk result (λ x. x ≡ due self.now count) }
     {
         let all = channels(&self.head);
-        let samples = first_rows(
-            self.alloc,
-            self.inlets.as_slice(),
-            count,
-            count * all as usize,
-        )?;
+        let samples = first_rows(self.alloc, self.inlets.as_slice(), count)?;
         let (rate, bits) = rate_and_bits(&self.head);
         Ok(Item::Audio(AFrame {
             pts: start,

@@ -1,6 +1,6 @@
 //! The sample frames that an input of `join` keeps.
-ghost use Rattle.std.specs.Prelude.{◌≡◌, ◌≤◌, ◌+◌, ◌*◌, ◌/◌, ◌++◌, [], length, take, drop, true, false, OnOk, OnErr, IfErr};
-ghost use Rattle.std.specs.VecDeque.{deque_len, deque_capacity};
+ghost use Rattle.std.specs.Prelude.{◌≡◌, ◌≤◌, ◌+◌, ◌*◌, ◌/◌, ◌++◌, [], length, take, true, false, OnOk, OnErr, IfErr};
+ghost use Rattle.ff_stream.specs.declared.item.Item.TheVariants.{Audio};
 ghost use Rattle.ff_filter.specs.Joins.{Flow, before};
 ghost use Rattle.ff_filter.specs.Made.{is_over as is_over_by};
 ghost use Rattle.ff_filter.specs.Views.{closes};
@@ -9,32 +9,12 @@ ghost use Rattle.ff_joins.specs.JoinOptions.{channels_of as channels_of_head};
 ghost use Rattle.ff_joins.specs.Lots.{lot_of, rows_kept, comes, skipped};
 
 use crate::join_options::channels;
+use crate::sample_queue::SampleQueue;
 use crate::sound_inlet::SoundInlet;
 use ff_filter::{After, closing_of};
-use ff_frame::StreamHead;
+use ff_frame::{AFrame, StreamHead};
 use ff_stream::{Item, Refused, discard, shared};
 use std::alloc::Global;
-use std::collections::VecDeque;
-
-// Puts the first samples after the others.
-fn append(samples: &mut VecDeque<i32>, more: &[i32], count: usize)
-    requires there { count ≤ length more.now }
-    requires room { deque_len samples.old + count ≤ deque_capacity samples.old }
-    ensures { samples.new.items ≡ samples.old.items ++ take count more.now }
-{
-    'append: for k in 0..count {
-        samples.push_back_reserved(more[k]);
-    }
-}
-
-// Lets the first samples go.
-fn skip_samples(samples: &mut VecDeque<i32>, count: usize)
-    ensures { samples.new.items ≡ drop count samples.old.items }
-{
-    'skip: for k in 0..count {
-        let _ = samples.pop_front();
-    }
-}
 
 // How many samples so many sample frames are, at most so many.
 #[tactic(auto, using(crate::proofs::Framing::few_samples))]
@@ -49,13 +29,13 @@ impl SoundInlet {
     /// Nothing came yet.
     pub fn new(alloc: Global, head: StreamHead) -> SoundInlet
         ensures head { result.head ≡ head }
-        ensures samples { result.samples.items ≡ [] }
+        ensures samples { result.samples ≡ [] }
         ensures count { result.count ≡ 0 }
         ensures after { result.after ≡ After.More }
     {
         SoundInlet {
             head,
-            samples: VecDeque::new(alloc),
+            samples: SampleQueue::new(alloc),
             count: 0,
             after: After::More,
         }
@@ -75,33 +55,73 @@ impl SoundInlet {
         match self.count.checked_add(count) {
             None => false,
             Some(total) => {
-                if self.samples.reserve(wanted).is_err() {
+                if self.samples.push(&more[..wanted]).is_err() {
                     return false;
                 }
-                append(&mut self.samples, more, wanted);
                 self.count = total;
                 true
             }
         }
     }
 
-    // Keeps the sample frames of an item, where it has the channels of the input. False for want of memory: then nothing has
-    // changed.
-    fn keep(&mut self, item: &Item) -> bool
-        ensures kept { result ≡ true → rows_kept (lot_of self.new) ≡ rows_kept (lot_of self.old) ++ rows_of (channels_of_head self.old.head) item.now }
-        ensures same { result ≡ false → lot_of self.new ≡ lot_of self.old }
+    // Takes the sample frames of these samples over, where none wait.
+    fn replace_samples(&mut self, samples: Vec<i32>)
+        requires none { self.old.count ≡ 0 }
+        ensures kept { rows_kept (lot_of self.new) ≡ split_rows (channels_of_head self.old.head) (length samples.items / channels_of_head self.old.head) samples.items }
+        ensures head { self.new.head ≡ self.old.head }
+        ensures after { self.new.after ≡ self.old.after }
+    {
+        let mut samples = samples;
+        let channels = channels(&self.head);
+        let count = shared(samples.len(), channels as usize);
+        let wanted = samples_in(count, channels, samples.len());
+        samples.truncate(wanted);
+        self.samples.replace(samples);
+        self.count = count;
+    }
+
+    // Keeps the sample frames of a frame. For want of memory it comes back, and nothing has changed.
+    fn keep_frame(&mut self, frame: AFrame) -> Result<(), Refused>
+        ensures kept { OnOk result (rows_kept (lot_of self.new) ≡ rows_kept (lot_of self.old)
+            ++ split_rows (channels_of_head self.old.head) (length frame.samples / channels_of_head self.old.head) frame.samples) }
+        ensures refused { IfErr result (λ r. r.item ≡ Audio frame) }
+        ensures unchanged { OnErr result (lot_of self.new ≡ lot_of self.old) }
+        ensures head { self.new.head ≡ self.old.head }
+        ensures after { self.new.after ≡ self.old.after }
+    {
+        if self.count == 0 {
+            self.replace_samples(frame.samples.into_vec());
+            return Ok(());
+        }
+        if self.keep_samples(frame.samples.as_slice()) {
+            Ok(())
+        } else {
+            Err(Refused {
+                item: Item::Audio(frame),
+            })
+        }
+    }
+
+    // Keeps the sample frames of an item, where it has the channels of the input. For want of memory it comes back, and nothing
+    // has changed.
+    fn keep(&mut self, item: Item) -> Result<(), Refused>
+        ensures kept { OnOk result (rows_kept (lot_of self.new) ≡ rows_kept (lot_of self.old) ++ rows_of (channels_of_head self.old.head) item) }
+        ensures refused { IfErr result (λ r. r.item ≡ item) }
+        ensures unchanged { OnErr result (lot_of self.new ≡ lot_of self.old) }
         ensures head { self.new.head ≡ self.old.head }
         ensures after { self.new.after ≡ self.old.after }
     {
         match item {
             Item::Audio(frame) => {
                 if frame.channels == channels(&self.head) {
-                    self.keep_samples(frame.samples.as_slice())
+                    self.keep_frame(frame)
                 } else {
-                    true
+                    Ok(())
                 }
             }
-            Item::Video(_) | Item::Packet(_) | Item::Trailer(_) | Item::End | Item::Broken => true,
+            Item::Video(_) | Item::Packet(_) | Item::Trailer(_) | Item::End | Item::Broken => {
+                Ok(())
+            }
         }
     }
 
@@ -120,14 +140,7 @@ impl SoundInlet {
                 self.after = after;
                 Ok(())
             }
-            None => {
-                if self.keep(&item) {
-                    discard(item);
-                    Ok(())
-                } else {
-                    Err(Refused { item })
-                }
-            }
+            None => self.keep(item),
         }
     }
 
@@ -135,7 +148,7 @@ impl SoundInlet {
     pub fn close(&mut self, after: After)
         ensures head { self.new.head ≡ self.old.head }
         ensures count { self.new.count ≡ self.old.count }
-        ensures samples { self.new.samples.items ≡ self.old.samples.items }
+        ensures samples { self.new.samples ≡ self.old.samples }
         ensures after { self.new.after ≡ after }
     {
         self.after = after;
@@ -147,8 +160,9 @@ impl SoundInlet {
         ensures lot { lot_of self.new ≡ skipped count (lot_of self.old) }
         ensures head { self.new.head ≡ self.old.head }
     {
-        let samples = samples_in(count, channels(&self.head), self.samples.len());
-        skip_samples(&mut self.samples, samples);
+        let waiting = self.samples.as_slice().len();
+        let samples = samples_in(count, channels(&self.head), waiting);
+        self.samples.skip(samples);
         self.count -= count;
     }
 }

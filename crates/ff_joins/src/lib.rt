@@ -10,6 +10,7 @@ mod arguments;
 mod concat;
 mod concat_options;
 mod drawing;
+mod interleaving;
 mod join;
 mod join_configured;
 mod join_filter;
@@ -18,6 +19,7 @@ mod joining;
 mod keeping;
 mod laws;
 mod rows;
+mod sample_queue;
 mod segments;
 mod sound_inlet;
 mod times;
@@ -32,5 +34,6 @@ pub use laws::{
     sound_further_on_is_joined_further_on, the_second_segment_is_shifted,
     two_channels_stand_side_by_side, unbroken_inputs_make_no_break, valid_streams_make_valid_ones,
 };
+pub use sample_queue::SampleQueue;
 pub use segments::Segments;
 pub use sound_inlet::SoundInlet;

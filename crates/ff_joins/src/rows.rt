@@ -1,56 +1,12 @@
-//! Samples of several inputs, interleaved by channel.
-ghost use Rattle.std.specs.Prelude.{◌≡◌, ◌⊎◌, ◌≤◌, ◌<◌, ◌++◌, ◌*◌, ◌^◌, ℕ, map, length, true, false, OnOk, IfOk};
+//! The sample frames that wait on several inputs.
+ghost use Rattle.std.specs.Prelude.{◌≡◌, ◌⊎◌, ◌≤◌, ◌<◌, ◌^◌, ℕ, map, length, true, false};
 ghost use Rattle.ff_filter.specs.declared.after.After.{After as AnAfter};
 ghost use Rattle.ff_joins.specs.JoinCuts.{width_to};
-ghost use Rattle.ff_joins.specs.JoinOptions.{channels_of as channels_of_head};
-ghost use Rattle.ff_joins.specs.Lots.{lot_of, lots, lane_of, cell, row_to, cells_to, skipped};
+ghost use Rattle.ff_joins.specs.Lots.{lots, lane_of, skipped};
 
 use crate::join_options::channels;
 use crate::sound_inlet::SoundInlet;
 use ff_filter::After;
-use ff_frame::Samples;
-use std::alloc::{AllocError, Global};
-
-// Puts the samples at one place of an input after the others.
-#[tactic(auto, using(crate::proofs::Framing::cell_there))]
-fn push_cell(out: &mut Vec<i32>, inlet: &SoundInlet, row: usize) -> Result<(), AllocError>
-    requires { row < inlet.now.count }
-    ensures { OnOk result (out.new.items ≡ out.old.items ++ cell (lot_of inlet.now) row) }
-{
-    let channels = channels(&inlet.head) as usize;
-    'cell: for k in 0..channels {
-        out.push(inlet.samples[row * channels + k])?;
-    }
-    Ok(())
-}
-
-// Puts the samples at one place of all inputs after the others.
-fn push_row(out: &mut Vec<i32>, inlets: &[SoundInlet], row: usize) -> Result<(), AllocError>
-    requires { (p : ℕ) → p < length inlets.now → row < (lots inlets.now p).count }
-    ensures { OnOk result (out.new.items ≡ out.old.items ++ row_to (lots inlets.now) (length inlets.now) row) }
-{
-    'row: for p in 0..inlets.len() {
-        push_cell(out, &inlets[p], row)?;
-    }
-    Ok(())
-}
-
-/// The samples at the first places of all inputs, interleaved by channel; `room` is how many they are.
-pub fn first_rows(
-    alloc: Global,
-    inlets: &[SoundInlet],
-    count: usize,
-    room: usize,
-) -> Result<Samples, AllocError>
-    requires { (p : ℕ) → p < length inlets.now → count ≤ (lots inlets.now p).count }
-    ensures { IfOk result (λ xs. xs ≡ cells_to (lots inlets.now) (length inlets.now) count) }
-{
-    let mut out = Vec::with_capacity(alloc, room)?;
-    'rows: for row in 0..count {
-        push_row(&mut out, inlets, row)?;
-    }
-    Ok(Samples::new(out))
-}
 
 /// Lets the first sample frames of each input go.
 pub fn skip_rows(inlets: &mut Vec<SoundInlet>, count: usize)

@@ -23,8 +23,8 @@ inlets-preserved c =
     let head : i.head ≡ h = search rules in
     let lot : ℕ → ℕ → List ℤ → After → Lot = λ n k xs a. record { channels = n; count = k; samples = xs; after = a } in
     let empty : lot_of i ≡ record { channels = channels_of h; count = 0; samples = []; after = More } =
-    ap (λ (g : StreamHead). lot (channels_of g) i.count i.samples.items i.after) head
-    ∙ (ap (λ (k : ℕ). lot (channels_of h) k i.samples.items i.after) c.new.ensures.count
+    ap (λ (g : StreamHead). lot (channels_of g) i.count i.samples i.after) head
+    ∙ (ap (λ (k : ℕ). lot (channels_of h) k i.samples i.after) c.new.ensures.count
     ∙ (ap (λ (xs : List ℤ). lot (channels_of h) 0 xs i.after) c.new.ensures.samples ∙ ap (λ (a : After). lot (channels_of h) 0 [] a) c.new.ensures.after)) in
     let items = c.push_reserved.ensures.items in
     record {

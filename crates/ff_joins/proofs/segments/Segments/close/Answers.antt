@@ -1,16 +1,12 @@
-use Rattle.std.proofs.Common.{◌≡◌, ◌≤◌, ◌+◌, ◌∙◌, sym, ap, subst, arith, false, Result, Ok, Err, List, length, set}
-use Rattle.std.specs.Prelude.{OnOk, is_err}
+use Rattle.std.proofs.Common.{◌≡◌, ◌≤◌, ◌+◌, ◌∙◌, sym, ap, subst, arith, List, length, set}
 use Rattle.std.specs.VecDeque.{deque_len, deque_capacity}
 use Rattle.ff_stream.specs.declared.item.Item.{Item}
 use Rattle.ff_filter.specs.Views.{Same}
 use Rattle.ff_joins.specs.Segmented.{waits_in, fields_view, segments_view}
 use Rattle.ff_joins.proofs.Placing.{waits_set}
 use Rattle.ff_joins.proofs.Moving.{fed_then, closed_in, drawn_bare}
+use Rattle.ff_joins.proofs.Outcomes.{on_ok}
 use Rattle.ff_joins.proofs.segments.Segments.close.Goals as goal
-
-on_ok : {U E : Type 0} (r : Result U E) (P : Type 0) → is_err r ≡ false → OnOk r P → P
-on_ok (Ok u) P n h = h
-on_ok (Err e) P n h = cc
 
 pub drain-requires : goal.drain-requires
 drain-requires c =
