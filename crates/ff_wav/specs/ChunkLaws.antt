@@ -47,7 +47,7 @@ index_front (b ∷ bs) more (suc i) lt = index_front bs more i (omega arith)
 front_16 : (bs more : List ℕ) (i : ℕ) → i + 2 ≤ length bs → number_16 i (bs ++ more) ≡ number_16 i bs
 front_16 bs more i le = rw (index_front bs more i (omega arith), index_front bs more (i + 1) (omega arith)) refl
 
-front_32 : (bs more : List ℕ) (i : ℕ) → i + 4 ≤ length bs → number_32 i (bs ++ more) ≡ number_32 i bs
+pub front_32 : (bs more : List ℕ) (i : ℕ) → i + 4 ≤ length bs → number_32 i (bs ++ more) ≡ number_32 i bs
 front_32 bs more i le = let a = front_16 bs more i (omega arith) in let b = front_16 bs more (i + 2) (omega arith) in cc
 
 fields_same : (at : ℕ) (bs more : List ℕ) → 24 ≤ length bs → fields at bs ≡ fields at (bs ++ more)
@@ -70,7 +70,7 @@ tagged_settles at bs more le =
     (settles_wait bs more 48 _ _ (λ long. settles_decided _ _ _ _ _ (ap (λ n. not (n == 1)) (sym (front_16 bs more 32 (omega arith)))) (inr same))))
     (settles_decided _ _ _ _ _ (ap (λ n. not (n == 1)) tag) (inr same))
 
-format_settles : (format : Option StreamHead) (at : ℕ) (bs more : List ℕ) → 8 ≤ length bs → Settles (format_chunk format at bs) (format_chunk format at (bs ++ more))
+pub format_settles : (format : Option StreamHead) (at : ℕ) (bs more : List ℕ) → 8 ≤ length bs → Settles (format_chunk format at bs) (format_chunk format at (bs ++ more))
 unfolding format_chunk
 format_settles (Some format) at bs more le = inr (ap (λ n. passed n (Some format)) (sym (front_32 bs more 4 (omega arith))))
 format_settles None at bs more le =
@@ -126,7 +126,7 @@ tagged_here at bs = either at _ _ _
     (either at _ _ _ (here_damaged at) (either at _ _ _ (here_wait at) (either at _ _ _ (here_unsupported at (at + 32)) (fields_here at bs))))
     (either at _ _ _ (here_unsupported at (at + 8)) (fields_here at bs))
 
-format_here : (format : Option StreamHead) (at : ℕ) (bs : List ℕ) → IsHere at (format_chunk format at bs)
+pub format_here : (format : Option StreamHead) (at : ℕ) (bs : List ℕ) → IsHere at (format_chunk format at bs)
 unfolding format_chunk
 format_here (Some format) at bs = here_skip at _ _
 format_here None at bs = either at _ _ _ (here_damaged at) (either at _ _ _ (here_wait at) (tagged_here at bs))

@@ -102,7 +102,7 @@ tagged_fine at bs = fine_if at (number_16 8 bs == 0xFFFE) _ _
     (fine_if at (not (number_16 32 bs == 1)) _ _ (fine_fault at (Unsupported (at + 32))) (fields_fine at bs))))
     (fine_if at (not (number_16 8 bs == 1)) _ _ (fine_fault at (Unsupported (at + 8))) (fields_fine at bs))
 
-format_fine : (f : Option StreamHead) (at : ℕ) (bs : List ℕ) → IfSome f IsStream → Fine at (format_chunk f at bs)
+pub format_fine : (f : Option StreamHead) (at : ℕ) (bs : List ℕ) → IfSome f IsStream → Fine at (format_chunk f at bs)
 unfolding format_chunk
 format_fine (Some f) at bs g = fine_skip at (number_32 4 bs) (Some f) g
 format_fine None at bs g = fine_if at (nat_lt (number_32 4 bs) 16) _ _ (fine_fault at (Damaged at)) (fine_if at (nat_lt (length bs) 24) _ _ (fine_wait at) (tagged_fine at bs))

@@ -18,7 +18,8 @@ fn at_16(bytes: &[u8], place: usize) -> u16
     bytes[place] as u16 + 256 * bytes[place + 1] as u16
 }
 
-fn at_32(bytes: &[u8], place: usize) -> u32
+/// The number of four bytes at a place.
+pub fn at_32(bytes: &[u8], place: usize) -> u32
     requires { place + 4 ≤ length bytes.now }
     ensures { result ≡ number_32 place bytes.now }
 {
@@ -32,8 +33,8 @@ fn at_64(bytes: &[u8], place: usize) -> u64
     at_32(bytes, place) as u64 + 4294967296 * at_32(bytes, place + 4) as u64
 }
 
-// Whether four bytes begin the bytes.
-fn has_id(bytes: &[u8], id: &[u8]) -> bool
+/// Whether four bytes begin the bytes.
+pub fn has_id(bytes: &[u8], id: &[u8]) -> bool
     requires { 4 ≤ length bytes.now }
     ensures { result ≡ bytes_eq (take 4 bytes.now) id.now }
 {
@@ -78,7 +79,7 @@ fn checked(
     block: u16,
     bits: u16,
 ) -> Result<StreamHead, HeadFault>
-    requires { at < 2 ^ 32 }
+    requires { at < 2 ^ 33 }
     ensures { result ≡ format_of at channels rate block bits }
 {
     if !(1 <= channels && channels <= 8) {
@@ -105,7 +106,7 @@ fn passed_over(size: u32, format: Option<StreamHead>) -> ChunkStep
 }
 
 fn fields_at(at: u64, bytes: &[u8]) -> ChunkStep
-    requires place { at < 2 ^ 32 }
+    requires place { at < 2 ^ 33 }
     requires there { 24 ≤ length bytes.now }
     ensures value { result ≡ fields at bytes.now }
     ensures small { (size : ℕ) (next : Option StreamHead) → result ≡ Skip size next → size ≤ 2 ^ 33 }
@@ -125,7 +126,7 @@ fn fields_at(at: u64, bytes: &[u8]) -> ChunkStep
 
 #[tactic(auto, unfolding(crate::specs::Chunks::tagged))]
 fn tagged_at(at: u64, bytes: &[u8]) -> ChunkStep
-    requires place { at < 2 ^ 32 }
+    requires place { at < 2 ^ 33 }
     requires there { 24 ≤ length bytes.now }
     ensures value { result ≡ tagged at bytes.now }
     ensures small { (size : ℕ) (next : Option StreamHead) → result ≡ Skip size next → size ≤ 2 ^ 33 }
@@ -149,9 +150,11 @@ fn tagged_at(at: u64, bytes: &[u8]) -> ChunkStep
     fields_at(at, bytes)
 }
 
+/// What a `fmt ` chunk does that begins the bytes, at this offset of the input: the first one tells the stream's head. Its id
+/// isn't looked at, since other containers have the same fields under another.
 #[tactic(auto, unfolding(crate::specs::Chunks::format_chunk))]
-fn format_chunk_at(format: Option<StreamHead>, at: u64, bytes: &[u8]) -> ChunkStep
-    requires place { at < 2 ^ 32 }
+pub fn format_chunk_at(format: Option<StreamHead>, at: u64, bytes: &[u8]) -> ChunkStep
+    requires place { at < 2 ^ 33 }
     requires there { 8 ≤ length bytes.now }
     ensures value { result ≡ format_chunk format at bytes.now }
     ensures small { (size : ℕ) (next : Option StreamHead) → result ≡ Skip size next → size ≤ 2 ^ 33 }

@@ -12,7 +12,7 @@ pub type WavHead = PcmHead;
 pub(crate) type WavState = Option<(Option<u64>, Option<StreamHead>)>;
 
 /// What a chunk does to the reading of a head: where it is passed over, the stream's head so far goes on.
-pub(crate) type ChunkStep = Step<WavHead, Option<StreamHead>>;
+pub type ChunkStep = Step<WavHead, Option<StreamHead>>;
 
 /// What a chunk does to the reading of a head in either form of WAV.
 pub(crate) type WavStep = Step<WavHead, WavState>;

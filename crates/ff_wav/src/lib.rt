@@ -15,7 +15,8 @@ mod put;
 mod walk;
 mod writer;
 
-pub use head::WavHead;
+pub use chunk::{at_32, format_chunk_at, has_id};
+pub use head::{ChunkStep, WavHead};
 pub use header::{HeaderForm, Sizes};
 pub use laws::{finished_wavs_are_riff, what_is_written_is_read_again};
 pub use put::WavPut;

@@ -25,5 +25,6 @@ pub use laws::{
     finished_pictures_are_yuv4mpeg2, frames_are_decided, rates_are_in_lowest_terms,
     what_is_written_is_read_again, written_frames_are_read_again,
 };
+pub use number::time_base;
 pub use read::read_head;
 pub use writer::Y4mWriter;

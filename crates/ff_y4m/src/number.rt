@@ -67,7 +67,7 @@ fn fraction(num: i64, den: i64) -> Option<Rational>
 }
 
 /// The time base num / den in lowest terms, where both are positive and the lowest terms below 2^31.
-pub(crate) fn time_base(num: u64, den: u64) -> Option<Rational>
+pub fn time_base(num: u64, den: u64) -> Option<Rational>
     requires num { num < 10 ^ 10 }
     requires den { den < 10 ^ 10 }
     ensures { result ≡ base_of num den }

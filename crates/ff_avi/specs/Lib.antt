@@ -1,0 +1,10 @@
+pub mod Streams
+pub mod Lists
+pub mod Heads
+pub mod Sound
+pub mod Examples
+pub mod BaseLaws
+pub mod StreamLaws
+pub mod ListLaws
+pub mod SoundLaws
+pub mod HeadLaws
