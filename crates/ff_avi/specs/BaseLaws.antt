@@ -13,7 +13,8 @@ use Rattle.ff_avi.specs.Streams.{base_in}
 -- what the four tests say
 abbrev told_in : ℕ → Fraction → Bool → Bool → Bool → Bool → Result Fraction HeadFault
 told_in at low a b c d =
-    cond a (Err (Unsupported (at + 40))) (cond b (Err (Unsupported (at + 44))) (cond (not c) (Err (Unsupported (at + 40))) (cond (not d) (Err (Unsupported (at + 44))) (Ok low))))
+    cond a (Err (Unsupported (at + 40))) (cond b (Err (Unsupported (at + 44)))
+    (cond (not c) (Err (Unsupported (at + 40))) (cond (not d) (Err (Unsupported (at + 44))) (Ok low))))
 
 by_tests : (at n m : ℕ) (a b c d : Bool) → (n == 0) ≡ a → (m == 0) ≡ b → nat_lt (lowest n m).num (2 ^ 31) ≡ c → nat_lt (lowest n m).den (2 ^ 31) ≡ d
     → base_in at n m ≡ told_in at (lowest n m) a b c d

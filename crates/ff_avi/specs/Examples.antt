@@ -1,5 +1,10 @@
 -- The worked examples: files whose only stream is pictures of 2 columns and 2 rows.
-use Rattle.std.specs.Prelude.{ℕ, List, [], ◌∷◌, ◌++◌, codes, replicate}
+use Rattle.std.specs.Prelude.{ℕ, List, [], ◌∷◌, ◌++◌, codes, replicate, Some, None}
+use Rattle.ff_frame.specs.declared.head.StreamHead.{StreamHead}
+use Rattle.ff_frame.specs.declared.head.StreamHead.TheVariants.{Audio, Video}
+use Rattle.ff_frame.specs.declared.head.Codec.TheVariants.{PcmS16le}
+use Rattle.ff_frame.specs.declared.video.Format.TheVariants.{C420}
+use Rattle.ff_avi.specs.declared.head.AviHead.{AviHead}
 
 -- a number of 32 bits below 256
 abbrev pub number : ℕ → List ℕ
@@ -30,3 +35,22 @@ opening rate code =
 -- one picture
 abbrev pub picture : List ℕ
 picture = chunk (codes "00db") 6 ++ codes "abcdef"
+
+-- ---- what follows a head, from byte 160 on
+
+abbrev pub pictures : StreamHead
+pictures = Video (record { num = 1; den = 25 }) C420 2 2 0 0
+
+-- sound of 16 bits on one channel
+abbrev pub sound : StreamHead
+sound = Audio (record { num = 1; den = 1000 }) 1000 16 1 PcmS16le
+
+abbrev pub film : AviHead
+film = record { first = pictures; second = None; start = 160 }
+
+abbrev pub film_with_sound : AviHead
+film_with_sound = record { first = pictures; second = Some sound; start = 160 }
+
+-- two sample frames and half of one, and a pad byte
+abbrev pub some_sound : List ℕ
+some_sound = chunk (codes "01wb") 5 ++ (codes "abcde" ++ nothing 1)

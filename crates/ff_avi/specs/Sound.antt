@@ -1,5 +1,5 @@
 -- What is true of every head that is read.
-use Rattle.std.specs.Prelude.{◌≡◌, ◌≤◌, ◌^◌, ℕ, not, Option, Some, None, IfSome}
+use Rattle.std.specs.Prelude.{◌≡◌, ◌≤◌, ◌^◌, ℕ, not, List, [], ◌∷◌, Option, Some, None, IfSome}
 use Rattle.ff_time.specs.Fraction.{Fraction, IsBase}
 use Rattle.ff_frame.specs.Video.{IsSide}
 use Rattle.ff_frame.specs.declared.head.StreamHead.{StreamHead}
@@ -21,6 +21,14 @@ pub record ArePictures (base : Fraction) (format : Format) (width height : ℕ) 
 abbrev pub IsStream : StreamHead → Type 0
 IsStream (Audio base rate bits channels codec) = IsPcmSound base rate bits channels codec
 IsStream (Video base format width height sar_num sar_den) = ArePictures base format width height
+
+-- the streams of a head, each at its number
+abbrev pub streams_with : StreamHead → Option StreamHead → List StreamHead
+streams_with first None = first ∷ []
+streams_with first (Some second) = first ∷ second ∷ []
+
+abbrev pub streams_of : AviHead → List StreamHead
+streams_of head = streams_with head.first head.second
 
 -- of two streams one is pictures and one sound
 abbrev pub AreApart : Option StreamHead → Option StreamHead → Type 0

@@ -1,4 +1,6 @@
 //! The head of an AVI input, and what its lists say before it is whole.
+ghost use Rattle.std.specs.Prelude.{◌≡◌, length, slice_get};
+
 use ff_frame::StreamHead;
 use ff_reader::Step;
 
@@ -11,6 +13,31 @@ pub struct AviHead {
     pub second: Option<StreamHead>,
     /// The offset of what follows the type of the list `movi`, in bytes.
     pub start: u64,
+}
+
+impl AviHead {
+    ghost use Rattle.ff_avi.specs.Sound.{streams_of};
+
+    /// How many streams it has.
+    pub fn count(&self) -> u32
+        ensures { result ≡ length (streams_of self.now) }
+    {
+        match self.second {
+            None => 1,
+            Some(_) => 2,
+        }
+    }
+
+    /// What is known of the stream of this number.
+    pub fn stream(&self, number: u32) -> Option<StreamHead>
+        ensures { result ≡ slice_get (streams_of self.now) number }
+    {
+        match number {
+            0 => Some(self.first),
+            1 => self.second,
+            _ => None,
+        }
+    }
 }
 
 /// What the lists so far say.

@@ -2,8 +2,8 @@
 ghost use Rattle.std.specs.Prelude.{◌≡◌, ◌+◌, ◌≤◌, ◌<◌, ◌^◌, length, Ok};
 ghost use Rattle.ff_wav.specs.Chunks.{number_32};
 ghost use Rattle.std.specs.Str.{bytes_eq};
-ghost use Rattle.ff_avi.specs.Streams.{padded as padded_len, word as word_at, is_pictures, is_sound, base_in, video_kind, header_of};
-ghost use Rattle.ff_avi.specs.Streams.{pictures_of, pictures_in, told_by, format_in, format_place, behind_header, stream_in};
+ghost use Rattle.ff_avi.specs.Streams.{padded as padded_len, word as word_at, is_pictures, is_sound, base_in, header_of};
+ghost use Rattle.ff_avi.specs.Streams.{pictures_of, pictures_in, told_by, format_in, behind_header, stream_in};
 
 use crate::head::AviState;
 use crate::kind::StreamKind;
