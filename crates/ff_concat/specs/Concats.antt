@@ -76,7 +76,7 @@ in_order tick_list out (suc n) k time end own tails =
     led_by (filled out.head end (begin_in out.tick time))
     (followed (map_stream (later (begin_in out.tick time)) (own k))
     (let_through (together (length tick_list) (k * length tick_list) tails) (is_video out.head && is_lost (length tick_list) n (k + 1) own tails)
-    (in_order tick_list out n (k + 1) (time + latest tick_list (k * length tick_list) tails)
+    (in_order tick_list out n (k + 1) (time + latest tick_list (length tick_list) (k * length tick_list) tails)
     (begin_in out.tick time + (tails (k * length tick_list + out.number)).end) own tails)))
 
 abbrev pub product : List Fraction → ℕ

@@ -1,5 +1,10 @@
+pub mod ConcatLaws
 pub mod Concats
 pub mod Examples
 pub mod Following
+pub mod Moves
 pub mod Silences
+pub mod Standing
 pub mod Tails
+pub mod TrackLaws
+pub mod Tracks

@@ -1,5 +1,5 @@
 -- How far streams have come: where they end so far, and whether more may come.
-use Rattle.std.specs.Prelude.{◌≡◌, ◌⊎◌, ℕ, zero, suc, ◌+◌, ◌*◌, max, List, [], ◌∷◌}
+use Rattle.std.specs.Prelude.{◌≡◌, ◌⊎◌, ℕ, zero, suc, ◌+◌, ◌*◌, max, slice_index, List, [], ◌∷◌}
 use Rattle.ff_stream.specs.declared.item.Item.{Item}
 use Rattle.ff_stream.specs.Stream.{Mark, still_open, whole, broken}
 use Rattle.ff_stream.specs.Times.{end_ticks}
@@ -29,9 +29,9 @@ both still_open still_open = still_open
 -- so many streams from port p on together
 abbrev pub together : ℕ → ℕ → (ℕ → Tail) → Mark
 together zero p tails = whole
-together (suc w) p tails = both (tails p).mark (together w (p + 1) tails)
+together (suc w) p tails = both (together w p tails) (tails (p + w)).mark
 
--- the latest end of the streams from port p on, in a unit of which a tick of each has so many
-abbrev pub latest : List ℕ → ℕ → (ℕ → Tail) → ℕ
-latest [] p tails = 0
-latest (tick ∷ ticks) p tails = max ((tails p).end * tick) (latest ticks (p + 1) tails)
+-- The latest end of so many streams from port p on, in a unit of which a tick of each has as many as the list says.
+abbrev pub latest : List ℕ → ℕ → ℕ → (ℕ → Tail) → ℕ
+latest tick_list zero p tails = 0
+latest tick_list (suc w) p tails = max (latest tick_list w p tails) ((tails (p + w)).end * slice_index tick_list w)

@@ -1,0 +1,13 @@
+pub mod Draws
+pub mod Feeds
+pub mod Losing
+pub mod Lookups
+pub mod Outputs
+pub mod Places
+pub mod Ports
+pub mod Same
+pub mod Segments
+pub mod Standings
+pub mod Steps
+pub mod Turns
+pub mod Zeros
