@@ -1,24 +1,18 @@
 -- What an output makes after it gave an item, and where it gives none.
-use Rattle.std.proofs.Common.{◌≡◌, ◌≢◌, ℕ, suc, ◌+◌, ◌-◌, ◌*◌, ◌<◌, ◌≤◌, Bool, true, false, List, [], ◌∷◌, cond, length, set, refl, inl, inr, ap, sym, ◌∙◌, subst, arith}
-use Rattle.std.specs.Prelude.{◌&&◌}
-use Rattle.std.proofs.lemmas.Bool.{cases_eq}
-use Rattle.std.proofs.lemmas.List.{length-set}
+use Rattle.std.proofs.Common.{◌≡◌, ℕ, suc, ◌+◌, ◌-◌, ◌*◌, ◌<◌, ◌≤◌, Bool, true, false, List, [], ◌∷◌, cond, length, refl, ap, sym, ◌∙◌, subst, arith}
 use Rattle.ff_frame.specs.declared.head.StreamHead.{StreamHead}
 use Rattle.ff_stream.specs.declared.item.Item.{Item}
 use Rattle.ff_stream.specs.declared.item.Item.TheVariants.{Broken}
 use Rattle.ff_stream.specs.declared.item.Lane.TheVariants.{Frames}
-use Rattle.ff_stream.specs.Stream.{Mark, broken, still_open, LiesBelow}
-use Rattle.ff_stream.specs.Ports.{nothing, IsClosed}
+use Rattle.ff_stream.specs.Stream.{broken, still_open, LiesBelow}
+use Rattle.ff_stream.specs.Ports.{nothing}
 use Rattle.ff_stream.specs.Order.{nothing_below, closed_below}
 use Rattle.ff_stream.specs.Within.{passes_limits}
-use Rattle.ff_filter.specs.declared.after.After.{After}
 use Rattle.ff_filter.specs.declared.after.After.TheVariants.{More, Whole, Broke}
 use Rattle.ff_filter.specs.Joins.{Flow, Ports, before, silence}
 use Rattle.ff_filter.specs.Limits.{limited}
-use Rattle.ff_filter.specs.Made.{waiting, behind, mark_after}
-use Rattle.ff_filter.specs.Options.{is_video}
+use Rattle.ff_filter.specs.Made.{waiting, mark_after}
 use Rattle.ff_filter.specs.Views.{closes}
-use Rattle.ff_concat.specs.declared.backlog.Backlog.{Backlog}
 use Rattle.ff_concat.specs.declared.reach.Reach.{Reach}
 use Rattle.ff_concat.specs.declared.track.Track.{Track}
 use Rattle.ff_concat.specs.Silences.{filled}
@@ -104,7 +98,7 @@ module _ (tick_list : List ℕ) (q : ℕ) (t : Track) (rs : List Reach) (inside 
       let here : o k ≡ before x (o' k) = ap (λ (xs : List Item). waiting xs a e) taken.here in
       let others : (j : ℕ) → k + 1 ≤ j → o j ≡ o' j =
       λ j le. ap (λ (xs : List Item). waiting xs (after_at rs (j * w + q)) (ext (j * w + q)))
-          (sym (taken.others j (λ s. let f : k + 1 ≤ k = subst (λ (i : ℕ). k + 1 ≤ i) s le in absurd (omega (arith, f))))) in
+      (sym (taken.others j (λ s. let f : k + 1 ≤ k = subst (λ (i : ℕ). k + 1 ≤ i) s le in absurd (omega (arith, f))))) in
       let long : suc n ≡ length z.backlogs.items - z.current = sym more ∙ sym (ap (λ (i : ℕ). i - z.current) l.backlogs ∙ ap (λ (i : ℕ). length bs - i) l.current) in
       ap (λ (f : Flow). limited (passes_limits (Frames t.head)) t.before f)
       (ap (λ (i : ℕ). in_order tick_list out i k t.begin t.end o u) more

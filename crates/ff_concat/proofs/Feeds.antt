@@ -1,7 +1,6 @@
 -- What feeding an input does to what the outputs still give.
-use Rattle.std.proofs.Common.{◌≡◌, ◌≢◌, ℕ, zero, suc, ◌+◌, ◌*◌, ◌/◌, ◌%◌, ◌<◌, ◌≤◌, Bool, true, false, ◌||◌, Some, List, [], ◌∷◌, ◌++◌, cond, length, get_or, set, refl, inl, inr, ap, sym, ◌∙◌, subst, arith}
+use Rattle.std.proofs.Common.{◌≡◌, ◌≢◌, ℕ, zero, suc, ◌+◌, ◌*◌, ◌/◌, ◌%◌, ◌<◌, ◌≤◌, Bool, true, false, ◌||◌, Some, List, [], ◌∷◌, ◌++◌, length, get_or, set, refl, inl, inr, ap, sym, ◌∙◌, subst, arith}
 use Rattle.std.proofs.lemmas.Bool.{cases_eq, cases_lt, eq-eqb, ne_eqb, or_cases}
-use Rattle.std.proofs.lemmas.List.{length-set}
 use Rattle.std.proofs.lemmas.Nat.{mod-mul-add}
 use Rattle.std.proofs.Math.Nat.{mod-add-div', mul-div_cancel}
 use Rattle.ff_stream.specs.declared.item.Item.{Item}
@@ -13,18 +12,17 @@ use Rattle.ff_filter.specs.declared.after.After.{After}
 use Rattle.ff_filter.specs.declared.after.After.TheVariants.{More, Whole, Broke}
 use Rattle.ff_filter.specs.Joins.{Flow, Ports, before, before_if, before_at}
 use Rattle.ff_filter.specs.Made.{waiting, closing, is_over}
-use Rattle.ff_filter.specs.Views.{View, Fed, closes}
+use Rattle.ff_filter.specs.Views.{Fed, closes}
 use Rattle.ff_filter.proofs.Taking.{put_in}
 use Rattle.ff_concat.specs.declared.backlog.Backlog.{Backlog}
 use Rattle.ff_concat.specs.declared.reach.Reach.{Reach}
 use Rattle.ff_concat.specs.declared.track.Track.{Track}
-use Rattle.ff_concat.specs.Tails.{Tail, last_end}
 use Rattle.ff_concat.specs.ConcatLaws.{data_before}
 use Rattle.ff_concat.specs.TrackLaws.{gives-quiet}
-use Rattle.ff_concat.specs.Tracks.{after_at, end_at, tail_on, tails, queue_at, own, still_gives, gives_at, ended_at, stopped_at, lanes_of, repeated, view_of}
+use Rattle.ff_concat.specs.Tracks.{after_at, end_at, tail_on, tails, queue_at, own, gives_at, ended_at, stopped_at, repeated, view_of}
 use Rattle.ff_concat.specs.Moves.{IsAlike, Kept}
-use Rattle.ff_concat.proofs.Lookups.{after_read, after_set, after_other, end_read, end_set, end_other, gives_read, gives_set, gives_other, gives_same, ended_read, ended_set, ended_other, stopped_read, stopped_set, stopped_other, lanes_set}
-use Rattle.ff_concat.proofs.Same.{gives_eq, alike_gives}
+use Rattle.ff_concat.proofs.Lookups.{after_set, after_other, end_set, end_other, gives_read, gives_set, gives_other, gives_same, ended_read, ended_set, ended_other, stopped_read, stopped_set, stopped_other, lanes_set}
+use Rattle.ff_concat.proofs.Same.{alike_gives}
 
 open_more : (a : After) → is_over a ≡ false → a ≡ More
 open_more More e = refl

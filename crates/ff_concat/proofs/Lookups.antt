@@ -1,16 +1,12 @@
 -- What stands at a place of a list, before and after one place of it was written.
-use Rattle.std.proofs.Common.{◌≡◌, ◌≢◌, ℕ, zero, suc, ◌+◌, ◌<◌, List, [], ◌∷◌, Bool, length, get_or, set, refl, ap, sym, ◌∙◌, arith}
-use Rattle.std.specs.Prelude.{map, true, false, ◌||◌, ◌&&◌}
-use Rattle.ff_stream.specs.declared.item.Item.{Item}
+use Rattle.std.proofs.Common.{◌≡◌, ◌≢◌, ℕ, zero, suc, ◌<◌, List, [], ◌∷◌, length, get_or, set, refl, ap, sym, ◌∙◌, arith}
 use Rattle.ff_stream.specs.declared.item.Lane.{Lane}
 use Rattle.ff_stream.specs.declared.item.Lane.TheVariants.{Frames}
-use Rattle.ff_filter.specs.Joins.{Flow, Ports}
-use Rattle.ff_filter.specs.declared.after.After.{After}
+use Rattle.ff_filter.specs.Joins.{Ports}
 use Rattle.ff_concat.specs.declared.backlog.Backlog.{Backlog}
 use Rattle.ff_concat.specs.declared.reach.Reach.{Reach}
 use Rattle.ff_concat.specs.declared.track.Track.{Track}
 use Rattle.ff_concat.specs.Tracks.{after_at, end_at, queue_at, gives_at, still_gives, ended_at, stopped_at, lanes_of}
-use Rattle.ff_concat.specs.TrackLaws.{each_done}
 
 pub after_read : (xs : List Reach) (i : ℕ) (x : Reach) → i < length xs → x ≡ get_or xs i x → after_at xs i ≡ x.after
 after_read [] i x lt e = absurd (omega arith)
@@ -141,13 +137,3 @@ pub lanes_set : (ts : List Track) (i : ℕ) (s t : Track) → i < length ts → 
 lanes_set [] i s t lt e h = absurd (omega arith)
 lanes_set (u ∷ ts) zero s t lt e h = ap (λ (l : Lane). l ∷ lanes_of ts) (ap Frames (h ∙ ap (λ (v : Track). v.head) e))
 lanes_set (u ∷ ts) (suc i) s t lt e h = ap (λ (ls : List Lane). Frames u.head ∷ ls) (lanes_set ts i s t (omega arith) e h)
-
--- an output goes on, so not each is done
-pub done_not : (ts : List Track) (i : ℕ) (t : Track) → i < length ts → t ≡ get_or ts i t → (t.stopped || t.ended) ≡ false → each_done ts ≡ false
-done_not [] i t lt e d = absurd (omega arith)
-done_not (u ∷ ts) zero t lt e d = ap (λ (b : Bool). b && each_done ts) (ap (λ (v : Track). v.stopped || v.ended) (sym e) ∙ d)
-done_not (u ∷ ts) (suc i) t lt e d = and_false (u.stopped || u.ended) (each_done ts) (done_not ts i t (omega arith) e d)
-  where
-    and_false : (a b : Bool) → b ≡ false → (a && b) ≡ false
-    and_false true b f = f
-    and_false false b f = refl

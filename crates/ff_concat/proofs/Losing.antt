@@ -1,8 +1,8 @@
 -- Whether of the segments behind nothing can come.
-use Rattle.std.proofs.Common.{◌≡◌, ◌≢◌, ℕ, zero, suc, ◌+◌, ◌-◌, ◌*◌, ◌<◌, Bool, true, false, List, [], ◌∷◌, length, refl, ap, sym, ◌∙◌, subst, arith}
+use Rattle.std.proofs.Common.{◌≡◌, ◌≢◌, ℕ, zero, suc, ◌+◌, ◌-◌, ◌*◌, ◌<◌, Bool, true, false, List, [], ◌∷◌, length, refl, ap, sym, ◌∙◌, arith}
 use Rattle.ff_stream.specs.declared.item.Item.{Item}
 use Rattle.ff_stream.specs.declared.item.Item.TheVariants.{Audio, Video, Packet, Trailer, End, Broken}
-use Rattle.ff_stream.specs.Stream.{Mark, still_open, whole, broken}
+use Rattle.ff_stream.specs.Stream.{Mark, whole, broken}
 use Rattle.ff_stream.specs.Ports.{nothing}
 use Rattle.ff_filter.specs.declared.after.After.{After}
 use Rattle.ff_filter.specs.declared.after.After.TheVariants.{More, Whole, Broke}
@@ -12,9 +12,12 @@ use Rattle.ff_filter.specs.Views.{closes, none_closes}
 use Rattle.ff_concat.specs.declared.backlog.Backlog.{Backlog}
 use Rattle.ff_concat.specs.declared.reach.Reach.{Reach}
 use Rattle.ff_concat.specs.Tails.{together}
-use Rattle.ff_concat.specs.Concats.{is_lost, is_lost_at}
+use Rattle.ff_concat.specs.Concats.{is_lost, is_lost_at, closes_at, is_closed}
 use Rattle.ff_concat.specs.ConcatLaws.{data_before}
-use Rattle.ff_concat.specs.Tracks.{after_at, tails, queue_at, own}
+use Rattle.ff_concat.specs.declared.track.Track.{Track}
+use Rattle.ff_filter.specs.Options.{is_video}
+use Rattle.std.specs.Prelude.{◌&&◌}
+use Rattle.ff_concat.specs.Tracks.{after_at, tails, queue_at, own, closed_from}
 use Rattle.ff_concat.specs.Standing.{lost_from}
 
 pub queue_open : (bs : List Backlog) (k : ℕ) → none_closes (queue_at bs k) ≡ true
@@ -76,3 +79,33 @@ module _ (bs : List Backlog) (rs : List Reach) (w q k : ℕ) (there : k < length
 
   pub lost_break : queue_at bs k ≡ [] → after_at rs (k * w + q) ≡ Whole → broken ≡ together w (k * w) (tails rs silence) → lost_from bs rs w q k ≡ true
   lost_break e f g = lost_bare e Whole f ∙ ap (λ (m : Mark). is_lost_at [] whole m (lost_from bs rs w q (k + 1))) (sym g)
+
+before_mark : (x : Item) (s : Flow) → closes x ≡ false → (before x s).mark ≡ s.mark
+before_mark x s c = ap (λ (t : Flow). t.mark) (data_before x s c)
+
+later_open : (x : Item) (xs : List Item) → none_closes (x ∷ xs) ≡ true → none_closes xs ≡ true
+later_open (Audio f) xs e = e
+later_open (Video f) xs e = e
+later_open (Packet p) xs e = e
+later_open (Trailer p) xs e = e
+later_open End xs e = cc
+later_open Broken xs e = cc
+
+-- behind what waits a stream stands as its input does
+waiting_mark : (xs : List Item) (a : After) → none_closes xs ≡ true → (waiting xs a nothing).mark ≡ mark_after a
+waiting_mark [] a e = ap (λ (t : Flow). t.mark) (behind_silent a)
+waiting_mark (x ∷ xs) a e = before_mark x (before_all xs (behind a nothing)) (first_open x xs e) ∙ waiting_mark xs a (later_open x xs e)
+
+-- whether the output has closed from a segment on
+pub closed_step : (t : Track) (rs : List Reach) (w q k : ℕ) → k < length t.backlogs.items → (a : After) → after_at rs (k * w + q) ≡ a
+    → closed_from t rs w q k
+    ≡ closes_at (mark_after a) (together w (k * w) (tails rs silence)) (is_video t.head && lost_from t.backlogs.items rs w q (k + 1)) (closed_from t rs w q (k + 1))
+closed_step t rs w q k there a e =
+    let bs = t.backlogs.items in
+    let m = together w (k * w) (tails rs silence) in
+    let lost = is_video t.head && lost_from bs rs w q (k + 1) in
+    let next = closed_from t rs w q (k + 1) in
+    let more : length bs - k ≡ suc (length bs - (k + 1)) = omega (arith, there) in
+    ap (λ (n : ℕ). is_closed w (is_video t.head) n k (own bs rs w q silence) (tails rs silence)) more
+    ∙ (ap (λ (n : Mark). closes_at n m lost next) (waiting_mark (queue_at bs k) (after_at rs (k * w + q)) (queue_open bs k))
+    ∙ ap (λ (c : After). closes_at (mark_after c) m lost next) e)

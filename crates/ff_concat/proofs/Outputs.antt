@@ -1,15 +1,14 @@
 -- What a step of one output does to the whole machine.
-use Rattle.std.proofs.Common.{◌≡◌, ◌≢◌, ℕ, ◌<◌, Bool, true, false, List, length, get_or, set, refl, inl, inr, ap, sym, ◌∙◌, subst}
+use Rattle.std.proofs.Common.{◌≡◌, ℕ, ◌<◌, true, List, length, get_or, set, refl, inl, inr, ap, sym, ◌∙◌, subst}
 use Rattle.std.proofs.lemmas.Bool.{cases_eq}
 use Rattle.ff_stream.specs.declared.item.Item.{Item}
 use Rattle.ff_stream.specs.declared.item.Lane.{Lane}
-use Rattle.ff_stream.specs.Ports.{nothing}
-use Rattle.ff_filter.specs.Joins.{Flow, Ports, before, silence}
+use Rattle.ff_filter.specs.Joins.{Flow, before, silence}
 use Rattle.ff_filter.specs.Views as views
 use Rattle.ff_filter.specs.Views.{View, Same, Stopped, closes}
 use Rattle.ff_concat.specs.declared.reach.Reach.{Reach}
 use Rattle.ff_concat.specs.declared.track.Track.{Track}
-use Rattle.ff_concat.specs.Tracks.{still_gives, gives_at, ended_at, stopped_at, lanes_of, repeated, view_of}
+use Rattle.ff_concat.specs.Tracks.{gives_at, ended_at, stopped_at, repeated, view_of}
 use Rattle.ff_concat.specs.Moves.{GoesOn, Gave, Waits}
 use Rattle.ff_concat.proofs.Lookups.{gives_read, gives_set, gives_other, ended_read, ended_set, ended_other, stopped_read, stopped_set, stopped_other, lanes_set}
 

@@ -1,7 +1,7 @@
 -- How many inputs and outputs there are.
 use Rattle.std.proofs.Common.{◌≡◌, ◌<◌, ◌*◌, ℕ, length, ap, sym, ◌∙◌, subst}
 use Rattle.ff_concat.specs.declared.concat.Concat.{Concat}
-use Rattle.ff_concat.specs.Tracks.{lanes_of, repeated, concat_view}
+use Rattle.ff_concat.specs.Tracks.{lanes_of, concat_view}
 use Rattle.ff_concat.specs.TrackLaws.{repeated-length, lanes-length}
 
 pub ins_are : (m : Concat) → length (concat_view m).ins ≡ length m.reaches.items

@@ -1,21 +1,18 @@
 -- Outputs whose fields are equal give the same.
 use Rattle.std.proofs.Common.{◌≡◌, ℕ, ◌+◌, ◌-◌, ◌*◌, ◌<◌, Bool, List, cond, length, refl, ap, sym, ◌∙◌, arith}
 use Rattle.ff_frame.specs.declared.head.StreamHead.{StreamHead}
-use Rattle.ff_stream.specs.declared.item.Item.{Item}
 use Rattle.ff_stream.specs.declared.item.Lane.TheVariants.{Frames}
 use Rattle.ff_stream.specs.Ports.{nothing}
 use Rattle.ff_stream.specs.Within.{passes_limits}
-use Rattle.ff_filter.specs.declared.after.After.{After}
 use Rattle.ff_filter.specs.Joins.{Flow, Ports}
 use Rattle.ff_filter.specs.Limits.{limited}
 use Rattle.ff_filter.specs.Made.{waiting}
-use Rattle.ff_concat.specs.declared.backlog.Backlog.{Backlog}
 use Rattle.ff_concat.specs.declared.reach.Reach.{Reach}
 use Rattle.ff_concat.specs.declared.track.Track.{Track}
 use Rattle.ff_concat.specs.Tails.{Tail}
 use Rattle.ff_concat.specs.Silences.{filled}
 use Rattle.ff_concat.specs.Concats.{begin_in, in_order}
-use Rattle.ff_concat.specs.Tracks.{after_at, tails, queue_at, own, output_of, still_made, still_gives}
+use Rattle.ff_concat.specs.Tracks.{after_at, tails, own, output_of, still_gives}
 use Rattle.ff_concat.specs.Moves.{IsAlike, IsUnchanged, GoesOn}
 
 module _ (tick_list : List ℕ) (q : ℕ) where

@@ -1,5 +1,5 @@
 -- What is known of the streams of a segment where nothing more comes.
-use Rattle.std.proofs.Common.{◌≡◌, ℕ, suc, ◌+◌, ◌*◌, ◌<◌, List, length, get_or, refl, ap, sym, ◌∙◌, arith}
+use Rattle.std.proofs.Common.{◌≡◌, ℕ, suc, ◌+◌, ◌*◌, ◌<◌, List, length, get_or, refl, ap, sym, ◌∙◌}
 use Rattle.std.specs.Prelude.{max, slice_index}
 use Rattle.ff_stream.specs.Stream.{Mark}
 use Rattle.ff_stream.specs.Ports.{nothing}
@@ -8,7 +8,7 @@ use Rattle.ff_filter.specs.declared.after.After.TheVariants.{More, Whole, Broke}
 use Rattle.ff_filter.specs.Joins.{silence}
 use Rattle.ff_filter.specs.Made.{mark_after}
 use Rattle.ff_concat.specs.declared.reach.Reach.{Reach}
-use Rattle.ff_concat.specs.Tails.{Tail, both, together, latest}
+use Rattle.ff_concat.specs.Tails.{both, together, latest}
 use Rattle.ff_concat.specs.Tracks.{after_at, end_at, tail_on, tails}
 use Rattle.ff_concat.proofs.Lookups.{after_get, end_get}
 

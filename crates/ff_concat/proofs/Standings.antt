@@ -1,5 +1,5 @@
 -- What follows from how an output stands.
-use Rattle.std.proofs.Common.{◌≡◌, ◌≢◌, ℕ, suc, ◌+◌, ◌-◌, ◌*◌, ◌<◌, ◌⊎◌, Bool, true, false, List, [], length, refl, inl, inr, ap, sym, ◌∙◌, arith}
+use Rattle.std.proofs.Common.{◌≡◌, ℕ, ◌+◌, ◌*◌, ◌⊎◌, Bool, true, false, List, [], refl, inl, inr, ap, sym, ◌∙◌}
 use Rattle.std.specs.Prelude.{◌&&◌}
 use Rattle.ff_stream.specs.Stream.{Mark, still_open, whole, broken}
 use Rattle.ff_stream.specs.Ports.{nothing}
@@ -17,7 +17,6 @@ use Rattle.ff_concat.specs.Tracks.{after_at, tails}
 use Rattle.ff_concat.specs.Standing.{lost_from, bare, StandsAs}
 
 module _ (t : Track) (rs : List Reach) (w q : ℕ) where
-
   bare_by : (a : After) (m : Mark) (v : Bool) (next : Flow) → after_at rs (t.current * w + q) ≡ a → m ≡ together w (t.current * w) (tails rs silence)
       → v ≡ (is_video t.head && lost_from t.backlogs.items rs w q (t.current + 1))
       → bare t rs w q next ≡ followed_at [] (mark_after a) (let_through m v next)

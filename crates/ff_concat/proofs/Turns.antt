@@ -1,5 +1,5 @@
 -- What an output makes after it went on to the next segment.
-use Rattle.std.proofs.Common.{◌≡◌, ℕ, suc, ◌+◌, ◌-◌, ◌*◌, ◌<◌, Bool, List, [], cond, length, refl, inl, inr, ap, sym, ◌∙◌, subst, arith}
+use Rattle.std.proofs.Common.{◌≡◌, ℕ, suc, ◌+◌, ◌-◌, ◌*◌, ◌<◌, List, [], cond, length, inl, inr, ap, sym, ◌∙◌, arith}
 use Rattle.std.specs.Prelude.{min}
 use Rattle.ff_stream.specs.declared.item.Item.{Item}
 use Rattle.ff_stream.specs.declared.item.Item.TheVariants.{End}
@@ -9,18 +9,17 @@ use Rattle.ff_stream.specs.Ports.{nothing}
 use Rattle.ff_stream.specs.Order.{nothing_below}
 use Rattle.ff_stream.specs.Within.{passes_limits}
 use Rattle.ff_filter.specs.declared.after.After.{After}
-use Rattle.ff_filter.specs.declared.after.After.TheVariants.{Whole}
 use Rattle.ff_filter.specs.Joins.{Flow, Ports, one, silence}
 use Rattle.ff_filter.specs.Limits.{limited}
 use Rattle.ff_filter.specs.Made.{waiting}
 use Rattle.ff_concat.specs.declared.reach.Reach.{Reach}
 use Rattle.ff_concat.specs.declared.track.Track.{Track}
 use Rattle.ff_concat.specs.Silences.{filled}
-use Rattle.ff_concat.specs.Tails.{Tail, together, latest}
+use Rattle.ff_concat.specs.Tails.{together, latest}
 use Rattle.ff_concat.specs.Concats.{begin_in, in_order}
-use Rattle.ff_concat.specs.ConcatLaws.{MarkBelow, TailBelow, KeepsWhole, below_whole, together-keeps, same_whole, latest-same}
+use Rattle.ff_concat.specs.ConcatLaws.{MarkBelow, TailBelow, below_whole, together-keeps, same_whole, latest-same}
 use Rattle.ff_concat.specs.TrackLaws.{tail_keeps}
-use Rattle.ff_concat.specs.Tracks.{after_at, end_at, tail_on, tails, queue_at, own, output_of, still_made, still_gives}
+use Rattle.ff_concat.specs.Tracks.{after_at, end_at, tail_on, tails, own, output_of, still_made, still_gives}
 use Rattle.ff_concat.specs.Standing.{IsPassed}
 use Rattle.ff_concat.proofs.Steps.{passed_is, cut_same}
 

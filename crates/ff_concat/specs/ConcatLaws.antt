@@ -1,5 +1,5 @@
 -- The laws of segments one after another.
-use Rattle.std.specs.Prelude.{◌≡◌, ◌≢◌, ℕ, zero, suc, ◌+◌, ◌*◌, ◌<◌, ◌≤◌, ◌⊎◌, Bool, true, false, ◌&&◌, ◌==◌, cond, max, slice_index, List, [], ◌∷◌, ◌++◌, map, length, refl}
+use Rattle.std.specs.Prelude.{◌≡◌, ◌≢◌, ℕ, zero, suc, ◌+◌, ◌*◌, ◌<◌, ◌≤◌, ◌⊎◌, Bool, true, false, ◌&&◌, ◌==◌, cond, max, slice_index, List, [], ◌∷◌, map, length, refl}
 use Rattle.std.proofs.Common.{inl, inr, ap, sym, ◌∙◌, subst, arith}
 use Rattle.std.proofs.lemmas.Bool.{cases_eq, and_parts, and_from}
 use Rattle.ff_frame.specs.declared.head.StreamHead.{StreamHead}
@@ -7,15 +7,15 @@ use Rattle.ff_frame.specs.declared.head.StreamHead.TheVariants.{Audio as AudioHe
 use Rattle.ff_stream.specs.declared.item.Item.{Item}
 use Rattle.ff_stream.specs.declared.item.Item.TheVariants.{Audio, Video, Packet, Trailer, End, Broken}
 use Rattle.ff_stream.specs.Stream.{Mark, still_open, whole, broken, LiesBelow, opened, map_stream}
-use Rattle.ff_stream.specs.Ports.{nothing, IsClosed}
+use Rattle.ff_stream.specs.Ports.{IsClosed}
 use Rattle.ff_stream.specs.Order.{below_self, nothing_below}
-use Rattle.ff_filter.specs.Joins.{Flow, one, before}
+use Rattle.ff_filter.specs.Joins.{Flow, before}
 use Rattle.ff_filter.specs.Options.{is_video}
 use Rattle.ff_filter.specs.Views.{closes}
 use Rattle.ff_concat.specs.Following.{followed_at, followed, followed_keeps, then_keeps, then_calm, then_closed, led_by, led_calm}
 use Rattle.ff_concat.specs.Silences.{filled}
 use Rattle.ff_concat.specs.Tails.{Tail, both, together, latest}
-use Rattle.ff_concat.specs.Concats.{moved, later, begin_in, Output, is_lost_at, is_lost, let_through, in_order}
+use Rattle.ff_concat.specs.Concats.{moved, later, begin_in, Output, is_lost_at, is_lost, closes_at, is_closed, let_through, in_order}
 
 -- a stream that breaks off before its first item
 abbrev pub cut_off : Flow
@@ -83,7 +83,8 @@ open_left m broken o (inr e) = cc
 
 pub both-keeps : (m n o p : Mark) → MarkBelow m n → MarkBelow o p → MarkBelow (both m o) (both n p)
 both-keeps m n o p (inl e) (inl f) = inl (ap (λ (k : Mark). both k o) e ∙ ap (λ (k : Mark). both n k) f)
-both-keeps m n o p (inl e) (inr f) = subst (λ (k : Mark). MarkBelow (both m k) (both n p)) (sym f) (subst (λ (k : Mark). MarkBelow (both m still_open) (both k p)) e (open_right m p))
+both-keeps m n o p (inl e) (inr f) = subst (λ (k : Mark). MarkBelow (both m k) (both n p)) (sym f)
+    (subst (λ (k : Mark). MarkBelow (both m still_open) (both k p)) e (open_right m p))
 both-keeps m n o p (inr e) h = subst (λ (k : Mark). MarkBelow (both k o) (both n p)) (sym e) (open_left n o p h)
 
 whole_parts : (m n : Mark) → both m n ≡ whole → (m ≡ whole) × (n ≡ whole)
@@ -189,7 +190,8 @@ lost_is tick_list out (suc n) k time end own ts v e =
     let c = begin_in out.tick time in
     let next = in_order tick_list out n (k + 1) (time + latest tick_list w (k * w) ts) (c + (ts (k * w + out.number)).end) own ts in
     let lost = is_lost w n (k + 1) own ts in
-    ap (λ (zs : List Item). led_by zs (followed (map_stream (later c) (own k)) (let_through (together w (k * w) ts) (is_video out.head && lost) next))) (no_fill out.head end c v)
+    ap (λ (zs : List Item). led_by zs (followed (map_stream (later c) (own k)) (let_through (together w (k * w) ts) (is_video out.head && lost) next)))
+    (no_fill out.head end c v)
     ∙ lost_then (later c) (own k).items (own k).mark (together w (k * w) ts) (is_video out.head) lost next v e
     (λ f. lost_is tick_list out n (k + 1) (time + latest tick_list w (k * w) ts) (c + (ts (k * w + out.number)).end) own ts v f)
 
@@ -214,7 +216,6 @@ through_closed broken b t o c = λ e. cc
 through_closed still_open b t o c = absurd (o refl)
 
 module _ (tick_list : List ℕ) (out : Output) where
-
   -- streams further on give streams further on
   pub in_order-keeps : out.number < length tick_list → (n k time end : ℕ) (rs ss : ℕ → Flow) (ts us : ℕ → Tail) → ((j : ℕ) → LiesBelow (rs j) (ss j))
       → ((j : ℕ) → TailBelow (ts j) (us j)) → LiesBelow (in_order tick_list out n k time end rs ts) (in_order tick_list out n k time end ss us)
@@ -229,12 +230,12 @@ module _ (tick_list : List ℕ) (out : Output) where
       let s = in_order tick_list out n (k + 1) (time + latest tick_list w p us) (c + (us (p + out.number)).end) ss us in
       let more : together w p ts ≡ whole → LiesBelow r s =
       λ e.
-          let same = same_whole w p ts us (λ j. below_whole (ts j) (us j) (g j)) e in
-          let long = latest-same tick_list w p ts us same in
-          let here = same out.number there in
-          subst (λ (l : ℕ). LiesBelow r (in_order tick_list out n (k + 1) (time + l) (c + (us (p + out.number)).end) ss us)) long
-          (subst (λ (t : Tail). LiesBelow r (in_order tick_list out n (k + 1) (time + latest tick_list w p ts) (c + t.end) ss us)) here
-          (in_order-keeps there n (k + 1) (time + latest tick_list w p ts) (c + (ts (p + out.number)).end) rs ss ts us h g)) in
+      let same = same_whole w p ts us (λ j. below_whole (ts j) (us j) (g j)) e in
+      let long = latest-same tick_list w p ts us same in
+      let here = same out.number there in
+      subst (λ (l : ℕ). LiesBelow r (in_order tick_list out n (k + 1) (time + l) (c + (us (p + out.number)).end) ss us)) long
+      (subst (λ (t : Tail). LiesBelow r (in_order tick_list out n (k + 1) (time + latest tick_list w p ts) (c + t.end) ss us)) here
+      (in_order-keeps there n (k + 1) (time + latest tick_list w p ts) (c + (ts (p + out.number)).end) rs ss ts us h g)) in
       let lost : (is_video out.head && lr) ≡ true → (is_video out.head && ls) ≡ true =
       λ e. let a = and_parts (is_video out.head) lr e in and_from (is_video out.head) ls a.0 (is_lost-keeps w n (k + 1) rs ss ts us h g a.1) in
       let off : (is_video out.head && ls) ≡ true → s ≡ cut_off =
@@ -258,15 +259,14 @@ module _ (tick_list : List ℕ) (out : Output) where
       let s = in_order tick_list out n (k + 1) (time + latest tick_list w p us) (c + (us (p + out.number)).end) ss us in
       let more : together w p ts ≡ whole → (together w p us ≡ whole) × LiesBelow (opened r) s =
       λ e.
-          let same = same_whole w p ts us g e in
-          let long = latest-same tick_list w p ts us same in
-          let here = same out.number there in
-          (
-            sym (together-same w p ts us same) ∙ e,
-            subst (λ (l : ℕ). LiesBelow (opened r) (in_order tick_list out n (k + 1) (time + l) (c + (us (p + out.number)).end) ss us)) long
+      let same = same_whole w p ts us g e in
+      let long = latest-same tick_list w p ts us same in
+      let here = same out.number there in (
+        sym (together-same w p ts us same) ∙ e,
+        subst (λ (l : ℕ). LiesBelow (opened r) (in_order tick_list out n (k + 1) (time + l) (c + (us (p + out.number)).end) ss us)) long
             (subst (λ (t : Tail). LiesBelow (opened r) (in_order tick_list out n (k + 1) (time + latest tick_list w p ts) (c + t.end) ss us)) here
             (in_order-calm there n (k + 1) (time + latest tick_list w p ts) (c + (ts (p + out.number)).end) rs ss ts us h g)),
-          ) in
+      ) in
       led_calm (filled out.head end c) (followed (map_stream (later c) (rs k)) (let_through (together w p ts) lr r))
       (followed (map_stream (later c) (ss k)) (let_through (together w p us) ls s))
       (then_calm (later c) (rs k) (ss k) (let_through (together w p ts) lr r) (let_through (together w p us) ls s) (h k)
@@ -300,8 +300,31 @@ module _ (tick_list : List ℕ) (out : Output) where
       let ls = is_lost w n (k + 1) ss ts in
       let r = in_order tick_list out n (k + 1) (time + latest tick_list w p ts) (c + (ts (p + out.number)).end) rs ts in
       let s = in_order tick_list out n (k + 1) (time + latest tick_list w p ts) (c + (ts (p + out.number)).end) ss ts in
-      ap (λ (x : Flow). led_by (filled out.head end c) (followed (map_stream (later c) x) (let_through (together w p ts) (is_video out.head && lr) r))) (h k (omega arith))
+      ap (λ (x : Flow). led_by (filled out.head end c) (followed (map_stream (later c) x) (let_through (together w p ts) (is_video out.head && lr) r)))
+      (h k (omega arith))
       ∙ (ap (λ (b : Bool). led_by (filled out.head end c) (followed (map_stream (later c) (ss k)) (let_through (together w p ts) (is_video out.head && b) r)))
       (is_lost-same w n (k + 1) rs ss ts (λ j le. h j (omega (arith, le))))
       ∙ ap (λ (x : Flow). led_by (filled out.head end c) (followed (map_stream (later c) (ss k)) (let_through (together w p ts) (is_video out.head && ls) x)))
       (in_order-same n (k + 1) (time + latest tick_list w p ts) (c + (ts (p + out.number)).end) rs ss ts (λ j le. h j (omega (arith, le)))))
+
+  closed_by : (ys : List Item) (m n : Mark) (lost behind : Bool) (next : Flow) → closes_at m n lost behind ≡ true → (behind ≡ true → IsClosed next)
+      → IsClosed (followed_at ys m (let_through n lost next))
+  closed_by ys still_open n lost behind next e h = cc
+  closed_by ys broken n lost behind next e h = λ f. cc
+  closed_by ys whole broken lost behind next e h = λ f. cc
+  closed_by ys whole still_open true behind next e h = λ f. cc
+  closed_by ys whole still_open false behind next e h = cc
+  closed_by ys whole whole lost behind next e h = h e
+
+  -- an output that has closed
+  pub in_order-over : (n k time end : ℕ) (own : ℕ → Flow) (ts : ℕ → Tail) → is_closed (length tick_list) (is_video out.head) n k own ts ≡ true
+      → IsClosed (in_order tick_list out n k time end own ts)
+  in_order-over zero k time end own ts e = λ f. cc
+  in_order-over (suc n) k time end own ts e =
+      let w = length tick_list in
+      let p = k * w in
+      let c = begin_in out.tick time in
+      let lost = is_video out.head && is_lost w n (k + 1) own ts in
+      let next = in_order tick_list out n (k + 1) (time + latest tick_list w p ts) (c + (ts (p + out.number)).end) own ts in
+      closed_by (map (later c) (own k).items) (own k).mark (together w p ts) lost (is_closed w (is_video out.head) n (k + 1) own ts) next e
+      (λ f. in_order-over n (k + 1) (time + latest tick_list w p ts) (c + (ts (p + out.number)).end) own ts f)

@@ -1,5 +1,5 @@
 -- Segments of several streams, one after another.
-use Rattle.std.specs.Prelude.{◌≡◌, ℕ, zero, suc, ◌+◌, ◌*◌, ◌==◌, Bool, true, false, ◌&&◌, cond, min, ℤ, pos, List, [], ◌∷◌, length, map, slice_index}
+use Rattle.std.specs.Prelude.{ℕ, zero, suc, ◌+◌, ◌*◌, ◌==◌, Bool, true, false, ◌&&◌, cond, min, ℤ, pos, List, [], ◌∷◌, length, map, slice_index}
 use Rattle.std.specs.Int.{div_ceil}
 use Rattle.ff_time.specs.Fraction.{Fraction}
 use Rattle.ff_frame.specs.declared.head.StreamHead.{StreamHead}
@@ -56,6 +56,21 @@ is_lost_at [] whole whole behind = behind
 abbrev pub is_lost : ℕ → ℕ → ℕ → (ℕ → Flow) → (ℕ → Tail) → Bool
 is_lost w zero k own tails = false
 is_lost w (suc n) k own tails = is_lost_at (own k).items (own k).mark (together w (k * w) tails) (is_lost w n (k + 1) own tails)
+
+-- The output of segments, of which the first stream of its own stands so, and the streams of that segment so, has closed:
+-- `lost` says that of the segments behind nothing can come, and `behind` that the output of those has closed.
+abbrev pub closes_at : Mark → Mark → Bool → Bool → Bool
+closes_at still_open segment lost behind = false
+closes_at broken segment lost behind = true
+closes_at whole broken lost behind = true
+closes_at whole still_open lost behind = lost
+closes_at whole whole lost behind = behind
+
+-- the output of n segments of w streams from segment k on has closed
+abbrev pub is_closed : ℕ → Bool → ℕ → ℕ → (ℕ → Flow) → (ℕ → Tail) → Bool
+is_closed w video zero k own tails = true
+is_closed w video (suc n) k own tails =
+    closes_at (own k).mark (together w (k * w) tails) (video && is_lost w n (k + 1) own tails) (is_closed w video n (k + 1) own tails)
 
 -- What comes behind the items of a segment whose streams stand so: where all are whole, the next segment; else nothing,
 -- and a break where no more can come.

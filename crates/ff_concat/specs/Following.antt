@@ -1,12 +1,12 @@
 -- One stream and then another.
-use Rattle.std.specs.Prelude.{◌≡◌, List, [], ◌∷◌, ◌++◌, map, refl}
+use Rattle.std.specs.Prelude.{◌≡◌, List, ◌++◌, map, refl}
 use Rattle.std.proofs.Common.{inl, inr, ap, sym, ◌∙◌, subst, append_assoc}
 use Rattle.std.proofs.lemmas.List.{map-append}
 use mathlib.Core.List.{IsPrefix}
 use Rattle.ff_stream.specs.declared.item.Item.{Item}
 use Rattle.ff_stream.specs.Stream.{Mark, still_open, whole, broken, LiesBelow, opened, opened_mark, map_stream}
 use Rattle.ff_stream.specs.Ports.{IsClosed}
-use Rattle.ff_stream.specs.Order.{prefix_self, prefix_trans, below_self}
+use Rattle.ff_stream.specs.Order.{prefix_trans}
 use Rattle.ff_filter.specs.Joins.{Flow}
 
 -- s, and where it is whole, then t

@@ -1,6 +1,5 @@
 -- What the steps of an output do to what it still makes.
 use Rattle.std.specs.Prelude.{◌≡◌, ◌≢◌, ℕ, false, cond, length, List, ◌++◌, ◌∷◌, []}
-use Rattle.ff_frame.specs.declared.head.StreamHead.{StreamHead}
 use Rattle.ff_stream.specs.declared.item.Item.{Item}
 use Rattle.ff_stream.specs.declared.item.Lane.TheVariants.{Frames}
 use Rattle.ff_stream.specs.Ports.{nothing}
@@ -8,7 +7,6 @@ use Rattle.ff_stream.specs.Within.{passes_limits}
 use Rattle.ff_filter.specs.Joins.{Flow, Ports, before, silence}
 use Rattle.ff_filter.specs.Limits.{limited}
 use Rattle.ff_filter.specs.Views.{closes}
-use Rattle.ff_concat.specs.declared.backlog.Backlog.{Backlog}
 use Rattle.ff_concat.specs.declared.reach.Reach.{Reach}
 use Rattle.ff_concat.specs.declared.track.Track.{Track}
 use Rattle.ff_concat.specs.Tracks.{queue_at, still_gives}

@@ -1,5 +1,5 @@
 -- How far streams have come: where they end so far, and whether more may come.
-use Rattle.std.specs.Prelude.{◌≡◌, ◌⊎◌, ℕ, zero, suc, ◌+◌, ◌*◌, max, slice_index, List, [], ◌∷◌}
+use Rattle.std.specs.Prelude.{ℕ, zero, suc, ◌+◌, ◌*◌, max, slice_index, List, [], ◌∷◌}
 use Rattle.ff_stream.specs.declared.item.Item.{Item}
 use Rattle.ff_stream.specs.Stream.{Mark, still_open, whole, broken}
 use Rattle.ff_stream.specs.Times.{end_ticks}

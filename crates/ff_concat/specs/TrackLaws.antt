@@ -1,5 +1,5 @@
 -- The laws of the machine of segments one after another.
-use Rattle.std.specs.Prelude.{◌≡◌, ◌≢◌, ℕ, zero, suc, ◌+◌, ◌-◌, ◌*◌, ◌<◌, ◌≤◌, ◌⊎◌, Bool, true, false, ◌||◌, ◌&&◌, cond, nat_lt, List, [], ◌∷◌, ◌++◌, map, length, refl}
+use Rattle.std.specs.Prelude.{◌≡◌, ◌≢◌, ℕ, zero, suc, ◌+◌, ◌-◌, ◌*◌, ◌<◌, ◌≤◌, ◌⊎◌, Bool, true, false, ◌||◌, ◌&&◌, cond, nat_lt, List, [], ◌∷◌, length, refl}
 use Rattle.std.specs.List.{All}
 use Rattle.std.proofs.Common.{inl, inr, ap, sym, ◌∙◌, subst, arith}
 use Rattle.std.proofs.lemmas.Bool.{and_parts, and_from, or_left, or_right, or_cases}
@@ -16,20 +16,20 @@ use Rattle.ff_stream.specs.Order.{below_self, below_trans, nothing_below}
 use Rattle.ff_stream.specs.Within.{passes_limits}
 use Rattle.ff_filter.specs.declared.after.After.{After}
 use Rattle.ff_filter.specs.declared.after.After.TheVariants.{More, Whole, Broke}
-use Rattle.ff_filter.specs.Joins.{Flow, Ports, one, silence, before_all, before_all-keeps, before_all-opened, before_all-closed, Grows, HidesBreaks}
-use Rattle.ff_filter.specs.Views.{Settles, IsSpent, IsOver, AllDone}
+use Rattle.ff_filter.specs.Joins.{Flow, Ports, silence, one, before_all, before_all-keeps, before_all-opened, before_all-closed, Grows, HidesBreaks}
+use Rattle.ff_filter.specs.Views.{Settles, IsSpent, AllDone}
 use Rattle.ff_filter.specs.Made.{behind, is_over, waiting}
 use Rattle.ff_filter.specs.Runs.{no_more, run_below, run_calm, run_settles}
 use Rattle.ff_filter.specs.Limits.{limit_step, limited}
 use Rattle.ff_filter.specs.StepperLaws.{behind_closed}
-use Rattle.ff_concat.specs.declared.backlog.Backlog.{Backlog}
 use Rattle.ff_concat.specs.declared.reach.Reach.{Reach}
 use Rattle.ff_concat.specs.declared.track.Track.{Track}
 use Rattle.ff_concat.specs.declared.concat.Concat.{Concat}
 use Rattle.ff_concat.specs.Tails.{Tail, both, together}
 use Rattle.ff_concat.specs.Concats.{in_order}
-use Rattle.ff_concat.specs.ConcatLaws.{TailBelow, KeepsWhole, in_order-keeps, in_order-calm, in_order-closed}
-use Rattle.ff_concat.specs.Tracks.{after_at, end_at, tail_on, tails, queue_at, own, output_of, still_made, still_gives, gives_at, ended_at, stopped_at, lanes_of, repeated, concat_view}
+use Rattle.ff_concat.specs.ConcatLaws.{TailBelow, KeepsWhole, in_order-keeps, in_order-calm, in_order-closed, in_order-over}
+use Rattle.ff_concat.specs.Tracks.{after_at, end_at, tail_on, tails, queue_at, own, output_of, still_made}
+use Rattle.ff_concat.specs.Tracks.{gives_at, ended_at, stopped_at, lanes_of, repeated, concat_view, closed_from, is_done, each_done}
 
 pub waiting_keeps : (queue : List Item) (after : After) (r s : Flow) → LiesBelow r s → LiesBelow (waiting queue after r) (waiting queue after s)
 waiting_keeps queue More r s h = before_all-keeps queue r s h
@@ -87,7 +87,8 @@ module _ (tick_list : List ℕ) (q : ℕ) (t : Track) (rs : List Reach) where
       let n = length bs - t.current in
       let out = output_of t.head t.tick q in
       run_below (limit_step (passes_limits (Frames t.head))) no_more t.before
-      (in_order tick_list out n t.current t.begin t.end (own bs rs w q ext) (tails rs ext)) (in_order tick_list out n t.current t.begin t.end (own bs rs w q more) (tails rs more))
+      (in_order tick_list out n t.current t.begin t.end (own bs rs w q ext) (tails rs ext))
+      (in_order tick_list out n t.current t.begin t.end (own bs rs w q more) (tails rs more))
       (in_order-keeps tick_list out there n t.current t.begin t.end (own bs rs w q ext) (own bs rs w q more) (tails rs ext) (tails rs more)
       (λ k. waiting_keeps (queue_at bs k) (after_at rs (k * w + q)) (ext (k * w + q)) (more (k * w + q)) (h (k * w + q)))
       (λ p. tail_keeps (end_at rs p) (after_at rs p) (ext p) (more p) (h p)))
@@ -104,7 +105,8 @@ module _ (tick_list : List ℕ) (q : ℕ) (t : Track) (rs : List Reach) where
       let passes = passes_limits (Frames t.head) in
       let r = in_order tick_list out n t.current t.begin t.end (own bs rs w q ext) (tails rs ext) in
       let s = in_order tick_list out n t.current t.begin t.end (own bs rs w q more) (tails rs more) in
-      let calm : LiesBelow (opened r) s = in_order-calm tick_list out there n t.current t.begin t.end (own bs rs w q ext) (own bs rs w q more) (tails rs ext) (tails rs more)
+      let calm : LiesBelow (opened r) s =
+      in_order-calm tick_list out there n t.current t.begin t.end (own bs rs w q ext) (own bs rs w q more) (tails rs ext) (tails rs more)
       (λ k. waiting_calm (queue_at bs k) (after_at rs (k * w + q)) (ext (k * w + q)) (more (k * w + q)) (below_self (more (k * w + q))))
       (λ p. tail_calm (end_at rs p) (after_at rs p) (ext p)) in
       below_trans (opened (limited passes t.before r)) (limited passes t.before (opened r)) (limited passes t.before s)
@@ -122,8 +124,7 @@ module _ (tick_list : List ℕ) (q : ℕ) (t : Track) (rs : List Reach) where
       (in_order tick_list out (length bs - t.current) t.current t.begin t.end (own bs rs w q ext) (tails rs ext))
       (in_order-closed tick_list out (length bs - t.current) t.current t.begin t.end (own bs rs w q ext) (tails rs ext)
       (λ k le lt.
-      let here : k < n = omega (arith, le, lt, long, inside) in
-      (
+      let here : k < n = omega (arith, le, lt, long, inside) in (
         before_all-closed (queue_at bs k) (behind (after_at rs (k * w + q)) (ext (k * w + q)))
             (behind_closed (after_at rs (k * w + q)) (ext (k * w + q)) (h (k * w + q) (port_there w k q n here there))),
         together_closed w (k * w) (tails rs ext)
@@ -172,9 +173,11 @@ gives-closed tick_list q n [] i rs lt there each ext h = absurd (omega arith)
 gives-closed tick_list q n (t ∷ ts) zero rs lt there each ext h =
     closed_if t.ended (still_made tick_list q t.head t.tick t.backlogs.items t.before t.current t.begin t.end rs ext)
     (made_closed tick_list q t rs there n (each zero t (omega arith)) ext h)
-gives-closed tick_list q n (t ∷ ts) (suc i) rs lt there each ext h = gives-closed tick_list q n ts i rs (omega (arith, lt)) there (λ k d l. each (suc k) d (omega (arith, l))) ext h
+gives-closed tick_list q n (t ∷ ts) (suc i) rs lt there each ext h =
+    gives-closed tick_list q n ts i rs (omega (arith, lt)) there (λ k d l. each (suc k) d (omega (arith, l))) ext h
 
-pub gives-quiet : (tick_list : List ℕ) (q : ℕ) (ts : List Track) (i : ℕ) (rs : List Reach) (ext : Ports) → ended_at ts i ≡ true → gives_at tick_list q ts i rs ext ≡ nothing
+pub gives-quiet : (tick_list : List ℕ) (q : ℕ) (ts : List Track) (i : ℕ) (rs : List Reach) (ext : Ports) → ended_at ts i ≡ true
+    → gives_at tick_list q ts i rs ext ≡ nothing
 gives-quiet tick_list q [] i rs ext e = refl
 gives-quiet tick_list q (t ∷ ts) zero rs ext e = quiet_if t.ended (still_made tick_list q t.head t.tick t.backlogs.items t.before t.current t.begin t.end rs ext) e
 gives-quiet tick_list q (t ∷ ts) (suc i) rs ext e = gives-quiet tick_list q ts i rs ext e
@@ -187,31 +190,52 @@ pub lanes-length : (ts : List Track) → length (lanes_of ts) ≡ length ts
 lanes-length [] = refl
 lanes-length (t ∷ ts) = let e = lanes-length ts in omega (arith, e)
 
--- so many outputs are closed or not wanted
-abbrev pub is_done : Track → Bool
-is_done t = t.stopped || t.ended
-
-abbrev pub each_done : List Track → Bool
-each_done [] = true
-each_done (t ∷ ts) = is_done t && each_done ts
-
--- nothing more of input p can matter: it has closed, or there are outputs, and each was closed or isn't wanted
+-- nothing more of input p can matter: it has closed, or there are outputs, and nothing more is to come of each
 abbrev pub concat_spent : Concat → ℕ → Bool
-concat_spent m p = is_over (after_at m.reaches.items p) || (nat_lt 0 (length m.tracks.items) && each_done m.tracks.items)
+concat_spent m p = is_over (after_at m.reaches.items p) || (nat_lt 0 (length m.tracks.items) && each_done (length m.ticks.items) 0 m.tracks.items m.reaches.items)
 
-done_at : (ts : List Track) (q : ℕ) → q < length ts → each_done ts ≡ true → stopped_at ts q ≡ false → ended_at ts q ≡ true
-done_at [] q lt e s = absurd (omega arith)
-done_at (t ∷ ts) zero lt e s = elim (or_cases t.stopped t.ended (and_parts (is_done t) (each_done ts) e).0) as (λ _. t.ended ≡ true) [
-  | inl f ↦ (let clash : true ≡ false = sym f ∙ s in cc)
-  | inr f ↦ f
-]
-done_at (t ∷ ts) (suc q) lt e s = done_at ts q (omega (arith, lt)) (and_parts (is_done t) (each_done ts) e).1 s
+made_over : (tick_list : List ℕ) (q : ℕ) (t : Track) (rs : List Reach) → closed_from t rs (length tick_list) q t.current ≡ true
+    → IsClosed (still_made tick_list q t.head t.tick t.backlogs.items t.before t.current t.begin t.end rs silence)
+made_over tick_list q t rs e =
+    let bs = t.backlogs.items in
+    let out = output_of t.head t.tick q in
+    let n = length bs - t.current in
+    run_settles (limit_step (passes_limits (Frames t.head))) no_more t.before
+    (in_order tick_list out n t.current t.begin t.end (own bs rs (length tick_list) q silence) (tails rs silence))
+    (in_order-over tick_list out n t.current t.begin t.end (own bs rs (length tick_list) q silence) (tails rs silence) e)
 
-pub all_done : (ts : List Track) → ((q : ℕ) → q < length ts → (ended_at ts q ≡ true) ⊎ (stopped_at ts q ≡ true)) → each_done ts ≡ true
-all_done [] h = refl
-all_done (t ∷ ts) h = and_from (is_done t) (each_done ts)
-    (elim (h zero (omega arith)) as (λ _. is_done t ≡ true) [ inl e ↦ or_right t.stopped t.ended e | inr e ↦ or_left t.stopped t.ended e ])
-    (all_done ts (λ q lt. h (suc q) (omega (arith, lt))))
+over_if : (d o : Bool) (s : Flow) → (d || o) ≡ true → (o ≡ true → IsClosed s) → (d ≡ true) ⊎ IsClosed (cond d nothing s)
+over_if true o s e h = inl refl
+over_if false o s e h = inr (h e)
+
+-- an output that is wanted is over, where nothing more is to come of each
+over_at : (tick_list : List ℕ) (q first : ℕ) (ts : List Track) (i : ℕ) (rs : List Reach) → i < length ts → q ≡ first + i → each_done (length tick_list) first ts rs ≡ true
+    → stopped_at ts i ≡ false → (ended_at ts i ≡ true) ⊎ IsClosed (gives_at tick_list q ts i rs silence)
+over_at tick_list q first [] i rs lt f e s = absurd (omega arith)
+over_at tick_list q first (t ∷ ts) zero rs lt f e s =
+    let w = length tick_list in
+    let here : q ≡ first = omega (arith, f) in
+    let done = and_parts (is_done t rs w first) (each_done w (first + 1) ts rs) e in
+    over_if t.ended (closed_from t rs w q t.current) (still_made tick_list q t.head t.tick t.backlogs.items t.before t.current t.begin t.end rs silence)
+    (subst (λ (k : ℕ). (t.ended || closed_from t rs w k t.current) ≡ true) (sym here) (wanted t.stopped (t.ended || closed_from t rs w first t.current) s done.0))
+    (λ c. made_over tick_list q t rs c)
+  where
+    wanted : (a b : Bool) → a ≡ false → (a || b) ≡ true → b ≡ true
+    wanted true b z y = cc
+    wanted false b z y = y
+over_at tick_list q first (t ∷ ts) (suc i) rs lt f e s =
+    over_at tick_list q (first + 1) ts i rs (omega (arith, lt)) (omega (arith, f))
+    (and_parts (is_done t rs (length tick_list) first) (each_done (length tick_list) (first + 1) ts rs) e).1 s
+
+all_done : (w first : ℕ) (ts : List Track) (rs : List Reach) → ((q : ℕ) → q < length ts → (ended_at ts q ≡ true) ⊎ (stopped_at ts q ≡ true))
+    → each_done w first ts rs ≡ true
+all_done w first [] rs h = refl
+all_done w first (t ∷ ts) rs h = and_from (is_done t rs w first) (each_done w (first + 1) ts rs)
+    (elim (h zero (omega arith)) as (λ _. is_done t rs w first ≡ true) [
+      | inl e ↦ or_right t.stopped (t.ended || closed_from t rs w first t.current) (or_left t.ended (closed_from t rs w first t.current) e)
+      | inr e ↦ or_left t.stopped (t.ended || closed_from t rs w first t.current) e
+    ])
+    (all_done w (first + 1) ts rs (λ q lt. h (suc q) (omega (arith, lt))))
 
 module _ (m : Concat) where
   outputs_there : (q : ℕ) → q < length m.tracks.items → q < length m.ticks.items
@@ -240,23 +264,27 @@ module _ (m : Concat) where
   concat-quiet q e ext = gives-quiet m.ticks.items q m.tracks.items q m.reaches.items ext e
 
   pub concat-spent_only : (p : ℕ) → concat_spent m p ≡ true → IsSpent (concat_view m) p
-  concat-spent_only p e = elim (or_cases (is_over (after_at m.reaches.items p)) (nat_lt 0 (length m.tracks.items) && each_done m.tracks.items) e) as (λ _. IsSpent (concat_view m) p) [
-    | inl s ↦ inl s
-    | inr d ↦ (
-        let k = and_parts (nat_lt 0 (length m.tracks.items)) (each_done m.tracks.items) d in
-        let l = outs in
-        let lt : 0 < length m.tracks.items = (let f = k.0 in grind (arith, nat_tests)) in
-        inr (omega (arith, l, lt), λ q less on. inl (done_at m.tracks.items q (omega (arith, less, l)) k.1 on))
-        )
-  ]
+  concat-spent_only p e =
+      let each = each_done (length m.ticks.items) 0 m.tracks.items m.reaches.items in
+      elim (or_cases (is_over (after_at m.reaches.items p)) (nat_lt 0 (length m.tracks.items) && each) e) as (λ _. IsSpent (concat_view m) p) [
+        | inl s ↦ inl s
+        | inr d ↦ (
+            let k = and_parts (nat_lt 0 (length m.tracks.items)) each d in
+            let l = outs in
+            let lt : 0 < length m.tracks.items = (let f = k.0 in grind (arith, nat_tests)) in
+            inr (omega (arith, l, lt), λ q less on. over_at m.ticks.items q 0 m.tracks.items q m.reaches.items (omega (arith, less, l)) (omega arith) k.1 on)
+            )
+      ]
 
   pub concat-shut_spent : (p : ℕ) → is_over (after_at m.reaches.items p) ≡ true → concat_spent m p ≡ true
-  concat-shut_spent p e = or_left (is_over (after_at m.reaches.items p)) (nat_lt 0 (length m.tracks.items) && each_done m.tracks.items) e
+  concat-shut_spent p e = or_left (is_over (after_at m.reaches.items p))
+      (nat_lt 0 (length m.tracks.items) && each_done (length m.ticks.items) 0 m.tracks.items m.reaches.items) e
 
   pub concat-done_spent : (p : ℕ) → 0 < length (concat_view m).outs → AllDone (concat_view m) → concat_spent m p ≡ true
   concat-done_spent p z d =
+      let each = each_done (length m.ticks.items) 0 m.tracks.items m.reaches.items in
       let l = outs in
       let lt : 0 < length m.tracks.items = omega (arith, l, z) in
-      or_right (is_over (after_at m.reaches.items p)) (nat_lt 0 (length m.tracks.items) && each_done m.tracks.items)
-      (and_from (nat_lt 0 (length m.tracks.items)) (each_done m.tracks.items) (let k : nat_lt 0 (length m.tracks.items) ≡ true = grind (arith, nat_tests) in k)
-      (all_done m.tracks.items (λ q less. d q (omega (arith, less, l)))))
+      or_right (is_over (after_at m.reaches.items p)) (nat_lt 0 (length m.tracks.items) && each)
+      (and_from (nat_lt 0 (length m.tracks.items)) each (let k : nat_lt 0 (length m.tracks.items) ≡ true = grind (arith, nat_tests) in k)
+      (all_done (length m.ticks.items) 0 m.tracks.items m.reaches.items (λ q less. d q (omega (arith, less, l)))))

@@ -1,5 +1,5 @@
 -- How the machine of segments one after another is seen.
-use Rattle.std.specs.Prelude.{ℕ, zero, suc, ◌+◌, ◌-◌, ◌*◌, Bool, false, List, [], ◌∷◌, ◌++◌, cond, length, map}
+use Rattle.std.specs.Prelude.{ℕ, zero, suc, ◌+◌, ◌-◌, ◌*◌, Bool, true, false, ◌||◌, ◌&&◌, List, [], ◌∷◌, ◌++◌, cond, length, map}
 use Rattle.ff_frame.specs.declared.head.StreamHead.{StreamHead}
 use Rattle.ff_stream.specs.declared.item.Item.{Item}
 use Rattle.ff_stream.specs.declared.item.Lane.{Lane}
@@ -9,7 +9,8 @@ use Rattle.ff_stream.specs.Ports.{nothing}
 use Rattle.ff_stream.specs.Within.{passes_limits}
 use Rattle.ff_filter.specs.declared.after.After.{After}
 use Rattle.ff_filter.specs.declared.after.After.TheVariants.{More, Whole, Broke}
-use Rattle.ff_filter.specs.Joins.{Flow, Ports}
+use Rattle.ff_filter.specs.Joins.{Flow, Ports, silence}
+use Rattle.ff_filter.specs.Options.{is_video}
 use Rattle.ff_filter.specs.Limits.{limited}
 use Rattle.ff_filter.specs.Made.{waiting, is_over}
 use Rattle.ff_filter.specs.Views.{View}
@@ -18,7 +19,7 @@ use Rattle.ff_concat.specs.declared.reach.Reach.{Reach}
 use Rattle.ff_concat.specs.declared.track.Track.{Track}
 use Rattle.ff_concat.specs.declared.concat.Concat.{Concat}
 use Rattle.ff_concat.specs.Tails.{Tail, last_end}
-use Rattle.ff_concat.specs.Concats.{Output, in_order}
+use Rattle.ff_concat.specs.Concats.{Output, is_closed, in_order}
 
 -- where the items of input p end so far, and how it stands
 abbrev pub end_at : List Reach → ℕ → ℕ
@@ -78,6 +79,19 @@ abbrev pub stopped_at : List Track → ℕ → Bool
 stopped_at [] q = false
 stopped_at (t ∷ ts) zero = t.stopped
 stopped_at (t ∷ ts) (suc q) = stopped_at ts q
+
+-- what came so far closes the output, but for the limits
+abbrev pub closed_from : Track → List Reach → ℕ → ℕ → ℕ → Bool
+closed_from t rs w q k = is_closed w (is_video t.head) (length t.backlogs.items - k) k (own t.backlogs.items rs w q silence) (tails rs silence)
+
+-- nothing more is to come of output q: it isn't wanted, or was closed, or what came so far closes it
+abbrev pub is_done : Track → List Reach → ℕ → ℕ → Bool
+is_done t rs w q = t.stopped || (t.ended || closed_from t rs w q t.current)
+
+-- the same of each of these outputs, the first of which is output q
+abbrev pub each_done : ℕ → ℕ → List Track → List Reach → Bool
+each_done w q [] rs = true
+each_done w q (t ∷ ts) rs = is_done t rs w q && each_done w (q + 1) ts rs
 
 abbrev pub lanes_of : List Track → List Lane
 lanes_of ts = map (λ (t : Track). Frames t.head) ts

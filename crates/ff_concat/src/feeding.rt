@@ -3,8 +3,7 @@ ghost use Rattle.std.specs.Prelude.{◌≡◌, ◌<◌, ◌%◌, ◌||◌, lengt
 ghost use Rattle.ff_stream.specs.declared.item.Item.{Item as AnItem};
 ghost use Rattle.ff_filter.specs.Made.{is_over, closing};
 ghost use Rattle.ff_filter.specs.Views.{closes, Fed, Same, Gave, Waits, Stopped};
-ghost use Rattle.ff_concat.specs.Tracks.{after_at, stopped_at, ended_at, concat_view};
-ghost use Rattle.ff_concat.specs.TrackLaws.{each_done};
+ghost use Rattle.ff_concat.specs.Tracks.{after_at, stopped_at, ended_at, each_done, concat_view};
 
 use crate::concat::Concat;
 use ff_filter::{After, closing_of};
@@ -104,12 +103,13 @@ impl Concat {
         self.tracks[port].stop();
     }
 
-    // Whether each output was closed or isn't wanted.
+    // Whether nothing more is to come of each output.
     pub(crate) fn is_done(&self) -> bool
-        ensures { result ≡ each_done self.now.tracks.items }
+        ensures { result ≡ each_done (length self.now.ticks.items) 0 self.now.tracks.items self.now.reaches.items }
     {
+        let width = self.ticks.len();
         'outputs: for q in 0..self.tracks.len() {
-            if !self.tracks[q].is_done() {
+            if !self.tracks[q].is_over(self.reaches.as_slice(), width, q) {
                 return false;
             }
         }

@@ -1,5 +1,16 @@
 //! Laws of segments one after another: functions that do nothing, whose clauses hold of all values.
-ghost use Rattle.std.specs.Prelude.{◌≡◌, ◌∷◌, [], ℤ, pos};
+ghost use Rattle.std.specs.Prelude.{◌≡◌, ◌<◌, ◌≤◌, ◌+◌, ◌*◌, ◌∷◌, [], min, length, slice_index, slice_index_or, ℕ, ℤ, List, pos};
+ghost use Rattle.ff_time.specs.Fraction.{Fraction, IsBase};
+ghost use Rattle.ff_frame.specs.Heads.{base_of_head};
+ghost use Rattle.ff_frame.specs.declared.head.StreamHead.{StreamHead};
+ghost use Rattle.ff_stream.specs.declared.item.Lane.TheVariants.{Frames};
+ghost use Rattle.ff_stream.specs.Lanes.{IsValid};
+ghost use Rattle.ff_stream.specs.Ports.{IsUnbroken};
+ghost use Rattle.ff_stream.specs.Within.{within, passes_limits};
+ghost use Rattle.ff_filter.specs.Joins.{Ports};
+ghost use Rattle.ff_concat.specs.Concats.{begin_in, product, ticks_by, concatenated};
+ghost use Rattle.ff_concat.specs.OneKind.{one_by_one};
+ghost use Rattle.ff_concat.specs.Tails.{Tail, latest};
 ghost use Rattle.ff_frame.specs.declared.video.VFrame.{VFrame};
 ghost use Rattle.ff_concat.specs.Examples.{video_of, audio_of, all_of, picture_at, sound_at};
 
@@ -19,4 +30,30 @@ pub fn long_sound_delays_pictures()
         ≡ all_of (picture_at f 0 ∷ picture_at g 1 ∷ picture_at f 3 ∷ picture_at g 4 ∷ []) }
     ensures audio { (f g : VFrame) (sample : ℤ) → audio_of f g sample 800
         ≡ all_of (sound_at sample 0 800 ∷ sound_at sample 800 800 ∷ []) }
+{}
+
+/// With one stream a segment, each segment follows the end of the last item before it. That is so for valid segments
+/// within the limits.
+pub fn one_kind_follows_the_last_end()
+    ensures { (h : StreamHead) (n : ℕ) (ss : Ports) → IsBase (base_of_head h) → ((p : ℕ) → p < n → IsValid (Frames h) (ss p))
+        → within (passes_limits (Frames h)) (concatenated (h ∷ []) h 0 n ss) ≡ within (passes_limits (Frames h)) (one_by_one n 0 0 ss) }
+{}
+
+/// Where no input breaks off, neither does an output.
+pub fn unbroken_inputs_make_no_break()
+    ensures { (heads : List StreamHead) (head : StreamHead) (q n : ℕ) (ss : Ports) → ((p : ℕ) → IsUnbroken (ss p)) → IsUnbroken (concatenated heads head q n ss) }
+{}
+
+/// No stream of a segment ends later than the segment. So on its output it ends no later than the next segment begins,
+/// up to the last time of 64 bits.
+pub fn segments_meet_without_overlap()
+    ensures inside { (tick_list : List ℕ) (w p : ℕ) (tails : ℕ → Tail) (q : ℕ) → q < w → (tails (p + q)).end * slice_index tick_list q ≤ latest tick_list w p tails }
+    ensures apart { (tick time long end : ℕ) → 0 < tick → end * tick ≤ long
+        → min (begin_in tick time + end) 9223372036854775807 ≤ begin_in tick (time + long) }
+{}
+
+/// A tick of each stream is its time base: so many units, where the product of all denominators is a second.
+pub fn units_are_exact()
+    ensures { (bases : List Fraction) (q : ℕ) (d : Fraction) → q < length bases
+        → slice_index (ticks_by 1 bases) q * (slice_index_or bases q d).den ≡ (slice_index_or bases q d).num * (1 * product bases) }
 {}

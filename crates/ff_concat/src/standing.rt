@@ -1,9 +1,9 @@
 //! How an output stands of which nothing waits in its current segment.
-ghost use Rattle.std.specs.Prelude.{◌≡◌, ◌<◌, ◌≤◌, ◌+◌, ◌*◌, length, true, false, [], List, ℕ};
+ghost use Rattle.std.specs.Prelude.{◌&&◌, ◌≡◌, ◌<◌, ◌≤◌, ◌+◌, ◌*◌, length, true, false, [], List, ℕ};
 ghost use Rattle.ff_filter.specs.Options.{is_video};
 ghost use Rattle.ff_concat.specs.declared.backlog.Backlog.{Backlog as ABacklog};
 ghost use Rattle.ff_concat.specs.Silences.{filled};
-ghost use Rattle.ff_concat.specs.Tracks.{queue_at};
+ghost use Rattle.ff_concat.specs.Tracks.{queue_at, closed_from, is_done};
 ghost use Rattle.ff_concat.specs.Standing.{lost_from, StandsAs, IsPassed};
 
 use crate::backlog::Backlog;
@@ -61,6 +61,18 @@ impl Track {
         !is_of_video(&self.head) && self.end < self.by
     }
 
+    // Whether no more can come behind this segment, of which a stream is open.
+    fn is_lost_behind(&self, reaches: &[Reach], width: usize, number: usize, segment: usize) -> bool
+        requires there { segment < length self.now.backlogs.items }
+        requires inputs { length reaches.now ≡ length self.now.backlogs.items * width }
+        requires stream { number < width }
+        ensures { result ≡ (is_video self.now.head && lost_from self.now.backlogs.items reaches.now width number (segment + 1)) }
+    {
+        let video = is_of_video(&self.head);
+        let lost = is_lost(&self.backlogs, reaches, width, number, segment + 1);
+        video && lost
+    }
+
     /// How the output stands where nothing waits of its current segment: `More` where nothing comes yet, `Whole` where
     /// the next segment can begin, `Broke` where no more can come.
     pub(crate) fn standing(&self, reaches: &[Reach], width: usize, number: usize) -> After
@@ -77,10 +89,7 @@ impl Track {
                 After::Whole => After::Whole,
                 After::Broke => After::Broke,
                 After::More => {
-                    let video = is_of_video(&self.head);
-                    if video
-                        && is_lost(&self.backlogs, reaches, width, number, self.current + 1)
-                    {
+                    if self.is_lost_behind(reaches, width, number, self.current) {
                         After::Broke
                     } else {
                         After::More
@@ -111,5 +120,35 @@ impl Track {
             After::Whole => true,
             After::More | After::Broke => false,
         }
+    }
+
+    // Whether what came so far closes the output, but for the limits.
+    fn is_closed(&self, reaches: &[Reach], width: usize, number: usize) -> bool
+        requires inputs { length reaches.now ≡ length self.now.backlogs.items * width }
+        requires stream { number < width }
+        ensures { result ≡ closed_from self.now reaches.now width number self.now.current }
+    {
+        'segments: for segment in self.current..self.backlogs.len() {
+            match reaches[segment * width + number].after {
+                After::More => return false,
+                After::Broke => return true,
+                After::Whole => match together(reaches, segment * width, width) {
+                    After::Broke => return true,
+                    After::More => return self.is_lost_behind(reaches, width, number, segment),
+                    After::Whole => {}
+                },
+            }
+        }
+        true
+    }
+
+    /// Whether nothing more is to come of the output: it isn't wanted, or was closed, or what came so far closes it.
+    pub(crate) fn is_over(&self, reaches: &[Reach], width: usize, number: usize) -> bool
+        requires inputs { length reaches.now ≡ length self.now.backlogs.items * width }
+        requires stream { number < width }
+        ensures { result ≡ is_done self.now reaches.now width number }
+    {
+        let closed = self.is_closed(reaches, width, number);
+        self.stopped | (self.ended | closed)
     }
 }

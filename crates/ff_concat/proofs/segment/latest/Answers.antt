@@ -1,5 +1,4 @@
-use Rattle.std.proofs.Common.{◌≡◌, ℕ, subst, sym, add-one, arith, refl}
-use Rattle.std.specs.Prelude.{slice_index}
+use Rattle.std.proofs.Common.{◌≡◌, ℕ, subst, sym, add-one, arith}
 use Rattle.ff_filter.specs.Joins.{silence}
 use Rattle.ff_concat.specs.Tails.{latest as latest_by}
 use Rattle.ff_concat.specs.Tracks.{tails}

@@ -1,6 +1,9 @@
-use Rattle.std.proofs.Common.{◌≡◌, ◌⊎◌, ◌<◌, ℕ, true}
-use Rattle.ff_concat.specs.Tracks.{stopped_at, ended_at}
+use Rattle.std.proofs.Common.{◌≡◌, drop, length}
+use Rattle.ff_concat.specs.Tracks.{each_done}
 use Rattle.ff_concat.proofs.concat.Concat.is_done.Given as goal
 
 abbrev pub invariant-outputs : goal.invariant-outputs
-invariant-outputs l = (q : ℕ) → q < l.q → (ended_at l.self.tracks.items q ≡ true) ⊎ (stopped_at l.self.tracks.items q ≡ true)
+invariant-outputs l = record {
+  same : each_done l.width l.q (drop l.q l.self.tracks.items) l.self.reaches.items ≡ each_done l.width 0 l.self.tracks.items l.self.reaches.items;
+  width : l.width ≡ length l.self.ticks.items;
+}

@@ -1,13 +1,12 @@
 use Rattle.std.proofs.Common.{◌≡◌, ◌<◌, ◌/◌, ◌%◌, ◌∙◌, ℕ, length, set, get_or, sym, subst, arith}
 use Rattle.std.proofs.Math.Nat.{mod-lt}
-use Rattle.ff_filter.specs.Views.{Fed, Same}
-use Rattle.ff_concat.specs.declared.track.Track.{Track}
+use Rattle.ff_filter.specs.Views.{Fed}
 use Rattle.ff_concat.specs.Tracks.{view_of}
-use Rattle.ff_concat.specs.Moves.{Kept, GoesOn}
+use Rattle.ff_concat.specs.Moves.{Kept}
 use Rattle.ff_concat.proofs.Lookups.{after_read}
 use Rattle.ff_concat.proofs.Same.{unchanged_goes_on}
 use Rattle.ff_concat.proofs.Outputs.{set_same}
-use Rattle.ff_concat.proofs.Places.{some_outputs, segment_there}
+use Rattle.ff_concat.proofs.Places.{some_outputs}
 use Rattle.ff_concat.proofs.Feeds.{moved_set, kept_fed}
 use Rattle.ff_concat.proofs.concat.Concat.keep.Goals as goal
 

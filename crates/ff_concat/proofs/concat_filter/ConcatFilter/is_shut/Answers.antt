@@ -1,4 +1,4 @@
-use Rattle.std.proofs.Common.{◌<◌, ◌∙◌, length, sym, ap, arith}
+use Rattle.std.proofs.Common.{◌∙◌, sym, ap, arith}
 use Rattle.ff_filter.specs.Made.{is_over}
 use Rattle.ff_concat.proofs.Lookups.{after_read}
 use Rattle.ff_concat.proofs.Ports.{in_there}

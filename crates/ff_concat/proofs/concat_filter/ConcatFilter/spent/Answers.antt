@@ -1,9 +1,8 @@
-use Rattle.std.proofs.Common.{◌≡◌, ◌<◌, ◌∙◌, Bool, true, length, sym, ap, arith}
+use Rattle.std.proofs.Common.{◌≡◌, ◌∙◌, Bool, true, length, sym, ap, arith}
 use Rattle.std.specs.Prelude.{nat_lt, ◌||◌, ◌&&◌}
 use Rattle.std.proofs.lemmas.Bool.Decides.{nat_tests}
 use Rattle.ff_filter.specs.Made.{is_over}
-use Rattle.ff_concat.specs.Tracks.{after_at}
-use Rattle.ff_concat.specs.TrackLaws.{each_done}
+use Rattle.ff_concat.specs.Tracks.{after_at, each_done}
 use Rattle.ff_concat.proofs.Lookups.{after_read}
 use Rattle.ff_concat.proofs.Places.{some_outputs}
 use Rattle.ff_concat.proofs.Ports.{in_there}
@@ -21,5 +20,5 @@ returns c =
     record {
       spends = ap (λ (b : Bool). b || c.is_done.result) (c.is_over.ensures ∙ ap is_over (sym (after_read m.reaches.items c.args.port c.index.result.now lt c.index.ensures)))
           ∙ (ap (λ (b : Bool). is_over (after_at m.reaches.items c.args.port) || b) c.is_done.ensures
-          ∙ ap (λ (b : Bool). is_over (after_at m.reaches.items c.args.port) || (b && each_done m.tracks.items)) (sym some));
+          ∙ ap (λ (b : Bool). is_over (after_at m.reaches.items c.args.port) || (b && each_done (length m.ticks.items) 0 m.tracks.items m.reaches.items)) (sym some));
     }

@@ -1,6 +1,4 @@
-use Rattle.std.proofs.Common.{◌≡◌, ◌<◌, ◌≤◌, ◌+◌, ◌∙◌, Some, Ok, ℕ, refl, ap, sym, arith, length, subst}
-use Rattle.std.specs.Prelude.{min}
-use Rattle.std.specs.Int.{div_ceil}
+use Rattle.std.proofs.Common.{◌<◌, ◌≤◌, ℕ, refl, arith, length, subst}
 use Rattle.ff_stream.specs.declared.item.Item.{Item}
 use Rattle.ff_concat.specs.Concats.{begin_in}
 use Rattle.ff_concat.specs.Moves.{Gave}

@@ -1,4 +1,4 @@
-use Rattle.std.proofs.Common.{◌≡◌, ◌∙◌, true, false, inl, inr, sym, arith}
+use Rattle.std.proofs.Common.{◌≡◌, ◌∙◌, true, false, sym, arith}
 use Rattle.ff_concat.proofs.Lookups.{queue_read}
 use Rattle.ff_concat.proofs.Standings.{not_passed}
 use Rattle.ff_concat.proofs.track.Track.is_passed.Goals as goal

@@ -1,13 +1,10 @@
-use Rattle.std.proofs.Common.{◌≡◌, ◌<◌, ◌+◌, ◌-◌, ◌∙◌, [], ◌∷◌, ℕ, refl, ap, sym, inl, inr, length, arith, subst}
+use Rattle.std.proofs.Common.{◌≡◌, ◌-◌, ◌∙◌, ℕ, refl, ap, sym, inl, inr, length, subst}
 use Rattle.ff_stream.specs.declared.item.Item.{Item}
-use Rattle.ff_stream.specs.declared.item.Item.TheVariants.{Broken}
 use Rattle.ff_stream.specs.declared.item.Lane.TheVariants.{Frames}
 use Rattle.ff_stream.specs.Within.{passes_limits}
 use Rattle.ff_filter.specs.declared.after.After.{After}
-use Rattle.ff_filter.specs.Joins.{Ports, before}
+use Rattle.ff_filter.specs.Joins.{before}
 use Rattle.ff_filter.specs.Limits.{limited}
-use Rattle.ff_filter.specs.Views.{closes}
-use Rattle.ff_concat.specs.declared.track.Track.{Track}
 use Rattle.ff_concat.specs.Concats.{in_order, later}
 use Rattle.ff_concat.specs.Tracks.{own, tails, output_of}
 use Rattle.ff_concat.specs.Standing.{StandsAs}

@@ -1,4 +1,4 @@
-use Rattle.ff_concat.proofs.Draws.{then_gave, then_goes_on, then_waits}
+use Rattle.ff_concat.proofs.Draws.{then_gave, then_waits}
 use Rattle.ff_concat.proofs.track.Track.pull.Goals as goal
 
 pub returns-clause-gives : goal.returns-clause-gives

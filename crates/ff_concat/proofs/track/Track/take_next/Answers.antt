@@ -1,8 +1,7 @@
-use Rattle.std.proofs.Common.{◌≡◌, ◌≢◌, ◌<◌, ◌∙◌, [], ◌∷◌, List, set, refl, ap, sym, inl, inr, length, subst, ℕ}
+use Rattle.std.proofs.Common.{◌≡◌, ◌∙◌, [], ◌∷◌, List, set, refl, ap, sym, inl, inr, subst, ℕ}
 use Rattle.std.proofs.lemmas.Bool.{cases_eq}
 use Rattle.std.proofs.lemmas.List.{length-set}
 use Rattle.ff_stream.specs.declared.item.Item.{Item}
-use Rattle.ff_concat.specs.declared.backlog.Backlog.{Backlog}
 use Rattle.ff_concat.specs.Tracks.{queue_at}
 use Rattle.ff_concat.proofs.Lookups.{queue_read, queue_set, queue_other}
 use Rattle.ff_concat.proofs.track.Track.take_next.Goals as goal
@@ -30,8 +29,7 @@ returns-in-None-clause-none c e =
     let b = c.pop.new.self in
     let p = c.in-None.ensures.none refl in
     let old : queue_at bs k ≡ [] = queue_read bs k c.index_mut.result.now lt c.index_mut.ensures.value ∙ p.0 in
-    let new : queue_at (set bs k b) k ≡ [] = queue_set bs k b lt ∙ p.1 in
-    (
+    let new : queue_at (set bs k b) k ≡ [] = queue_set bs k b lt ∙ p.1 in (
       record {
         alike = record { head = refl; tick = refl; before = refl; current = refl; begin = refl; end = refl; ended = refl; stopped = refl; backlogs = length-set bs k b };
         queues = λ j. elim (cases_eq j k) as (λ _. queue_at (set bs k b) j ≡ queue_at bs j) [

@@ -1,4 +1,4 @@
-use Rattle.std.proofs.Common.{◌<◌, ◌+◌, ◌*◌, ◌∙◌, refl, ap, sym, length, arith, ℕ}
+use Rattle.std.proofs.Common.{◌+◌, ◌*◌, ◌∙◌, refl, ap, sym, length, arith, ℕ}
 use Rattle.std.specs.Prelude.{min}
 use Rattle.ff_concat.specs.TrackLaws.{port_there}
 use Rattle.ff_concat.proofs.Lookups.{end_get}
