@@ -24,7 +24,7 @@ _ffmpeg_words() {
     -vsync) offered='passthrough 0' ;;
     -vf | -filter:v) offered=$video ;;
     -af | -filter:a) offered=$audio ;;
-    -lavfi | -filter_complex) offered="$video ${audio/concat /}" ;;
+    -lavfi | -filter_complex) offered="$video ${audio/concat /} color anullsrc" ;;
     -i | -sched_trace | -map | -ss | -t | -to | -thread_queue_size | -selfrun) ;;
     -fflags | -flags | -flags:[av] | -map_metadata | -map_chapters | -metadata | -strict) ;;
     -threads | -filter_threads | -filter_complex_threads | -max_muxing_queue_size | -frames:v | -vframes | -ar | -ac | -r | -s) ;;

@@ -1,8 +1,9 @@
 -- How words are answered: by the job that they ask for, or by what is wrong with them.
-use Rattle.std.proofs.Common.{◌≡◌, ◌≢◌, ◌⊎◌, inl, inr, ℕ, List, Option, Some, None, IfSome, Result, Ok, Err, Vec, Global, refl, sym, ap, subst, ◌∙◌}
-use Rattle.std.specs.Prelude.{⊤}
+use Rattle.std.proofs.Common.{◌≡◌, ◌≢◌, ◌⊎◌, inl, inr, ℕ, ◌<◌, List, [], map, length, Option, Some, None, IfSome, Result, Ok, Err, Vec, Global, refl, sym, ap, subst, ◌∙◌}
+use Rattle.std.specs.Prelude.{⊤, IsSome}
 use Rattle.ff_host.specs.Causes.{SameCounts}
-use Rattle.ff_host.specs.Files.{Files, KeepsFiles}
+use Rattle.ff_host.specs.Files.{Files, KeepsFiles, bytes_at}
+use Rattle.ff_words.specs.declared.job.InputJob.{InputJob}
 use Rattle.ff_words.specs.declared.job.Job.{Job}
 use Rattle.ff_words.specs.declared.job.Command.{Command}
 use Rattle.ff_words.specs.declared.job.Command.TheVariants as asked
@@ -12,7 +13,7 @@ use Rattle.ff_words.specs.declared.error.Fault.{Fault}
 use Rattle.ff_words.specs.declared.error.WordError.{WordError}
 use Rattle.ff_words.specs.declared.error.WordError.TheVariants.{At, NoMemory}
 use Rattle.ff_words.specs.declared.error.WordKind.{WordKind}
-use Rattle.ff_words.specs.Words.{fault as wrong_at}
+use Rattle.ff_words.specs.Words.{fault as wrong_at, written}
 use Rattle.ff_words.specs.Reading as reading
 use Rattle.ff_words.proofs.Unique.{answer-one}
 use Rattle.ff_input.specs.Formats.{InputHead}
@@ -20,12 +21,13 @@ use Rattle.ff_plan_layout.specs.declared.error.PlanError.{PlanError}
 use Rattle.ff_run_plan.specs.declared.fault.RunFault.{RunFault}
 use Rattle.ff_files.specs.Counts.{Counts}
 use Rattle.ff_files.specs.Names.{Name, name_at}
-use Rattle.ff_files.specs.Works.{Meaning, HoldsWritten, HoldWritten}
+use Rattle.ff_files.specs.Heads.{heads_of}
+use Rattle.ff_files.specs.Works.{Meaning, HoldMeaning, HoldsWritten, HoldWritten, file_of, meaning}
 use Rattle.ff_files.specs.Ends.{IsFirstRefused, HasNoPlan, CanBeDone}
 use Rattle.ff_command.specs.declared.report.FileRef.{FileRef}
 use Rattle.ff_command.specs.declared.report.Status.{Status}
 use Rattle.ff_command.specs.declared.report.Status.TheVariants as status
-use Rattle.ff_command.specs.Command.{Ask, AskFor, AskSolo, AskGenerated, AsksAlone, AsksText, AsksGenerated, IsText, IsSoloText, IsTold, IsDue, IsOwnAnswer, IsNamed, AreWrong, AreSoundTo, InputsAreSound, OutputsAreSound, IsToldKept, MayWrite, over}
+use Rattle.ff_command.specs.Command.{Ask, AskFor, AskSolo, AskGenerated, AsksAlone, AsksText, AsksGenerated, IsText, IsSoloText, IsTold, IsDue, IsOwnAnswer, IsNamed, AreWrong, AreSoundTo, InputsAreSound, OutputsAreSound, IsToldKept, MayWrite, over, made_alone, HoldsMeaning, HoldMade, HoldsMade}
 use Rattle.ff_command.specs.Steps.{IsEndText, wrong_words, Comes, Ran, Answered}
 use Rattle.ff_command.proofs.Generated.{own_none, no-words, no-device, no-memory}
 
@@ -267,3 +269,32 @@ module _ (means : Job → Meaning InputHead PlanError RunFault) where
     solo-answered owns (SelfRun n) asks answer text own =
         let is : IsOwnAnswer owns n answer = own n refl in
         generated-here answer (n, asks) (no-words owns n answer is) (no-device owns n answer is) (no-memory owns n answer is)
+
+-- ---- a job without inputs
+
+pub alone_means : (means : Job → Meaning InputHead PlanError RunFault) (job : Job) → job.inputs ≡ [] → (files : Files) (o : ℕ)
+    → meaning (over means job) files o ≡ made_alone means job o
+alone_means means job none files o =
+    ap (λ (is : List InputJob). file_of (means job) (heads_of (over means job).name (over means job).head files is)
+    (map (λ (i : InputJob). bytes_at files i.name) is) o) none
+
+same_named : (name : Option (List ℕ)) (after : Files) (bytes made : Option (List ℕ)) → bytes ≡ made → IfSome name (λ n. after n ≡ bytes) → IfSome name (λ n. after n ≡ made)
+same_named None after bytes made same held = tt
+same_named (Some n) after bytes made same held = held ∙ same
+
+job_made : (means : Job → Meaning InputHead PlanError RunFault) (job : Job) (before after : Option Files) → job.inputs ≡ []
+    → HoldMeaning (over means job) before after → HoldMade means job before after
+job_made means job None after none held = tt
+job_made means job (Some before) None none held = tt
+job_made means job (Some before) (Some after) none held = λ o lt.
+    let same = alone_means means job none before o in (
+      subst (λ (bytes : Option (List ℕ)). IsSome bytes) same (held o lt).0,
+      same_named (name_at (written job) o) after (meaning (over means job) before o) (made_alone means job o) same (held o lt).1,
+    )
+
+pub words-made : (means : Job → Meaning InputHead PlanError RunFault) (words : List (List ℕ)) (before after : Option Files)
+    → AsksAlone words ⊎ HoldsMeaning means words before after → HoldsMade means words before after
+words-made means words before after (inl alone) job asks none = absurd (not-alone words job asks alone)
+words-made means words before after (inr meant) job asks none =
+    job_made means job before after none
+    (subst (λ (j : Job). HoldMeaning (over means j) before after) (same-job words meant.0 job meant.1 asks) meant.2)

@@ -21,11 +21,11 @@ use Rattle.ff_plan_layout.specs.declared.error.PlanError.{PlanError}
 use Rattle.ff_plan_layout.specs.declared.error.PlanError.TheVariants as why
 use Rattle.ff_run_plan.specs.declared.fault.RunFault.{RunFault}
 use Rattle.ff_run_plan.specs.declared.fault.RunFault.TheVariants as run_fault
-use Rattle.ff_files.specs.Names.{Name, names_of, files_of, KeepsAllBut}
+use Rattle.ff_files.specs.Names.{Name, name_at, names_of, files_of, KeepsAllBut}
 use Rattle.ff_files.specs.There.{AreFree, IsFirstThere}
 use Rattle.ff_files.specs.Counts.{Counts, Faulted, KeepsCounts}
 use Rattle.ff_files.specs.Heads.{HaveHeads, IsRefused}
-use Rattle.ff_files.specs.Works.{Meaning, Command, AreHeadsIn, HoldMeaning, HoldWritten, told_bytes, meaning}
+use Rattle.ff_files.specs.Works.{Meaning, Command, AreHeadsIn, HoldMeaning, HoldWritten, told_bytes, file_of, meaning}
 use Rattle.ff_files.specs.Ends.{IsPlanned, IsPlanRefused, IsBroken, IsFirstRefused, HasNoPlan, CanBeDone}
 use Rattle.ff_command.specs.declared.report.FileRef.{FileRef}
 use Rattle.ff_command.specs.declared.report.FileRef.TheVariants.{Input, Output, Trace}
@@ -223,6 +223,20 @@ module _ (means : Job → Meaning InputHead PlanError RunFault) where
   -- the words ask for a job that means some bytes for each of its outputs, and each that is a file holds these
   abbrev pub HoldsMeaning : List (List ℕ) → Option Files → Option Files → Type 0
   HoldsMeaning words before after = AskFor words (λ job. HoldMeaning (over job) before after)
+
+  -- what an output of a job holds that names no input: no file is in it
+  abbrev pub made_alone : Job → ℕ → Option (List ℕ)
+  made_alone job o = file_of (means job) (Ok []) [] o
+
+  -- each output of the job has these bytes, and where it is a file it holds them
+  abbrev pub HoldMade : Job → Option Files → Option Files → Type 0
+  HoldMade job (Some before) (Some after) = (o : ℕ) → o < length job.outputs
+      → IsSome (made_alone job o) × IfSome (name_at (written job) o) (λ name. after name ≡ made_alone job o)
+  HoldMade job before after = ⊤
+
+  -- where the words' job names no input, the words alone say what its outputs hold
+  abbrev pub HoldsMade : List (List ℕ) → Option Files → Option Files → Type 0
+  HoldsMade words before after = IfAsked words (λ job. job.inputs ≡ [] → HoldMade job before after)
 
   -- each output that is a file is as it was, or holds a front of what is written to it, or all that it is meant to hold
   abbrev pub HoldsFront : List (List ℕ) → Option Files → Option Files → Type 0

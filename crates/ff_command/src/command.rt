@@ -13,7 +13,7 @@ ghost use Rattle.ff_files.specs.Counts.{counted};
 ghost use Rattle.ff_files.specs.Ends.{IsPlanRefused, IsBroken};
 ghost use Rattle.ff_command.specs.Command.{AsksAlone, AsksText, AskGenerated, AsksGenerated, IsTold, IsDue, IsOwnAnswer, ReportsOwn, ReportsOwnReads};
 ghost use Rattle.ff_command.specs.Command.{Ask, AskFor, AreWrong, IsNamed, HasFile, file_name, KeepsOtherFiles, ComesBeforeOutputs, ReportsHistory, ReportsReads, HoldsTrace};
-ghost use Rattle.ff_command.specs.Command.{refused_head, refused_plan, over, HoldsMeaning, HoldsFront, IsHeadRefused, IsDamaged, IsTooLong};
+ghost use Rattle.ff_command.specs.Command.{refused_head, refused_plan, over, HoldsMeaning, HoldsMade, HoldsFront, IsHeadRefused, IsDamaged, IsTooLong};
 ghost use Rattle.ff_command.specs.Command.{KeepsThere, HasFailed, GivesNoHead, GivesNoPlan, GivesAll, KeepsInputCounts, KeepsOutputCounts};
 ghost use Rattle.ff_command.specs.Histories.{history_in, reads_in, LogHas};
 ghost use Rattle.ff_run_plan.specs.Reads.{places_in};
@@ -226,6 +226,9 @@ pub fn run_command<
     // they ask for what an option says that stands alone, which touches no file. A string that is asked for so is
     // told, or memory ran out.
     ensures bytes { result.status ≡ Status.Fine → AsksAlone (texts words.now) ⊎ HoldsMeaning (P.means worker.now) (texts words.now) (H.files host.old) (H.files host.new) }
+
+    // A job that names no input means the same over any files: what its outputs hold the arguments alone say.
+    ensures made { result.status ≡ Status.Fine → HoldsMade (P.means worker.now) (texts words.now) (H.files host.old) (H.files host.new) }
 
     ensures alone { AsksAlone (texts words.now) → host.new ≡ host.old }
     ensures text { AsksText (texts words.now) → ((result.status ≡ Status.Fine) ⊎ (result.status ≡ Status.NoMemory)) × (result.history ≡ []) }

@@ -44,12 +44,14 @@ filter_names =
     (codes "hstack", filter.HStack) ∷
     (codes "vstack", filter.VStack) ∷
     (codes "concat", filter.Concat) ∷
+    (codes "color", filter.Color) ∷
     (codes "anull", filter.ANull) ∷
     (codes "atrim", filter.ATrim) ∷
     (codes "asetpts", filter.ASetPts) ∷
     (codes "asplit", filter.ASplit) ∷
     (codes "channelsplit", filter.ChannelSplit) ∷
     (codes "join", filter.Join) ∷
+    (codes "anullsrc", filter.ANullSrc) ∷
     []
 
 -- what a filter is by its arguments and the heads of its inputs

@@ -55,7 +55,7 @@ pub enum FilterName {
 
 /// Each filter: its name in a filtergraph, what it is, which arguments it takes, and what it does. Graphs are read by this list, and
 /// `-h` tells it in this order.
-pub static FILTERS: [(&'static str, FilterName, &'static str, &'static str); 18] = [
+pub static FILTERS: [(&'static str, FilterName, &'static str, &'static str); 20] = [
     ("null", FilterName::Null, "", "no effect"),
     (
         "trim",
@@ -108,6 +108,12 @@ pub static FILTERS: [(&'static str, FilterName, &'static str, &'static str); 18]
         "=n:v:a",
         "streams one after another, of sound with v=0:a=1",
     ),
+    (
+        "color",
+        FilterName::Color,
+        "=c:s:r:d",
+        "pictures of a colour, size, rate and duration, of no input",
+    ),
     ("anull", FilterName::ANull, "", "no effect"),
     (
         "atrim",
@@ -138,6 +144,12 @@ pub static FILTERS: [(&'static str, FilterName, &'static str, &'static str); 18]
         FilterName::Join,
         "=inputs",
         "the channels of several inputs beside each other",
+    ),
+    (
+        "anullsrc",
+        FilterName::ANullSrc,
+        "=cl:r:d",
+        "silence of a layout, rate and duration, of no input",
     ),
 ];
 

@@ -1,11 +1,11 @@
 //! The open input pads of a graph, as plans have them.
 ghost use Rattle.std.specs.Prelude.{◌≡◌, ◌≤◌, ◌^◌, IfOk, length};
 ghost use Rattle.ff_graph.specs.Pads.{input_of};
-ghost use Rattle.ff_plan_rules.specs.Rules.{kind_by as kind_of, input_as, open_ins};
+ghost use Rattle.ff_plan_rules.specs.Rules.{kind_by as kind_of, source_as, input_as, open_ins};
 
-use ff_graph::{OpenInput, open_inputs};
+use ff_graph::{OpenInput, SourceInput, open_inputs};
 use ff_lang::{Graph, Sequence};
-use ff_plan_layout::OpenIn;
+use ff_plan_layout::{OpenIn, SourcePad};
 use ff_words::maps::Kind;
 use ff_words::text_of;
 use std::alloc::{AllocError, Global};
@@ -20,6 +20,19 @@ fn kind_by(sound: bool) -> Kind
     if sound { Kind::Audio } else { Kind::Video }
 }
 
+// A source filter, of whose graph an argument of a command writes at most 65,536 filters.
+fn source_pad(source: SourceInput) -> Result<SourcePad, AllocError>
+    ensures { IfOk result (λ pad. pad ≡ source_as source) }
+{
+    match u32::try_from(source.filter) {
+        Ok(filter) => Ok(SourcePad {
+            filter,
+            made: source.made,
+        }),
+        Err(_) => Err(AllocError),
+    }
+}
+
 fn input_pad(alloc: Global, input: &OpenInput) -> Result<OpenIn, AllocError>
     ensures { IfOk result (λ pad. pad ≡ input_as (input_of input.now)) }
 {
@@ -27,10 +40,14 @@ fn input_pad(alloc: Global, input: &OpenInput) -> Result<OpenIn, AllocError>
         None => None,
         Some(label) => Some(text_of(alloc, label.as_str())?),
     };
+    let source = match input.source {
+        None => None,
+        Some(source) => Some(source_pad(source)?),
+    };
     Ok(OpenIn {
         label,
         kind: kind_by(input.sound),
-        source: None,
+        source,
     })
 }
 

@@ -1,8 +1,8 @@
 //! The rules of filters and maps that plans go by: those of the filters that there are.
 //!
 //! ```text
-//!   ff_words ───────► map_of ────────────────────────────────┐
-//!   ff_graph ───────► known, loops, open_ins, configured ────┴─► graph_rules ─► ff_plan
+//!   ff_words ───────► map_of ──────────────────────────────────────────────┐
+//!   ff_graph ───────► known, loops, open_ins, source_fault, configured ────┴─► graph_rules ─► ff_plan
 //! ```
 //!
 //! A plan is defined over rules (`ff_plan/specs/Rules`). They say which names are filters, what the open pads of a
@@ -16,6 +16,7 @@ mod laws;
 mod maps;
 mod out_pads;
 mod rules;
+mod sources;
 
 pub use laws::{heads_are_kept, maps_are_read, rules_are_rules, words_have_few_pads};
 pub use rules::GraphRules;

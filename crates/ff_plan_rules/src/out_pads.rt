@@ -38,8 +38,8 @@ fn output_pads(alloc: Global, outputs: &[OpenOutput]) -> Result<Sequence<OpenOut
     Ok(Sequence::of(pads))
 }
 
-// The refusal of a filter, of which a graph whose string is an argument of a command has at most 65,536.
-fn refused(filter: usize, kind: ConfigError) -> Result<Refused, AllocError>
+/// The refusal of a filter, of which a graph whose string is an argument of a command has at most 65,536.
+pub(crate) fn refused(filter: usize, kind: ConfigError) -> Result<Refused, AllocError>
     ensures { IfOk result (λ r. r ≡ record { filter = filter; kind = kind }) }
 {
     match u32::try_from(filter) {

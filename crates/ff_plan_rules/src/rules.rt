@@ -5,6 +5,7 @@ ghost use Rattle.ff_plan_rules.specs.Rules.{graph_rules};
 use crate::in_pads::input_pads;
 use crate::maps::map_of;
 use crate::out_pads::configured;
+use crate::sources::refused_source;
 use ff_frame::StreamHead;
 use ff_graph::{has_loop, is_known};
 use ff_lang::{Graph, Sequence};
@@ -31,8 +32,8 @@ impl Filtering for GraphRules {
         input_pads(alloc, graph)
     }
 
-    fn source_fault(&self, _alloc: Global, _graph: &Graph) -> Result<Option<Refused>, AllocError> {
-        Ok(None)
+    fn source_fault(&self, alloc: Global, graph: &Graph) -> Result<Option<Refused>, AllocError> {
+        refused_source(alloc, graph)
     }
 
     fn configured(

@@ -59,6 +59,24 @@ fn kinds(takes_sound: Option<bool>) -> &'static str {
     }
 }
 
+// Why a value is refused, or one that has to be there.
+fn bad_option(is_source: bool) -> &'static str {
+    if is_source {
+        "it has no duration, or doesn't take a value that stands there"
+    } else {
+        "it doesn't take a value that stands there"
+    }
+}
+
+// Why pads are refused.
+fn bad_pads(is_source: bool) -> &'static str {
+    if is_source {
+        "it has no input, and one output: it begins a chain of a -filter_complex"
+    } else {
+        "it has too many labels, or too few inputs or outputs"
+    }
+}
+
 // What is wrong with a filter.
 fn tell_wrong(told: &mut Told, filter: &Written, what: &str) {
     tell_quoted(told, filter.text.as_str());
@@ -71,15 +89,9 @@ fn tell_of(told: &mut Told, filter: &Written, kind: ConfigError) {
         ConfigError::UnknownOption => {
             tell_arguments(told, filter, "it has no argument of such a name");
         }
-        ConfigError::BadOption => {
-            tell_arguments(told, filter, "it doesn't take a value that stands there");
-        }
+        ConfigError::BadOption => tell_arguments(told, filter, bad_option(filter.is_source)),
         ConfigError::Kind => tell_wrong(told, filter, kinds(filter.takes_sound)),
-        ConfigError::Pads => tell_wrong(
-            told,
-            filter,
-            "it has too many labels, or too few inputs or outputs",
-        ),
+        ConfigError::Pads => tell_wrong(told, filter, bad_pads(filter.is_source)),
         ConfigError::Mismatch => tell_wrong(
             told,
             filter,

@@ -18,6 +18,8 @@ pub(crate) struct Written {
     pub(crate) text: String,
     /// Whether its inputs are audio; nothing where no filter has the name.
     pub(crate) takes_sound: Option<bool>,
+    /// Whether it is a source filter.
+    pub(crate) is_source: bool,
 }
 
 // The name and the arguments, as in a filtergraph that needs no quotes.
@@ -33,9 +35,12 @@ fn tell_text(told: &mut Told, filter: &Filter) {
 }
 
 fn as_written(alloc: Global, filter: &Filter) -> Result<Written, AllocError> {
-    let takes_sound = match named(filter.name.as_str()) {
-        Some(name) => Some(ff_filters::takes_sound(name, filter.args.as_slice())),
-        None => None,
+    let (takes_sound, is_source) = match named(filter.name.as_str()) {
+        Some(name) => {
+            let takes_sound = ff_filters::takes_sound(name, filter.args.as_slice());
+            (Some(takes_sound), ff_filters::is_source(name))
+        }
+        None => (None, false),
     };
     let mut told = Told::new(alloc);
     tell_text(&mut told, filter);
@@ -43,6 +48,7 @@ fn as_written(alloc: Global, filter: &Filter) -> Result<Written, AllocError> {
         name: String::from_str(alloc, filter.name.as_str())?,
         text: told.finish()?,
         takes_sound,
+        is_source,
     })
 }
 

@@ -169,7 +169,7 @@ pub(crate) fn tell_word(told: &mut Told, line: &CommandLine, place: usize, kind:
         WordKind::Misplaced => tell_misplaced(told, line, place),
         WordKind::TooMany => tell_too_many(told, line, place),
         WordKind::NoInput => told.text(
-            "there is no input: -i NAME reads one; ffmpeg -h tells the rest",
+            "there is no input: -i NAME reads one, and a graph with color or anullsrc needs none; ffmpeg -h tells the rest",
         ),
         WordKind::NoOutput => told.text("there is no output: its name stands after the inputs"),
         WordKind::SameName => tell_same_name(told, line),

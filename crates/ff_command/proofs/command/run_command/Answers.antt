@@ -6,7 +6,7 @@ use Rattle.ff_words.specs.Words.{texts}
 use Rattle.ff_files.specs.Counts.{Counts, counted}
 use Rattle.ff_command.specs.Command.{AskFor, ComesBeforeOutputs, ReportsHistory, ReportsReads, ReportsOwn, ReportsOwnReads, HoldsTrace}
 use Rattle.ff_command.specs.Histories.{history_in}
-use Rattle.ff_command.proofs.Answers.{due-text, none-told}
+use Rattle.ff_command.proofs.Answers.{due-text, none-told, words-made}
 use Rattle.ff_command.proofs.Generated.{own_none}
 use Rattle.ff_command.proofs.Reports.{has_more, reported_history, reported_reads, also_reported, not_fine, untold_due, created_same, ins_same, outs_same}
 use Rattle.ff_command.proofs.command.run_command.Goals as goal
@@ -14,6 +14,11 @@ use Rattle.ff_command.proofs.command.run_command.Goals as goal
 pub returns-clause-text : goal.returns-clause-text
 returns-clause-text g c = λ asks.
     (c.run_words-status.ensures.answered.text asks, (c.reported-history.ensures.other (inr (c.run_words-status.ensures.text asks))).0)
+
+pub returns-clause-made : goal.returns-clause-made
+returns-clause-made g c = λ fine.
+    words-made (g.P.Worker.means c.args.worker.now) (texts c.args.words.now) (g.H.Host.files c.args.host.now) (g.H.Host.files c.run_words-status.new.host)
+    (c.run_words-status.ensures.answered.bytes fine)
 
 pub returns-clause-no_history : goal.returns-clause-no_history
 returns-clause-no_history g c = λ other. (c.reported-history.ensures.other (inl other)).0
@@ -110,6 +115,9 @@ returns-clause-trace g c = λ fine.
 
 pub returns-then-is_untold-clause-text : goal.returns-then-is_untold-clause-text
 returns-then-is_untold-clause-text g c = λ asks. (inr c.out_of_memory.ensures.status.0, c.out_of_memory.ensures.other.0)
+
+pub returns-then-is_untold-clause-made : goal.returns-then-is_untold-clause-made
+returns-then-is_untold-clause-made g c = λ fine. absurd (not_fine c.out_of_memory.result.status c.out_of_memory.ensures.status.0 fine)
 
 pub returns-then-is_untold-clause-generated : goal.returns-then-is_untold-clause-generated
 returns-then-is_untold-clause-generated g c = λ seconds asks. own_none (g.Q.Worker.means c.args.own.now) seconds c.out_of_memory.result.status c.out_of_memory.ensures.status.0
