@@ -1,6 +1,7 @@
 -- The data behind a head, one unit at a time (AVI RIFF File Reference, "Stream Data"): a chunk of pictures, packets within a chunk
 -- of sound, and what is passed over.
-use Rattle.std.specs.Prelude.{ℕ, ◌+◌, ◌-◌, ◌*◌, ◌/◌, ◌%◌, ◌^◌, ◌==◌, ◌&&◌, ◌||◌, ◌≤◌, ◌<◌, nat_lt, nat_le, not, min, Bool, if◌then◌else◌, List, ◌∷◌, take, drop, length, codes, pos}
+use Rattle.std.specs.Prelude.{ℕ, ◌+◌, ◌-◌, ◌*◌, ◌/◌, ◌%◌, ◌^◌, ◌==◌, ◌&&◌, ◌||◌, ◌≤◌, ◌<◌, nat_lt, nat_le, not, min, Bool, if◌then◌else◌, List, ◌∷◌, take, drop}
+use Rattle.std.specs.Prelude.{length, codes, pos}
 use Rattle.std.specs.Str.{bytes_eq}
 use Rattle.ff_frame.specs.Packet.{packet_at}
 use Rattle.ff_frame.specs.declared.packet.Pkt.{Pkt}

@@ -19,7 +19,8 @@ use Rattle.ff_wav.specs.SoundLaws.{format_fine}
 use Rattle.ff_avi.specs.declared.head.AviState.{AviState}
 use Rattle.ff_avi.specs.declared.kind.StreamKind.{StreamKind}
 use Rattle.ff_avi.specs.declared.kind.StreamKind.TheVariants.{Video, Audio}
-use Rattle.ff_avi.specs.Streams.{padded, word, is_pictures, is_sound, has_pictures, has_sound, base_in, video_kind, header_of, Told, pictures_of, pictures_in, told_by, format_in, format_place, behind_header, stream_in}
+use Rattle.ff_avi.specs.Streams.{padded, word, is_pictures, is_sound, has_pictures, has_sound, base_in, video_kind, header_of, Told, pictures_of, pictures_in}
+use Rattle.ff_avi.specs.Streams.{told_by, format_in, format_place, behind_header, stream_in}
 use Rattle.ff_avi.specs.Lists.{AviStep, rest_of, passed, with_stream, after_stream, data_list, outer_list, inner_list, unit}
 use Rattle.ff_avi.specs.Sound.{IsStream, AreApart, IsHead, IsKnown}
 use Rattle.ff_avi.specs.BaseLaws.{base_sound}

@@ -1,5 +1,6 @@
 -- What the list of a stream says, it says whatever follows.
-use Rattle.std.proofs.Common.{◌≡◌, ℕ, ◌+◌, ◌≤◌, ◌⊎◌, inl, inr, Bool, true, false, cond, List, ◌++◌, take, drop, length, Some, None, Result, Ok, Err, refl, sym, ap, ◌∙◌, arith, length-append, length-drop}
+use Rattle.std.proofs.Common.{◌≡◌, ℕ, ◌+◌, ◌≤◌, ◌⊎◌, inl, inr, Bool, true, false, cond, List, ◌++◌, take, drop, length, Some, None, Result, Ok, Err, refl, sym, ap}
+use Rattle.std.proofs.Common.{◌∙◌, arith, length-append, length-drop}
 use Rattle.std.specs.Prelude.{nat_lt, codes, ◌||◌, ◌&&◌, not}
 use Rattle.std.specs.Str.{bytes_eq}
 use Rattle.std.proofs.lemmas.List.{take-append-le, drop-append-le}
@@ -14,7 +15,8 @@ use Rattle.ff_wav.specs.ChunkLaws.{front_32, format_settles, format_here}
 use Rattle.ff_avi.specs.declared.head.AviState.{AviState}
 use Rattle.ff_avi.specs.declared.kind.StreamKind.{StreamKind}
 use Rattle.ff_avi.specs.declared.kind.StreamKind.TheVariants.{Video, Audio}
-use Rattle.ff_avi.specs.Streams.{word, has_pictures, has_sound, base_in, video_kind, header_of, Told, pictures_of, pictures_in, told_by, format_in, format_place, behind_header, stream_in}
+use Rattle.ff_avi.specs.Streams.{word, has_pictures, has_sound, base_in, video_kind, header_of, Told, pictures_of, pictures_in, told_by, format_in, format_place}
+use Rattle.ff_avi.specs.Streams.{behind_header, stream_in}
 use Rattle.ff_avi.specs.BaseLaws.{base_undamaged}
 
 -- the first waits, or is the second

@@ -1,6 +1,7 @@
 -- The list of one stream, `strl`: first its header, `strh`, then its format, `strf` (AVI RIFF File Reference, AVISTREAMHEADER,
 -- BITMAPINFOHEADER and WAVEFORMATEX). All numbers are little-endian, and places count from the first byte of a list or chunk.
-use Rattle.std.specs.Prelude.{ℕ, ◌+◌, ◌%◌, ◌^◌, ◌==◌, ◌&&◌, ◌||◌, nat_lt, not, Bool, true, false, if◌then◌else◌, List, take, drop, length, Option, Some, None, Result, Ok, Err, codes}
+use Rattle.std.specs.Prelude.{ℕ, ◌+◌, ◌%◌, ◌^◌, ◌==◌, ◌&&◌, ◌||◌, nat_lt, not, Bool, true, false, if◌then◌else◌, List, take, drop, length, Option, Some, None}
+use Rattle.std.specs.Prelude.{Result, Ok, Err, codes}
 use Rattle.std.specs.Str.{bytes_eq}
 use Rattle.ff_time.specs.Fraction.{Fraction}
 use Rattle.ff_frame.specs.declared.head.StreamHead.{StreamHead}

@@ -18,8 +18,6 @@ mod kind;
 mod lane;
 mod laws;
 mod list;
-#[cfg(test)]
-mod rows;
 mod stream;
 mod walk;
 

@@ -1,7 +1,8 @@
 //! How an output gives its items.
-ghost use Rattle.std.specs.Prelude.{◌≡◌, ◌<◌, ◌≤◌, ◌+◌, ◌*◌, ◌^◌, length, false, Ok, Some, None, OnErr, [], ◌∷◌};
+ghost use Rattle.std.specs.Prelude.{◌≡◌, ◌<◌, ◌≤◌, ◌+◌, ◌*◌, ◌^◌, length, true, false, Ok, Some, None, OnErr, [], ◌∷◌};
 ghost use Rattle.std.specs.List.{All};
 ghost use Rattle.ff_stream.specs.declared.item.Item.{Item as AnItem};
+ghost use Rattle.ff_filter.specs.Options.{is_sound};
 ghost use Rattle.ff_filter.specs.Views.{closes};
 ghost use Rattle.ff_concat.specs.Moves.{GoesOn, Gave, Waits, Told};
 ghost use Rattle.ff_concat.specs.Silences.{filled};
@@ -40,6 +41,7 @@ impl Track {
         ensures some { (x : AnItem) → result ≡ Ok (Some x) → (closes x ≡ false) × (self.now.end < self.now.by)
             × (filled self.now.head self.now.end self.now.by ≡ x ∷ filled self.now.head (self.now.end + 1024) self.now.by) }
         ensures none { result ≡ Ok None → filled self.now.head self.now.end self.now.by ≡ [] }
+        ensures err { OnErr result (is_sound self.now.head ≡ true) }
     {
         match self.head {
             StreamHead::Video { .. } => Ok(None),

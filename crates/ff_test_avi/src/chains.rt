@@ -2,7 +2,7 @@
 ghost use Rattle.std.specs.Prelude.{◌≡◌};
 ghost use Rattle.ff_avi.specs.Cuts.{has_ended};
 
-use crate::{AviCut, read_head};
+use ff_avi::{AviCut, read_head};
 use ff_frame::Cut;
 use ff_lists::{from_place, front};
 use std::alloc::{AllocError, Global};

@@ -1,6 +1,6 @@
 use Rattle.std.proofs.Common.{◌≡◌, false, length}
 use Rattle.ff_avi.specs.Cuts.{has_ended}
-use Rattle.ff_avi.proofs.rows.chains.told.Given as goal
+use Rattle.ff_test_avi.proofs.chains.told.Given as goal
 
 abbrev pub invariant-pieces : goal.invariant-pieces
 invariant-pieces l = has_ended l.cut ≡ false

@@ -1,5 +1,5 @@
 //! Heads: a file with some of its bytes changed, how many of them are there, and the answer.
-use crate::read_head;
+use ff_avi::read_head;
 use ff_frame::HeadEnd::{self, Damaged, NotYet, Unsupported};
 use ff_lists::{from_place, front};
 use std::alloc::{AllocError, Global};

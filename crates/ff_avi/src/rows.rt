@@ -1,3 +1,0 @@
-//! Rows of data that are tried.
-mod chains;
-mod heads;
