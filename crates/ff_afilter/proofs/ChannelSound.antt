@@ -16,7 +16,7 @@ use Rattle.ff_stream.specs.declared.item.Lane.TheVariants.{Frames}
 use Rattle.ff_stream.specs.Stream.{map_stream}
 use Rattle.ff_stream.specs.Times.{HasTime, start_of, end_of, ticks, IsInTime}
 use Rattle.ff_stream.specs.Lanes.{Follows, InOrder, IsItemFor, EndsInTime}
-use Rattle.ff_filter.specs.spread.Valid.{GivesValid}
+use Rattle.ff_filter.specs.laws.spread.Valid.{GivesValid}
 use Rattle.ff_afilter.specs.Channels.{channel_of, channel_frame, channel_item}
 use Rattle.ff_afilter.proofs.Picking.{sample_there}
 

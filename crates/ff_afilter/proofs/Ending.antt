@@ -10,7 +10,7 @@ use Rattle.ff_stream.specs.Times.{ticks}
 use Rattle.ff_filter.specs.declared.range.Range.{Range}
 use Rattle.ff_filter.specs.Joins.{Flow}
 use Rattle.ff_filter.specs.Ranges.{is_past}
-use Rattle.ff_afilter.specs.Ends.{EndsFrom, EndsBefore, kept_of_each}
+use Rattle.ff_afilter.specs.laws.Ends.{EndsFrom, EndsBefore, kept_of_each}
 use Rattle.ff_afilter.specs.Trims.{count_of, ends_past, kept, kept_all, reaches, sound_trimmed}
 
 from_so : (a b : ℕ) → a ≤ b → nat_le a b ≡ true

@@ -20,7 +20,7 @@ use Rattle.ff_stream.specs.Times.{HasTime, start_of, end_of, ticks}
 use Rattle.ff_stream.specs.Lanes.{InOrder, IsItemFor, AreInShape}
 use Rattle.ff_filter.specs.declared.range.Range.{Range}
 use Rattle.ff_filter.specs.lasting.Lastings.{lasting}
-use Rattle.ff_filter.specs.Sound.{IsSound}
+use Rattle.ff_filter.specs.laws.Sound.{IsSound}
 use Rattle.ff_afilter.specs.Trims.{count_of, before_stop, kept, kept_all, ends_past, reaches, sound_trimmed, first_kept, sound_lasting}
 
 least_so : (a b : ℕ) → min a b ≤ a

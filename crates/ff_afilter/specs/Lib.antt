@@ -1,6 +1,3 @@
-pub mod ChannelLaws
 pub mod Channels
-pub mod Ends
-pub mod LastingLaws
-pub mod TrimLaws
 pub mod Trims
+pub mod laws

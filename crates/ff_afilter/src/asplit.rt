@@ -1,7 +1,7 @@
 //! The filter `asplit`.
 ghost use Rattle.std.specs.Prelude.{IfOk, IfErr};
 ghost use Rattle.ff_filter.specs.Options.{is_sound, IsRefused};
-ghost use Rattle.ff_filter.specs.spread.Many.{AreMade};
+ghost use Rattle.ff_filter.specs.laws.spread.Many.{AreMade};
 ghost use Rattle.ff_filter.specs.spread.Splits.{IsSplit, split_view, split_heads};
 
 use ff_filter::{Copies, Filter, SplitSettings, Spreader, copies_of, sound_settings};

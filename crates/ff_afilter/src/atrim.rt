@@ -90,7 +90,7 @@ impl ATrim {
 
 impl Step for ATrim {
     ghost use Rattle.ff_afilter.specs.Trims.{sound_trimmed};
-    ghost use Rattle.ff_afilter.specs.TrimLaws.{trimmed-below, trimmed-calm, trimmed-settles, trimmed-bare};
+    ghost use Rattle.ff_afilter.specs.laws.TrimLaws.{trimmed-below, trimmed-calm, trimmed-settles, trimmed-bare};
     ghost use Rattle.ff_stream.specs.Stream.{still_open, whole, broken};
 
     ghost lane_in = { λ m. Frames m.head };

@@ -93,7 +93,7 @@ fn turned(frame: AFrame, channel: usize) -> AFrame
 
 impl Share for Channels {
     ghost use Rattle.ff_afilter.specs.Channels.{channel_item};
-    ghost use Rattle.ff_afilter.specs.ChannelLaws.{channel-goes_on};
+    ghost use Rattle.ff_afilter.specs.laws.ChannelLaws.{channel-goes_on};
 
     ghost lane_in = { λ m. Frames m.head };
 
@@ -184,7 +184,7 @@ pub struct ChannelSplit {}
 
 impl ChannelSplit {
     ghost use Rattle.ff_filter.specs.Options.{IsRefused};
-    ghost use Rattle.ff_filter.specs.spread.Many.{AreMade};
+    ghost use Rattle.ff_filter.specs.laws.spread.Many.{AreMade};
     ghost use Rattle.ff_afilter.specs.Channels.{IsChannelSplit};
 
     /// The filter by its arguments, of which it takes none, and the head of its input. Beside it stands a head for

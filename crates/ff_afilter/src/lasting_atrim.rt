@@ -65,7 +65,7 @@ impl LastingATrim {
 
 impl Step for LastingATrim {
     ghost use Rattle.ff_afilter.specs.Trims.{sound_lasting};
-    ghost use Rattle.ff_afilter.specs.LastingLaws.{lasting-below, lasting-calm, lasting-settles, lasting-bare};
+    ghost use Rattle.ff_afilter.specs.laws.LastingLaws.{lasting-below, lasting-calm, lasting-settles, lasting-bare};
     ghost use Rattle.ff_stream.specs.Stream.{still_open, whole, broken};
 
     ghost lane_in = { λ m. Frames m.trim.head };

@@ -7,17 +7,17 @@ ghost use Rattle.ff_frame.specs.declared.head.StreamHead.TheVariants.{Audio as A
 ghost use Rattle.ff_stream.specs.declared.item.Item.{Item};
 ghost use Rattle.ff_stream.specs.declared.item.Lane.{Lane};
 ghost use Rattle.ff_stream.specs.declared.item.Lane.TheVariants.{Frames};
-ghost use Rattle.ff_stream.specs.Breaks.{KeepsBrokenRule};
+ghost use Rattle.ff_stream.specs.laws.Breaks.{KeepsBrokenRule};
 ghost use Rattle.ff_stream.specs.Lanes.{IsValid};
 ghost use Rattle.ff_stream.specs.Ports.{stream_at};
 ghost use Rattle.ff_stream.specs.Stream.{Mark, map_stream, whole_stream};
 ghost use Rattle.ff_filter.specs.declared.range.Range.{Range};
 ghost use Rattle.ff_filter.specs.Joins.{Flow};
 ghost use Rattle.ff_filter.specs.Shifts.{shifted};
-ghost use Rattle.ff_filter.specs.Sound.{IsSound};
-ghost use Rattle.ff_filter.specs.spread.Valid.{GivesValid};
+ghost use Rattle.ff_filter.specs.laws.Sound.{IsSound};
+ghost use Rattle.ff_filter.specs.laws.spread.Valid.{GivesValid};
 ghost use Rattle.ff_afilter.specs.Channels.{channel_item};
-ghost use Rattle.ff_afilter.specs.Ends.{EndsBefore, EndsFrom, kept_of_each};
+ghost use Rattle.ff_afilter.specs.laws.Ends.{EndsBefore, EndsFrom, kept_of_each};
 ghost use Rattle.ff_afilter.specs.Trims.{sound_trimmed, sound_lasting};
 
 /// Of a valid audio stream what lies within a range is in shape for the same way, with a duration and without one; an

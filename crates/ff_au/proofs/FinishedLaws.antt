@@ -1,12 +1,12 @@
 -- The finished files.
 use Rattle.std.proofs.Common.{◌≡◌, ℕ, List, [], ◌++◌, length, ap, ◌∙◌, append-nil, Some}
 use Rattle.ff_format.specs.Layouts.{bytes_in}
-use Rattle.ff_format.specs.Patched.{at_front}
+use Rattle.ff_format.specs.laws.Patched.{at_front}
 use Rattle.ff_frame.specs.declared.head.StreamHead.{StreamHead}
 use Rattle.ff_host.specs.Files.{patched}
 use Rattle.ff_au.specs.Header.{header, size_field, to_the_end}
 use Rattle.ff_au.specs.Layout.{same_length, AusAreFiles}
-use Rattle.ff_au.specs.Written.{file_of}
+use Rattle.ff_au.specs.laws.Written.{file_of}
 
 au_text : (head : StreamHead) (body : List ℕ) → patched ((header head to_the_end ++ body) ++ []) 0 (header head (size_field (length body))) ≡ file_of head body
 au_text head body =

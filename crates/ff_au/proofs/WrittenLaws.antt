@@ -8,14 +8,14 @@ use Rattle.std.proofs.lemmas.List.{take_all}
 use Rattle.std.proofs.lemmas.Nat.{from_be_bytes-to_be_bytes_4}
 use Rattle.ff_time.specs.Fraction.{Fraction}
 use Rattle.ff_frame.specs.Codecs.{sample_bytes}
-use Rattle.ff_frame.specs.PcmLaws.{few_sample_bytes}
+use Rattle.ff_frame.specs.laws.PcmLaws.{few_sample_bytes}
 use Rattle.ff_frame.specs.declared.head.Codec.{Codec}
 use Rattle.ff_frame.specs.declared.head.Codec.TheVariants.{PcmS8, PcmS16be, PcmS24be, PcmS32be}
 use Rattle.ff_frame.specs.declared.head.StreamHead.{StreamHead}
 use Rattle.ff_frame.specs.declared.head.StreamHead.TheVariants.{Audio, Video}
 use Rattle.ff_pcm.specs.declared.body.head.PcmHead.{PcmHead as AuHead}
 use Rattle.ff_pcm.specs.body.Packets.{IsPcmSound, IsStream, block_of, body, packets_of, demuxed}
-use Rattle.ff_pcm.specs.body.Written.{BodiesComeBack, SamplesComeBack}
+use Rattle.ff_pcm.specs.laws.body.Written.{BodiesComeBack, SamplesComeBack}
 use Rattle.ff_pcm.proofs.BodyLemmas.SamplesBack.{samples_come_back}
 use Rattle.ff_pcm.proofs.BodyLemmas.BodyLaws.{some_block, whole_packets}
 use Rattle.ff_reader.specs.Heads.{early}
@@ -28,9 +28,9 @@ use Rattle.ff_reader.proofs.ReachLaws.{walk_decide}
 use Rattle.ff_au.specs.Codecs.{IsAuCodec, IsAuCoded}
 use Rattle.ff_au.specs.Fields.{number_32, codec_of, stream_of, body_len, head_of, fields}
 use Rattle.ff_au.specs.Heads.{magic, grammar}
-use Rattle.ff_au.specs.HeadLaws.{is_lawful}
+use Rattle.ff_au.specs.laws.HeadLaws.{is_lawful}
 use Rattle.ff_au.specs.Header.{be_32, mark, header, header_len, size_field}
-use Rattle.ff_au.specs.Written.{says, HeadersAreRead, FilesAreRead, BodiesAreRead, au_container}
+use Rattle.ff_au.specs.laws.Written.{says, HeadersAreRead, FilesAreRead, BodiesAreRead, au_container}
 
 -- ---- the fields of a stream that is written
 

@@ -18,7 +18,7 @@ use Rattle.ff_frame.specs.declared.packet.Pkt.{Pkt}
 use Rattle.ff_frame.specs.declared.totals.Totals.{Totals}
 use Rattle.ff_au.specs.Codecs.{IsAuCoded, IsAuCoding, IsAuForm}
 use Rattle.ff_au.specs.Header.{be_32, mark, header, size_field, to_the_end}
-use Rattle.ff_au.specs.Written.{file_of}
+use Rattle.ff_au.specs.laws.Written.{file_of}
 
 -- a header of a body to the end of the file, the packets as they stand, and the header with the body's size
 abbrev pub au_layout : StreamHead → Layout

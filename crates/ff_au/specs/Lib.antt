@@ -2,6 +2,5 @@ pub mod Codecs
 pub mod Fields
 pub mod Heads
 pub mod Header
-pub mod Written
 pub mod Layout
-pub mod HeadLaws
+pub mod laws

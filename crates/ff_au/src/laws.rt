@@ -1,7 +1,7 @@
 //! Laws of AU. Each is a function that does nothing: its clauses hold of all values.
 ghost use Rattle.ff_au.specs.Layout.{AusAreFiles};
-ghost use Rattle.ff_au.specs.Written.{HeadersAreRead, FilesAreRead, BodiesAreRead, au_container};
-ghost use Rattle.ff_pcm.specs.body.Written.{SamplesComeBack};
+ghost use Rattle.ff_au.specs.laws.Written.{HeadersAreRead, FilesAreRead, BodiesAreRead, au_container};
+ghost use Rattle.ff_pcm.specs.laws.body.Written.{SamplesComeBack};
 
 /// What is written around a body is read again. A header with any size is read as its stream and its body's size. A
 /// whole file is read as that head and the packets of that body. The file of a whole stream of audio is read as its

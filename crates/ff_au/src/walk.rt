@@ -2,7 +2,7 @@
 ghost use Rattle.std.specs.Prelude.{◌≡◌, ◌↔◌, List, ◌++◌, ℕ, false, IfOk, ⊤};
 ghost use Rattle.ff_pcm.specs.body.Packets.{IsHead};
 ghost use Rattle.ff_au.specs.Heads.{grammar as au_grammar, head, answered, IsOpen};
-ghost use Rattle.ff_au.specs.HeadLaws.{is_lawful, is_kept};
+ghost use Rattle.ff_au.specs.laws.HeadLaws.{is_lawful, is_kept};
 
 use crate::fields::fields_at;
 use crate::head::{AuHead, FieldsStep};

@@ -1,16 +1,1 @@
-pub mod Streams
-pub mod Lists
-pub mod Heads
-pub mod Sound
-pub mod Lanes
-pub mod Data
-pub mod Chains
-pub mod Cuts
-pub mod Chosen
-pub mod Shaped
-pub mod Examples
-pub mod BaseLaws
-pub mod StreamLaws
-pub mod ListLaws
-pub mod SoundLaws
-pub mod HeadLaws
+pub mod laws

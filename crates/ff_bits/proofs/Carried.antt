@@ -11,7 +11,7 @@ use Rattle.std.proofs.lemmas.List.{replicate-append-replicate, length-replicate,
 use Rattle.std.proofs.lemmas.List.{drop_more, drop-set-add, take_more, take_more_set, take-set-le, take_rest, take-append-drop}
 use Rattle.ff_bits.specs.Bits.{value_of, bits_of, bits}
 use Rattle.ff_bits.specs.Crc.{reduced, remainder_from, crc16_of}
-use Rattle.ff_bits.specs.Carried.{word_bits, carried}
+use Rattle.ff_bits.specs.laws.Carried.{word_bits, carried}
 use Rattle.ff_bits.proofs.BitsLemmas.{length-bits, length-bits_of, bits-append}
 use Rattle.ff_bits.proofs.BitsOf.{bits_of-zeros, bits_of-value_of}
 use Rattle.ff_bits.proofs.CrcLemmas.{xor_double, brought_below, reduced_below, remainder_from-append}

@@ -7,8 +7,8 @@ use Rattle.std.proofs.Math.Seq.{take-add}
 use Rattle.std.proofs.lemmas.Nat.{shr_high, mod_low, or_shifted, and_mask, one_shl}
 use Rattle.std.proofs.lemmas.List.{length-take, length-replicate, take-append-drop, take-append-le, drop-drop, drop-take, take-take}
 use Rattle.ff_bits.specs.Bits.{value_of, bits}
-use Rattle.ff_bits.specs.Reads.{IsCounted, IsCoded}
-use Rattle.ff_bits.specs.Window.{shown, IsWindow, IsFront}
+use Rattle.ff_bits.specs.laws.Reads.{IsCounted, IsCoded}
+use Rattle.ff_bits.specs.laws.Window.{shown, IsWindow, IsFront}
 use Rattle.ff_bits.proofs.BitsLemmas.{value_below}
 use Rattle.ff_bits.proofs.Words.{value_of-append}
 use Rattle.ff_bits.proofs.Windows.{length-shown, same}

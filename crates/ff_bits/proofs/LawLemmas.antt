@@ -9,7 +9,7 @@ use Rattle.std.proofs.lemmas.List.{take_at, drop_at}
 use Rattle.ff_bits.specs.Bits.{value_of, bits_of, bits}
 use Rattle.ff_bits.specs.Number.{IsCode, code_with, capacity, fewest, shortest, first_byte, further_bytes}
 use Rattle.ff_bits.specs.Crc.{remainder_from, crc8_of, crc16_of}
-use Rattle.ff_bits.specs.Pieces.{Piece, Field, Coded, value_in, values_in, IsWritable, AreWritable, written_piece, written_pieces, IsRead, AreRead}
+use Rattle.ff_bits.specs.laws.Pieces.{Piece, Field, Coded, value_in, values_in, IsWritable, AreWritable, written_piece, written_pieces, IsRead, AreRead}
 use Rattle.ff_bits.proofs.BitsLemmas.{length-bits_of, bits-append, bits-one}
 use Rattle.ff_bits.proofs.Words.{value_of-bits_of}
 use Rattle.ff_bits.proofs.BitsOf.{bits_of-zeros, bits_of-parts}

@@ -3,7 +3,7 @@ use Rattle.std.proofs.Common.{◌≡◌, ℕ, Bool, List, [], ◌++◌, length, 
 use Rattle.std.proofs.lemmas.List.{append-nil}
 use Rattle.ff_bits.specs.Number.{IsPartOfCode, BeginsNoCode}
 use Rattle.std.specs.Prelude.{Err, IsErrOf}
-use Rattle.ff_bits.specs.Reads.{IsNumber}
+use Rattle.ff_bits.specs.laws.Reads.{IsNumber}
 use Rattle.ff_bits.specs.declared.reader.BitEnd.{BitEnd}
 use Rattle.ff_bits.specs.declared.reader.BitEnd.TheVariants.{Short, BadNumber}
 use Rattle.ff_bits.specs.Reading.{Done}

@@ -5,7 +5,7 @@ use Rattle.std.proofs.lemmas.Nat.{pow-add}
 use Rattle.std.proofs.lemmas.List.{append-nil}
 use Rattle.ff_bits.specs.Number.{capacity, code_with, IsCode, IsPartOfCode, BeginsNoCode}
 use Rattle.std.specs.Prelude.{Err}
-use Rattle.ff_bits.specs.Reads.{IsNumber}
+use Rattle.ff_bits.specs.laws.Reads.{IsNumber}
 use Rattle.ff_bits.specs.declared.reader.BitEnd.{BitEnd}
 use Rattle.ff_bits.specs.declared.reader.BitEnd.TheVariants.{Short, BadNumber}
 use Rattle.ff_bits.specs.Reading.{Answer, Done, More, Bad, on, field}

@@ -7,7 +7,7 @@ use Rattle.std.proofs.lemmas.Nat.{or_shifted, shl_whole, pow-add, mul-add-lt}
 use Rattle.std.proofs.lemmas.Bool.{cases_lt}
 use Rattle.std.proofs.lemmas.List.{length-take, length-replicate, take-append-le, drop-append-le, take_more, drop-drop, get_or_append_left, get_or-append_right, get_or-replicate, get_or_past}
 use Rattle.ff_bits.specs.Bits.{value_of, bits_of, bits}
-use Rattle.ff_bits.specs.Reads.{IsTaken}
+use Rattle.ff_bits.specs.laws.Reads.{IsTaken}
 use Rattle.ff_bits.proofs.BitsLemmas.{value_below, length-bits, length-bits_of, bits-append, bits-one}
 use Rattle.ff_bits.proofs.Words.{value_of-append, value_of-bits_of, word_window}
 

@@ -8,8 +8,8 @@ use Rattle.std.proofs.lemmas.Nat.{shr_high, or_block, or_shifted, and_mask, one_
 use Rattle.std.proofs.lemmas.Bool.{cases_lt}
 use Rattle.std.proofs.lemmas.List.{append-nil, take_rest, length-take, length-replicate, take-append-drop, take-append-le, drop-append-le, drop-drop, drop-take, take-take, take-replicate, replicate-append-replicate}
 use Rattle.ff_bits.specs.Bits.{value_of, bits_of, bits}
-use Rattle.ff_bits.specs.Reads.{IsCounted, IsCoded}
-use Rattle.ff_bits.specs.Window.{shown, IsWindow}
+use Rattle.ff_bits.specs.laws.Reads.{IsCounted, IsCoded}
+use Rattle.ff_bits.specs.laws.Window.{shown, IsWindow}
 use Rattle.ff_bits.proofs.BitsLemmas.{value_below, length-bits, bits-append, drop-bits, take-bits}
 use Rattle.ff_bits.proofs.Words.{value_of-append, window}
 use Rattle.ff_bits.proofs.Peek.{eight_zeros}

@@ -2,11 +2,6 @@ pub mod Bits
 pub mod Integers
 pub mod Number
 pub mod Crc
-pub mod Reads
-pub mod Runs
-pub mod Writer
-pub mod Pieces
 pub mod Reading
 pub mod NumberGrammar
-pub mod Window
-pub mod Carried
+pub mod laws

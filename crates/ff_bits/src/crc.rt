@@ -4,7 +4,7 @@
 ghost use Rattle.std.specs.Prelude.{◌≡◌, ◌≤◌, ◌<◌, ◌^◌, ◌+◌, ◌*◌, length, take, drop};
 ghost use Rattle.ff_bits.specs.Bits.{bits, bits_of};
 ghost use Rattle.ff_bits.specs.Crc.{IsRemainder, crc8_of, crc16_of, remainder_from, left_of};
-ghost use Rattle.ff_bits.specs.Carried.{word_bits, carried};
+ghost use Rattle.ff_bits.specs.laws.Carried.{word_bits, carried};
 
 use crate::table8::TABLE8;
 use crate::table16::TABLE16;

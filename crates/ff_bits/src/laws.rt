@@ -4,10 +4,10 @@ ghost use Rattle.std.specs.Prelude.{◌≡◌, ℕ, ◌≤◌, ◌<◌, ◌^◌,
 ghost use Rattle.ff_bits.specs.Bits.{bits};
 ghost use Rattle.ff_bits.specs.Crc.{crc8_of, crc16_of};
 ghost use Rattle.ff_bits.specs.Number.{IsCode, IsPartOfCode, BeginsNoCode, shortest};
-ghost use Rattle.ff_bits.specs.Reads.{IsNumber};
+ghost use Rattle.ff_bits.specs.laws.Reads.{IsNumber};
 ghost use Rattle.ff_bits.specs.Reading.{Done};
 ghost use Rattle.ff_bits.specs.NumberGrammar.{coded_below, of_31_bits, of_36_bits};
-ghost use Rattle.ff_bits.specs.Pieces.{Piece, AreWritable, AreRead, written_pieces, values_in};
+ghost use Rattle.ff_bits.specs.laws.Pieces.{Piece, AreWritable, AreRead, written_pieces, values_in};
 
 /// Values and coded numbers are read back as they were written one after the other, in any number and order. Nothing
 /// else can be read.

@@ -2,7 +2,7 @@
 
 ghost use Rattle.std.specs.Prelude.{◌≡◌, ◌≤◌, ◌<◌, ◌+◌, ◌^◌, ◌↔◌, length, IsTrue, IfOk, OnErr, IsErrOf, nat_lt, true, ◌||◌, ◌&&◌};
 ghost use Rattle.ff_bits.specs.Number.{IsPartOfCode, BeginsNoCode};
-ghost use Rattle.ff_bits.specs.Reads.{IsNumber};
+ghost use Rattle.ff_bits.specs.laws.Reads.{IsNumber};
 ghost use Rattle.ff_bits.specs.Reading.{field};
 ghost use Rattle.ff_bits.specs.NumberGrammar.{Answers, coded, coded_below, first, further, is_within, sixes, follow, opened};
 

@@ -2,8 +2,8 @@
 
 ghost use Rattle.std.specs.Prelude.{◌≡◌, ℕ, ◌≤◌, ◌<◌, ◌+◌, ◌*◌, ◌/◌, ◌%◌, ◌^◌, ◌↔◌, IsTrue, length, take, drop, replicate, false, true, List, Bool, ◌∷◌, ◌++◌, IfOk, IfErr, OnErr, IfSome, IfNone};
 ghost use Rattle.ff_bits.specs.Bits.{value_of, bits};
-ghost use Rattle.ff_bits.specs.Reads.{IsTaken, IsCounted, IsCoded};
-ghost use Rattle.ff_bits.specs.Runs.{IsRun};
+ghost use Rattle.ff_bits.specs.laws.Reads.{IsTaken, IsCounted, IsCoded};
+ghost use Rattle.ff_bits.specs.laws.Runs.{IsRun};
 ghost use Rattle.ff_bits.specs.Reading.{zeros};
 ghost use Rattle.ff_bits.specs.NumberGrammar.{Answers};
 

@@ -3,8 +3,8 @@
 ghost use Rattle.std.specs.Prelude.{◌≡◌, ℕ, ◌≤◌, ◌<◌, ◌+◌, ◌-◌, ◌*◌, ◌^◌, List, Bool, length, drop, IfSome, IfNone};
 ghost use lib.Count.{count_leading_zeros};
 ghost use Rattle.ff_bits.specs.Bits.{bits};
-ghost use Rattle.ff_bits.specs.Reads.{IsCounted, IsCoded};
-ghost use Rattle.ff_bits.specs.Window.{IsWindow, IsFront};
+ghost use Rattle.ff_bits.specs.laws.Reads.{IsCounted, IsCoded};
+ghost use Rattle.ff_bits.specs.laws.Window.{IsWindow, IsFront};
 
 use crate::reader::BitReader;
 use crate::word::word_of;
@@ -25,7 +25,7 @@ pub struct BitWindow<'a> {
 impl<'a> Model for BitWindow<'a> {
     ghost use Rattle.std.specs.Prelude.{◌*◌, ◌-◌, List, Bool, drop};
     ghost use Rattle.ff_bits.specs.Bits.{bits};
-    ghost use Rattle.ff_bits.specs.Window.{IsWindow};
+    ghost use Rattle.ff_bits.specs.laws.Window.{IsWindow};
 
     ghost Value = { List Bool };
 

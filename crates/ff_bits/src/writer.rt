@@ -25,7 +25,7 @@ impl Model for BitWriter {
 
     ghost Value = { List Bool };
 
-    ghost use Rattle.ff_bits.specs.Writer.{written, IsWriter};
+    ghost use Rattle.ff_bits.specs.laws.Writer.{written, IsWriter};
 
     ghost view = { written };
 

@@ -14,7 +14,7 @@ use Rattle.ff_words.specs.declared.error.WordError.{WordError}
 use Rattle.ff_words.specs.declared.error.WordError.TheVariants.{At, NoMemory}
 use Rattle.ff_words.specs.declared.error.WordKind.{WordKind}
 use Rattle.ff_words.specs.Words.{fault as wrong_at, written}
-use Rattle.ff_words.specs.Reading as reading
+use Rattle.ff_words.specs.laws.Reading as reading
 use Rattle.ff_words.proofs.Unique.{answer-one}
 use Rattle.ff_input.specs.Formats.{InputHead}
 use Rattle.ff_plan_layout.specs.declared.error.PlanError.{PlanError}

@@ -9,7 +9,7 @@ use Rattle.ff_words.specs.declared.job.Command.{Command}
 use Rattle.ff_words.specs.declared.job.Command.TheVariants.{Run}
 use Rattle.ff_words.specs.declared.job.Job.{Job}
 use Rattle.ff_words.specs.declared.job.Solo.TheVariants.{SelfRun}
-use Rattle.ff_words.specs.Bounds.{IsBounded}
+use Rattle.ff_words.specs.laws.Bounds.{IsBounded}
 use Rattle.ff_words.specs.Words.{written}
 use Rattle.ff_words.proofs.Unique.{answer-one}
 use Rattle.ff_input.specs.Formats.{InputHead}

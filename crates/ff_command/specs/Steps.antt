@@ -12,7 +12,7 @@ use Rattle.ff_words.specs.declared.job.Job.{Job}
 use Rattle.ff_words.specs.declared.error.Fault.{Fault}
 use Rattle.ff_words.specs.declared.error.WordError.{WordError}
 use Rattle.ff_words.specs.declared.error.WordError.TheVariants.{At, NoMemory}
-use Rattle.ff_words.specs.Bounds.{IsBounded}
+use Rattle.ff_words.specs.laws.Bounds.{IsBounded}
 use Rattle.ff_words.specs.Words.{fault as wrong_at, written}
 use Rattle.ff_input.specs.Formats.{InputHead, IsHead}
 use Rattle.ff_plan_layout.specs.declared.error.PlanError.{PlanError}

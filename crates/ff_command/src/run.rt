@@ -1,6 +1,6 @@
 //! A job over its files.
 ghost use Rattle.std.specs.Prelude.{◌≡◌, ◌<◌, ◌^◌, ℕ, length, Some, None, Ok, IfSome, IsTrue, option_copied};
-ghost use Rattle.ff_words.specs.Bounds.{IsBounded};
+ghost use Rattle.ff_words.specs.laws.Bounds.{IsBounded};
 ghost use Rattle.ff_words.specs.Words.{written};
 ghost use Rattle.ff_files.specs.Names.{files_of};
 ghost use Rattle.ff_files.specs.There.{IsFirstThere};

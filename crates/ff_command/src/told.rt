@@ -2,7 +2,7 @@
 ghost use Rattle.std.specs.Prelude.{◌≡◌, ◌≢◌, ◌⊎◌, ◌≤◌, ℕ, List, None, Some, Ok, IfSome, IsSome, codes};
 ghost use Rattle.ff_words.specs.declared.job.Solo.TheVariants.{SelfRun};
 ghost use Rattle.ff_files.specs.Works.{HasLog};
-ghost use Rattle.ff_host.specs.memory.QuietHost.{quiet_files};
+ghost use Rattle.ff_host.specs.laws.memory.QuietHost.{quiet_files};
 ghost use Rattle.ff_selfrun.specs.SelfRun.{own_line as line_of};
 ghost use Rattle.ff_command.specs.Command.{IsText, IsSoloText, IsGeneratedText, IsOwnAnswer, ReportsOwn};
 ghost use Rattle.ff_command.specs.Histories.{LogHas};

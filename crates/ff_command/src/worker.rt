@@ -1,6 +1,6 @@
 //! The trait of a worker, which plans jobs and runs the plans.
 ghost use Rattle.std.specs.Prelude.{◌≡◌, List, ℕ, Option, None, Some, IfErr, OnOk, IfOk};
-ghost use Rattle.ff_files.specs.Runs.{RunSays};
+ghost use Rattle.ff_files.specs.laws.Runs.{RunSays};
 ghost use Rattle.ff_files.specs.Works.{Meaning};
 ghost use Rattle.ff_frame.specs.declared.event.Event.{Event};
 ghost use Rattle.ff_sched.specs.Printing.{printed};

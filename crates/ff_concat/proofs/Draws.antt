@@ -6,23 +6,23 @@ use Rattle.ff_stream.specs.declared.item.Item.TheVariants.{Broken}
 use Rattle.ff_stream.specs.declared.item.Lane.TheVariants.{Frames}
 use Rattle.ff_stream.specs.Stream.{broken, still_open, LiesBelow}
 use Rattle.ff_stream.specs.Ports.{nothing}
-use Rattle.ff_stream.specs.Order.{nothing_below, closed_below}
+use Rattle.ff_stream.specs.laws.Order.{nothing_below, closed_below}
 use Rattle.ff_stream.specs.Within.{passes_limits}
 use Rattle.ff_filter.specs.declared.after.After.TheVariants.{More, Whole, Broke}
 use Rattle.ff_filter.specs.Joins.{Flow, Ports, before, silence}
-use Rattle.ff_filter.specs.Limits.{limited}
+use Rattle.ff_filter.specs.laws.Limits.{limited}
 use Rattle.ff_filter.specs.Made.{waiting, mark_after}
 use Rattle.ff_filter.specs.Views.{closes}
 use Rattle.ff_concat.specs.declared.reach.Reach.{Reach}
 use Rattle.ff_concat.specs.declared.track.Track.{Track}
-use Rattle.ff_concat.specs.Silences.{filled}
-use Rattle.ff_concat.specs.Tails.{Tail, together, latest}
-use Rattle.ff_concat.specs.Concats.{begin_in, in_order, later}
-use Rattle.ff_concat.specs.ConcatLaws.{cut_off}
-use Rattle.ff_concat.specs.TrackLaws.{made_keeps}
-use Rattle.ff_concat.specs.Tracks.{after_at, tails, queue_at, own, output_of, still_made, still_gives}
-use Rattle.ff_concat.specs.Standing.{bare, StandsAs, IsPassed}
-use Rattle.ff_concat.specs.Moves.{IsUnchanged, Told, Taken, Gave, Waits, GoesOn}
+use Rattle.ff_concat.specs.laws.Silences.{filled}
+use Rattle.ff_concat.specs.laws.Tails.{Tail, together, latest}
+use Rattle.ff_concat.specs.laws.Concats.{begin_in, in_order, later}
+use Rattle.ff_concat.specs.laws.ConcatLaws.{cut_off}
+use Rattle.ff_concat.specs.laws.TrackLaws.{made_keeps}
+use Rattle.ff_concat.specs.laws.Tracks.{after_at, tails, queue_at, own, output_of, still_made, still_gives}
+use Rattle.ff_concat.specs.laws.Standing.{bare, StandsAs, IsPassed}
+use Rattle.ff_concat.specs.laws.Moves.{IsUnchanged, Told, Taken, Gave, Waits, GoesOn}
 use Rattle.ff_concat.proofs.Losing.{behind_silent}
 use Rattle.ff_concat.proofs.Same.{gives_eq, unchanged_gives}
 use Rattle.ff_concat.proofs.Steps.{item_next, zeros_next, bare_is}

@@ -6,7 +6,7 @@ use Rattle.ff_filter.specs.Joins.{Ports}
 use Rattle.ff_concat.specs.declared.backlog.Backlog.{Backlog}
 use Rattle.ff_concat.specs.declared.reach.Reach.{Reach}
 use Rattle.ff_concat.specs.declared.track.Track.{Track}
-use Rattle.ff_concat.specs.Tracks.{after_at, end_at, queue_at, gives_at, still_gives, ended_at, stopped_at, lanes_of}
+use Rattle.ff_concat.specs.laws.Tracks.{after_at, end_at, queue_at, gives_at, still_gives, ended_at, stopped_at, lanes_of}
 
 pub after_read : (xs : List Reach) (i : ℕ) (x : Reach) → i < length xs → x ≡ get_or xs i x → after_at xs i ≡ x.after
 after_read [] i x lt e = absurd (omega arith)

@@ -11,14 +11,14 @@ use Rattle.ff_filter.specs.Made.{mark_after, waiting, behind}
 use Rattle.ff_filter.specs.Views.{closes, none_closes}
 use Rattle.ff_concat.specs.declared.backlog.Backlog.{Backlog}
 use Rattle.ff_concat.specs.declared.reach.Reach.{Reach}
-use Rattle.ff_concat.specs.Tails.{together}
-use Rattle.ff_concat.specs.Concats.{is_lost, is_lost_at, closes_at, is_closed}
-use Rattle.ff_concat.specs.ConcatLaws.{data_before}
+use Rattle.ff_concat.specs.laws.Tails.{together}
+use Rattle.ff_concat.specs.laws.Concats.{is_lost, is_lost_at, closes_at, is_closed}
+use Rattle.ff_concat.specs.laws.ConcatLaws.{data_before}
 use Rattle.ff_concat.specs.declared.track.Track.{Track}
 use Rattle.ff_filter.specs.Options.{is_video}
 use Rattle.std.specs.Prelude.{◌&&◌}
-use Rattle.ff_concat.specs.Tracks.{after_at, tails, queue_at, own, closed_from}
-use Rattle.ff_concat.specs.Standing.{lost_from}
+use Rattle.ff_concat.specs.laws.Tracks.{after_at, tails, queue_at, own, closed_from}
+use Rattle.ff_concat.specs.laws.Standing.{lost_from}
 
 pub queue_open : (bs : List Backlog) (k : ℕ) → none_closes (queue_at bs k) ≡ true
 queue_open [] k = refl

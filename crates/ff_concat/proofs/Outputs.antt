@@ -8,8 +8,8 @@ use Rattle.ff_filter.specs.Views as views
 use Rattle.ff_filter.specs.Views.{View, Same, Stopped, closes}
 use Rattle.ff_concat.specs.declared.reach.Reach.{Reach}
 use Rattle.ff_concat.specs.declared.track.Track.{Track}
-use Rattle.ff_concat.specs.Tracks.{gives_at, ended_at, stopped_at, repeated, view_of}
-use Rattle.ff_concat.specs.Moves.{GoesOn, Gave, Waits}
+use Rattle.ff_concat.specs.laws.Tracks.{gives_at, ended_at, stopped_at, repeated, view_of}
+use Rattle.ff_concat.specs.laws.Moves.{GoesOn, Gave, Waits}
 use Rattle.ff_concat.proofs.Lookups.{gives_read, gives_set, gives_other, ended_read, ended_set, ended_other, stopped_read, stopped_set, stopped_other, lanes_set}
 
 module _ (tick_list : List ℕ) (n : ℕ) (rs : List Reach) (ts : List Track) (i : ℕ) (t t' : Track) (lt : i < length ts) (is : t ≡ get_or ts i t) where

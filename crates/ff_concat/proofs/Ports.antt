@@ -1,8 +1,8 @@
 -- How many inputs and outputs there are.
 use Rattle.std.proofs.Common.{◌≡◌, ◌<◌, ◌*◌, ℕ, length, ap, sym, ◌∙◌, subst}
 use Rattle.ff_concat.specs.declared.concat.Concat.{Concat}
-use Rattle.ff_concat.specs.Tracks.{lanes_of, concat_view}
-use Rattle.ff_concat.specs.TrackLaws.{repeated-length, lanes-length}
+use Rattle.ff_concat.specs.laws.Tracks.{lanes_of, concat_view}
+use Rattle.ff_concat.specs.laws.TrackLaws.{repeated-length, lanes-length}
 
 pub ins_are : (m : Concat) → length (concat_view m).ins ≡ length m.reaches.items
 ins_are m = repeated-length m.segments (lanes_of m.tracks.items) ∙ (ap (λ (k : ℕ). m.segments * k) (lanes-length m.tracks.items) ∙ sym m.inputs)

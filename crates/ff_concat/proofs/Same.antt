@@ -5,15 +5,15 @@ use Rattle.ff_stream.specs.declared.item.Lane.TheVariants.{Frames}
 use Rattle.ff_stream.specs.Ports.{nothing}
 use Rattle.ff_stream.specs.Within.{passes_limits}
 use Rattle.ff_filter.specs.Joins.{Flow, Ports}
-use Rattle.ff_filter.specs.Limits.{limited}
+use Rattle.ff_filter.specs.laws.Limits.{limited}
 use Rattle.ff_filter.specs.Made.{waiting}
 use Rattle.ff_concat.specs.declared.reach.Reach.{Reach}
 use Rattle.ff_concat.specs.declared.track.Track.{Track}
-use Rattle.ff_concat.specs.Tails.{Tail}
-use Rattle.ff_concat.specs.Silences.{filled}
-use Rattle.ff_concat.specs.Concats.{begin_in, in_order}
-use Rattle.ff_concat.specs.Tracks.{after_at, tails, own, output_of, still_gives}
-use Rattle.ff_concat.specs.Moves.{IsAlike, IsUnchanged, GoesOn}
+use Rattle.ff_concat.specs.laws.Tails.{Tail}
+use Rattle.ff_concat.specs.laws.Silences.{filled}
+use Rattle.ff_concat.specs.laws.Concats.{begin_in, in_order}
+use Rattle.ff_concat.specs.laws.Tracks.{after_at, tails, own, output_of, still_gives}
+use Rattle.ff_concat.specs.laws.Moves.{IsAlike, IsUnchanged, GoesOn}
 
 module _ (tick_list : List ℕ) (q : ℕ) where
   -- what is given of these

@@ -10,11 +10,11 @@ use Rattle.ff_filter.specs.Made.{mark_after}
 use Rattle.ff_filter.specs.Options.{is_video}
 use Rattle.ff_concat.specs.declared.reach.Reach.{Reach}
 use Rattle.ff_concat.specs.declared.track.Track.{Track}
-use Rattle.ff_concat.specs.Following.{followed_at}
-use Rattle.ff_concat.specs.Tails.{together}
-use Rattle.ff_concat.specs.Concats.{let_through}
-use Rattle.ff_concat.specs.Tracks.{after_at, tails}
-use Rattle.ff_concat.specs.Standing.{lost_from, bare, StandsAs}
+use Rattle.ff_concat.specs.laws.Following.{followed_at}
+use Rattle.ff_concat.specs.laws.Tails.{together}
+use Rattle.ff_concat.specs.laws.Concats.{let_through}
+use Rattle.ff_concat.specs.laws.Tracks.{after_at, tails}
+use Rattle.ff_concat.specs.laws.Standing.{lost_from, bare, StandsAs}
 
 module _ (t : Track) (rs : List Reach) (w q : ℕ) where
   bare_by : (a : After) (m : Mark) (v : Bool) (next : Flow) → after_at rs (t.current * w + q) ≡ a → m ≡ together w (t.current * w) (tails rs silence)

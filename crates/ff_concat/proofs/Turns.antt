@@ -6,21 +6,21 @@ use Rattle.ff_stream.specs.declared.item.Item.TheVariants.{End}
 use Rattle.ff_stream.specs.declared.item.Lane.TheVariants.{Frames}
 use Rattle.ff_stream.specs.Stream.{Mark, still_open, whole}
 use Rattle.ff_stream.specs.Ports.{nothing}
-use Rattle.ff_stream.specs.Order.{nothing_below}
+use Rattle.ff_stream.specs.laws.Order.{nothing_below}
 use Rattle.ff_stream.specs.Within.{passes_limits}
 use Rattle.ff_filter.specs.declared.after.After.{After}
 use Rattle.ff_filter.specs.Joins.{Flow, Ports, one, silence}
-use Rattle.ff_filter.specs.Limits.{limited}
+use Rattle.ff_filter.specs.laws.Limits.{limited}
 use Rattle.ff_filter.specs.Made.{waiting}
 use Rattle.ff_concat.specs.declared.reach.Reach.{Reach}
 use Rattle.ff_concat.specs.declared.track.Track.{Track}
-use Rattle.ff_concat.specs.Silences.{filled}
-use Rattle.ff_concat.specs.Tails.{together, latest}
-use Rattle.ff_concat.specs.Concats.{begin_in, in_order}
-use Rattle.ff_concat.specs.ConcatLaws.{MarkBelow, TailBelow, below_whole, together-keeps, same_whole, latest-same}
-use Rattle.ff_concat.specs.TrackLaws.{tail_keeps}
-use Rattle.ff_concat.specs.Tracks.{after_at, end_at, tail_on, tails, own, output_of, still_made, still_gives}
-use Rattle.ff_concat.specs.Standing.{IsPassed}
+use Rattle.ff_concat.specs.laws.Silences.{filled}
+use Rattle.ff_concat.specs.laws.Tails.{together, latest}
+use Rattle.ff_concat.specs.laws.Concats.{begin_in, in_order}
+use Rattle.ff_concat.specs.laws.ConcatLaws.{MarkBelow, TailBelow, below_whole, together-keeps, same_whole, latest-same}
+use Rattle.ff_concat.specs.laws.TrackLaws.{tail_keeps}
+use Rattle.ff_concat.specs.laws.Tracks.{after_at, end_at, tail_on, tails, own, output_of, still_made, still_gives}
+use Rattle.ff_concat.specs.laws.Standing.{IsPassed}
 use Rattle.ff_concat.proofs.Steps.{passed_is, cut_same}
 
 pub from_silence : (rs : List Reach) (ext : Ports) (p : ℕ) → TailBelow (tails rs silence p) (tails rs ext p)

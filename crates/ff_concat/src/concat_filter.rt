@@ -1,7 +1,7 @@
 //! `concat` as a filter.
-ghost use Rattle.ff_concat.specs.Tracks.{concat_view};
-ghost use Rattle.ff_concat.specs.TrackLaws.{concat_spent, concat-grows, concat-hides, concat-settles, concat-quiet};
-ghost use Rattle.ff_concat.specs.TrackLaws.{concat-spent_only, concat-shut_spent, concat-done_spent};
+ghost use Rattle.ff_concat.specs.laws.Tracks.{concat_view};
+ghost use Rattle.ff_concat.specs.laws.TrackLaws.{concat_spent, concat-grows, concat-hides, concat-settles, concat-quiet};
+ghost use Rattle.ff_concat.specs.laws.TrackLaws.{concat-spent_only, concat-shut_spent, concat-done_spent};
 
 use crate::concat::Concat;
 use ff_filter::Filter;

@@ -3,7 +3,7 @@ ghost use Rattle.std.specs.Prelude.{◌≡◌, ◌<◌, ◌%◌, ◌||◌, lengt
 ghost use Rattle.ff_stream.specs.declared.item.Item.{Item as AnItem};
 ghost use Rattle.ff_filter.specs.Made.{is_over, closing};
 ghost use Rattle.ff_filter.specs.Views.{closes, Fed, Same, Gave, Waits, Stopped};
-ghost use Rattle.ff_concat.specs.Tracks.{after_at, stopped_at, ended_at, each_done, concat_view};
+ghost use Rattle.ff_concat.specs.laws.Tracks.{after_at, stopped_at, ended_at, each_done, concat_view};
 
 use crate::concat::Concat;
 use ff_filter::{After, closing_of};

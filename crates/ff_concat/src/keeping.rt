@@ -1,8 +1,8 @@
 //! How an output keeps what waits for it.
 ghost use Rattle.std.specs.Prelude.{◌≡◌, ◌<◌, ◌||◌, length, true, false, [], OnOk, OnErr, IfErr, IfSome, IsNone};
 ghost use Rattle.ff_filter.specs.Views.{closes};
-ghost use Rattle.ff_concat.specs.Moves.{Kept, IsUnchanged, Taken};
-ghost use Rattle.ff_concat.specs.Tracks.{queue_at};
+ghost use Rattle.ff_concat.specs.laws.Moves.{Kept, IsUnchanged, Taken};
+ghost use Rattle.ff_concat.specs.laws.Tracks.{queue_at};
 
 use crate::track::Track;
 use ff_stream::{Item, Refused};

@@ -4,9 +4,9 @@ ghost use Rattle.std.specs.List.{All};
 ghost use Rattle.ff_stream.specs.declared.item.Item.{Item as AnItem};
 ghost use Rattle.ff_filter.specs.Options.{is_sound};
 ghost use Rattle.ff_filter.specs.Views.{closes};
-ghost use Rattle.ff_concat.specs.Moves.{GoesOn, Gave, Waits, Told};
-ghost use Rattle.ff_concat.specs.Silences.{filled};
-ghost use Rattle.ff_concat.specs.Standing.{IsPassed};
+ghost use Rattle.ff_concat.specs.laws.Moves.{GoesOn, Gave, Waits, Told};
+ghost use Rattle.ff_concat.specs.laws.Silences.{filled};
+ghost use Rattle.ff_concat.specs.laws.Standing.{IsPassed};
 
 use crate::reach::Reach;
 use crate::silence::silent_frame;

@@ -1,8 +1,8 @@
 //! How an output goes on to its next segment.
 ghost use Rattle.std.specs.Prelude.{◌≡◌, ◌<◌, ◌+◌, ◌*◌, ◌^◌, length};
 ghost use Rattle.std.specs.List.{All};
-ghost use Rattle.ff_concat.specs.Moves.{GoesOn};
-ghost use Rattle.ff_concat.specs.Standing.{IsPassed};
+ghost use Rattle.ff_concat.specs.laws.Moves.{GoesOn};
+ghost use Rattle.ff_concat.specs.laws.Standing.{IsPassed};
 
 use crate::reach::Reach;
 use crate::segment::latest;

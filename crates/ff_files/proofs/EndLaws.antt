@@ -9,8 +9,8 @@ use Rattle.ff_reader.specs.declared.fault.HeadFault.TheVariants as fault
 use Rattle.ff_files.specs.Names.{Name, names_of, name_at}
 use Rattle.ff_files.specs.Counts.{Counts, Faulted, KeepsCounts, CountsFaults}
 use Rattle.ff_files.specs.Heads.{Refusal, HaveHeads}
-use Rattle.ff_files.specs.Hosts.{IsLater}
-use Rattle.ff_files.specs.Inputs.{AreBegun, EndsInputs, sound_before}
+use Rattle.ff_files.specs.laws.Hosts.{IsLater}
+use Rattle.ff_files.specs.laws.Inputs.{AreBegun, EndsInputs, sound_before}
 use Rattle.ff_files.specs.Outputs.{EndsOutputs, FailsAt, AreClosed}
 use Rattle.ff_files.specs.Works.{Command, FailNoMore, EndsWork, sound_sources, sound_sinks, all_heads, all_bytes, HoldsWritten, HoldWritten}
 use Rattle.ff_files.specs.Ends.{Ends, IsPlanned, IsPlanRefused, IsBroken, end_of_input, end_of_plan, end_of_output, end_after, refusal, sound_inputs, sound_outputs, IsFirstRefused, HasNoPlan, CanBeDone}

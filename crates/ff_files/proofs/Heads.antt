@@ -9,7 +9,7 @@ use Rattle.ff_reader.specs.Heads.{Found}
 use Rattle.ff_files.specs.Names.{Name, name_at}
 use Rattle.ff_files.specs.Counts.{KeepsCounts, AreUnfailed, RoseUnder}
 use Rattle.ff_files.specs.Heads.{Heads, Refusal, with_heads, next_head, head_in, heads_from, heads_of, HaveHeads, IsRefused}
-use Rattle.ff_files.specs.Inputs.{IsFound, IsHeadless, IsUnopened, EndsInputs, sound_before}
+use Rattle.ff_files.specs.laws.Inputs.{IsFound, IsHeadless, IsUnopened, EndsInputs, sound_before}
 use Rattle.ff_files.specs.declared.head.InputEnd.{InputEnd}
 use Rattle.ff_files.specs.declared.head.InputEnd.TheVariants as input_end
 use Rattle.ff_files.proofs.Lists.{each_pushed, pushed_len}

@@ -5,7 +5,7 @@ use Rattle.ff_host.specs.Causes.{Rose, SameCounts}
 use Rattle.ff_host.specs.Files.{Files, KeepsFiles}
 use Rattle.ff_files.specs.Names.{Name, name_at, named_before, one_named, KeepsAllBut, KeepsBeside, HoldsUnder}
 use Rattle.ff_files.specs.Counts.{KeepsCounts, KeepsCountsBut, RoseUnder, SameUnder, SameBeside}
-use Rattle.ff_files.specs.Hosts.{IsLater, Later, AreOpen}
+use Rattle.ff_files.specs.laws.Hosts.{IsLater, Later, AreOpen}
 use Rattle.ff_files.specs.Outputs.{FailsAt, AreClosed, first_failed}
 use Rattle.ff_files.proofs.Lists.{each_pushed, length_snoc, same_or_not}
 

@@ -5,7 +5,7 @@ use Rattle.ff_host.specs.Causes.{Rose}
 use Rattle.ff_files.specs.declared.work.WorkEnd.{WorkEnd}
 use Rattle.ff_files.specs.declared.work.WorkEnd.TheVariants as work_end
 use Rattle.ff_files.specs.Works.{Meaning, AreTold, HoldsPart, HoldFirstFiles, HoldFirstParts, GainTexts, HasLog, KeepEnds, FailNoMore, EndsWork, sound_sources, sound_sinks}
-use Rattle.ff_files.specs.Runs.{RunSays, GoesOn, IsRun}
+use Rattle.ff_files.specs.laws.Runs.{RunSays, GoesOn, IsRun}
 use Rattle.ff_files.proofs.Lists.{length_snoc, at_pushed}
 use Rattle.ff_files.proofs.Wholes.{which}
 

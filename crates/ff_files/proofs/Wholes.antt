@@ -5,8 +5,8 @@ use Rattle.std.specs.Io.KnownBytes.{Appends}
 use Rattle.ff_host.specs.Files.{Files, bytes_at, KeepsFiles, HoldsNothing}
 use Rattle.ff_files.specs.Names.{Name, name_at, AreApart, KeepsAllBut, HoldsUnder}
 use Rattle.ff_files.specs.Counts.{KeepsCounts, AreUnfailed}
-use Rattle.ff_files.specs.Hosts.{AreOpen}
-use Rattle.ff_files.specs.Inputs.{AreBegun}
+use Rattle.ff_files.specs.laws.Hosts.{AreOpen}
+use Rattle.ff_files.specs.laws.Inputs.{AreBegun}
 use Rattle.ff_files.specs.Outputs.{AreEmpty, ArePut}
 use Rattle.ff_files.specs.Works.{Command, AreTold, HoldFirstFiles, HoldsPart, HoldFirstParts, GainTexts, KeepEnds, FailNoMore, file_with, text_with, file_of, text_of, all_heads, all_bytes, told_bytes, meaning, written, AreHeadsIn, HasLog, HoldMeaning, HoldTrace, HoldsWritten, HoldWritten}
 use Rattle.ff_files.proofs.Lists.{some_of, if_is, if_named}

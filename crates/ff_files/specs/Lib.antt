@@ -1,11 +1,8 @@
 pub mod Names
-pub mod Targets
 pub mod There
 pub mod Counts
-pub mod Hosts
 pub mod Heads
-pub mod Inputs
 pub mod Outputs
 pub mod Works
-pub mod Runs
 pub mod Ends
+pub mod laws

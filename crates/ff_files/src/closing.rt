@@ -4,7 +4,7 @@ ghost use Rattle.ff_host.specs.Causes.{Rose, SameCounts, SameElsewhere};
 ghost use Rattle.ff_host.specs.Files.{KeepsFiles, PutsFile};
 ghost use Rattle.ff_files.specs.Names.{names_of, files_of, named_before, one_named, AreApart, KeepsAllBut, KeepsBeside, HoldsUnder};
 ghost use Rattle.ff_files.specs.Counts.{KeepsCounts, KeepsCountsBut, AreUnfailed, CountsFaults, RoseUnder, SameUnder, SameBeside};
-ghost use Rattle.ff_files.specs.Hosts.{Later, AreOpen};
+ghost use Rattle.ff_files.specs.laws.Hosts.{Later, AreOpen};
 ghost use Rattle.ff_files.specs.Outputs.{ArePut, AreClosed, FailsAt, first_failed};
 
 use crate::named::{Named, OutputFile, file_at, name_at};

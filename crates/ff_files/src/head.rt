@@ -3,7 +3,7 @@ ghost use Rattle.std.specs.Prelude.{◌≡◌, ◌<◌, ◌≤◌, ◌^◌, List
 ghost use Rattle.std.specs.Io.KnownBytes.{Consumes};
 ghost use Rattle.ff_reader.specs.Heads.{Found};
 ghost use Rattle.ff_files.specs.Heads.{Answers, GoOn};
-ghost use Rattle.ff_files.specs.Inputs.{EndsHead};
+ghost use Rattle.ff_files.specs.laws.Inputs.{EndsHead};
 ghost use Rattle.ff_files.specs.declared.head.InputEnd.TheVariants.{Failed, NoMemory};
 
 use crate::named::Named;

@@ -5,8 +5,8 @@ ghost use Rattle.ff_host.specs.Causes.{SameElsewhere, SameCounts};
 ghost use Rattle.ff_host.specs.Files.{KeepsFiles};
 ghost use Rattle.ff_files.specs.Names.{names_of, name_at as name_by};
 ghost use Rattle.ff_files.specs.Counts.{KeepsCounts, AreUnfailed};
-ghost use Rattle.ff_files.specs.Hosts.{Later, AreOpen};
-ghost use Rattle.ff_files.specs.Inputs.{IsRead, IsUnopened, AreBegun, EndsInputs, sound_inputs};
+ghost use Rattle.ff_files.specs.laws.Hosts.{Later, AreOpen};
+ghost use Rattle.ff_files.specs.laws.Inputs.{IsRead, IsUnopened, AreBegun, EndsInputs, sound_inputs};
 ghost use Rattle.ff_files.specs.declared.head.InputEnd.TheVariants.{Failed};
 
 use crate::head::{Begin, InputEnd, InputFile, read_begin};

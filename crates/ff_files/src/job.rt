@@ -1,7 +1,7 @@
 //! The inputs and the outputs of a job: their names, and how the heads of the inputs are read.
 ghost use Rattle.ff_words.specs.Words.{output_file};
 ghost use Rattle.ff_input.specs.Formats.{IsHead, input_head};
-ghost use Rattle.ff_input.specs.Places.{Reached};
+ghost use Rattle.ff_input.specs.laws.Places.{Reached};
 
 use crate::head::InputFile;
 use crate::named::{Named, OutputFile};

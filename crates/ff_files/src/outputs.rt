@@ -4,7 +4,7 @@ ghost use Rattle.ff_host.specs.Causes.{HasCauseOf, SameElsewhere, SameCounts};
 ghost use Rattle.ff_host.specs.Files.{KeepsFiles, KeepsOthers, HoldsNothing};
 ghost use Rattle.ff_files.specs.Names.{files_of, named_before, one_named, KeepsAllBut, KeepsBeside};
 ghost use Rattle.ff_files.specs.Counts.{KeepsCounts, AreUnfailed, RoseUnder, SameUnder, SameBeside};
-ghost use Rattle.ff_files.specs.Hosts.{Later, AreOpen};
+ghost use Rattle.ff_files.specs.laws.Hosts.{Later, AreOpen};
 ghost use Rattle.ff_files.specs.Outputs.{AreEmpty, EndsOutputs, sound_outputs};
 
 use crate::named::{OutputFile, file_at};

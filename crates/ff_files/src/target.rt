@@ -1,7 +1,7 @@
 //! Where outputs go.
 ghost use Rattle.std.specs.Prelude.{◌≡◌, ◌+◌, ◌≤◌, [], Some, None, true, is_some, length};
 ghost use Rattle.ff_host.specs.Files.{patched};
-ghost use Rattle.ff_files.specs.Targets.{target_holds, target_written, target_faults, target_failed, target_name};
+ghost use Rattle.ff_files.specs.laws.Targets.{target_holds, target_written, target_faults, target_failed, target_name};
 
 use crate::file_sink::FileSink;
 use ff_host::{Failed, Sink, SinkError};

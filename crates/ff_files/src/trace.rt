@@ -2,7 +2,7 @@
 ghost use Rattle.std.specs.Prelude.{◌≡◌, ◌<◌, ◌≤◌, ◌+◌, ◌^◌, ◌++◌, ◌∷◌, ◌⊎◌, [], length, vec_capacity, option_to_list, IfSome};
 ghost use Rattle.std.specs.Io.KnownBytes.{Appends};
 ghost use Rattle.ff_host.specs.Causes.{Rose};
-ghost use Rattle.ff_files.specs.Runs.{IsRun};
+ghost use Rattle.ff_files.specs.laws.Runs.{IsRun};
 
 use crate::work::{Done, Work, WorkEnd};
 use ff_host::{Sink, SinkError, Source};

@@ -1,7 +1,7 @@
 //! The trait of what is done between the opening and the closing.
 ghost use Rattle.std.specs.Prelude.{◌≡◌, List, ℕ, Option, Some, None, IfErr, OnOk, IfOk};
 ghost use Rattle.std.specs.List.{All};
-ghost use Rattle.ff_files.specs.Runs.{RunSays};
+ghost use Rattle.ff_files.specs.laws.Runs.{RunSays};
 ghost use Rattle.ff_files.specs.Works.{Meaning};
 
 use ff_host::{Sink, Source};

@@ -9,7 +9,7 @@ use Rattle.ff_filter.specs.declared.range.RangeSettings.{RangeSettings}
 use Rattle.ff_filter.specs.Joins.{Flow}
 use Rattle.ff_filter.specs.Views.{View}
 use Rattle.ff_filter.specs.Made.{stepper_view}
-use Rattle.ff_filter.specs.Limits.{limited}
+use Rattle.ff_filter.specs.laws.Limits.{limited}
 use Rattle.ff_filter.specs.Options.{IsTime}
 use Rattle.ff_filter.specs.Ranges.{SetsRange}
 use Rattle.ff_filter.specs.Singles.{single_view, single_is}

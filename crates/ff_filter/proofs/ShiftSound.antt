@@ -8,7 +8,7 @@ use Rattle.ff_stream.specs.declared.item.Lane.TheVariants.{Frames}
 use Rattle.ff_stream.specs.Times.{HasTime, start_of, end_of, ticks}
 use Rattle.ff_stream.specs.Lanes.{FitsFrames, StartsAfter, Follows, InOrder, IsItemFor, AreInShape}
 use Rattle.ff_filter.specs.Shifts.{earlier, start_ticks, from_first, shifted}
-use Rattle.ff_filter.specs.Sound.{IsSound}
+use Rattle.ff_filter.specs.laws.Sound.{IsSound}
 
 abbrev len_of : Item → ℤ
 len_of (Audio f) = pos (length f.samples / f.channels)

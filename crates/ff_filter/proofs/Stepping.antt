@@ -10,7 +10,7 @@ use Rattle.ff_filter.specs.declared.after.After.TheVariants.{More, Whole, Broke}
 use Rattle.ff_filter.specs.Joins.{Flow, one, before, before_all, before_all-last, joined, joined_assoc}
 use Rattle.ff_filter.specs.Views.{View, closes, none_closes, Fed, Gave, IsSpent, IsOver}
 use Rattle.ff_filter.specs.Made.{listed_option, made_of, mark_after, behind, is_over, closing, left, stepper_view, steps_spent}
-use Rattle.ff_filter.specs.StepperLaws.{over_left, over_by, or_left, or_right, stepper-spent}
+use Rattle.ff_filter.specs.laws.StepperLaws.{over_left, over_by, or_left, or_right, stepper-spent}
 
 -- what was made, and then the rest, is what stands behind the item
 made_then : (item : Option Item) (a : After) (r : Flow) → joined (made_of item a) r ≡ before_all (listed_option item) (behind a r)

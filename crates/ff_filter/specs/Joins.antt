@@ -6,7 +6,7 @@ use Rattle.ff_stream.specs.declared.item.Item.{Item}
 use Rattle.ff_stream.specs.Stream.{Mark, still_open, whole, broken, Stream, LiesBelow, opened}
 use Rattle.ff_stream.specs.Items.{with_item}
 use Rattle.ff_stream.specs.Ports.{nothing, IsClosed}
-use Rattle.ff_stream.specs.Order.{prefix_self, below_trans, closed_below}
+use Rattle.ff_stream.specs.laws.Order.{prefix_self, below_trans, closed_below}
 
 -- a stream of items
 abbrev pub Flow : Type 0

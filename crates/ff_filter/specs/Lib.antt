@@ -1,8 +1,4 @@
-pub mod Held
-pub mod Inlets
 pub mod Joins
-pub mod LimitLaws
-pub mod Limits
 pub mod Made
 pub mod Options
 pub mod Plain
@@ -10,8 +6,7 @@ pub mod Ranges
 pub mod Runs
 pub mod Shifts
 pub mod Singles
-pub mod Sound
-pub mod StepperLaws
 pub mod Views
 pub mod spread
 pub mod lasting
+pub mod laws

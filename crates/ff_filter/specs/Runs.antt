@@ -4,7 +4,7 @@ use Rattle.std.proofs.Common.{inl, ap, sym, ◌∙◌}
 use Rattle.ff_stream.specs.declared.item.Item.{Item}
 use Rattle.ff_stream.specs.Stream.{Mark, still_open, whole, broken, LiesBelow, opened, opened_mark}
 use Rattle.ff_stream.specs.Ports.{nothing, IsClosed}
-use Rattle.ff_stream.specs.Order.{below_self}
+use Rattle.ff_stream.specs.laws.Order.{below_self}
 use Rattle.ff_filter.specs.Joins.{Flow, Ports, joined, joined_at, joined_assoc, joined_closed, opened_joined, Grows, grows_by_rest}
 
 -- what is given for an item, and how it goes on; `made` is closed where the item was the last to matter

@@ -9,7 +9,7 @@ use Rattle.ff_filter.specs.declared.after.After.{After}
 use Rattle.ff_filter.specs.Joins.{Flow}
 use Rattle.ff_filter.specs.Views.{View}
 use Rattle.ff_filter.specs.Made.{stepper_view}
-use Rattle.ff_filter.specs.Limits.{limited, limited_is}
+use Rattle.ff_filter.specs.laws.Limits.{limited, limited_is}
 
 -- what the function makes of all that comes, within the limits of its output; and from the start that the output is over,
 -- where `after` says so

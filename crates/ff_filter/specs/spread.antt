@@ -1,7 +1,2 @@
-pub mod LineLaws
-pub mod Lines
-pub mod Many
 pub mod Splits
-pub mod SpreadLaws
 pub mod Spreads
-pub mod Valid

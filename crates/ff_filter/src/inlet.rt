@@ -5,7 +5,7 @@ ghost use Rattle.ff_stream.specs.declared.item.Item.{Item};
 ghost use Rattle.ff_filter.specs.Joins.{Flow, before};
 ghost use Rattle.ff_filter.specs.Views.{closes, none_closes};
 ghost use Rattle.ff_filter.specs.Made.{waiting, is_over};
-ghost use Rattle.ff_filter.specs.Inlets.{IsNext};
+ghost use Rattle.ff_filter.specs.laws.Inlets.{IsNext};
 
 use crate::after::{After, closing_of};
 use ff_stream::{Item, discard};

@@ -4,7 +4,7 @@ ghost use Rattle.ff_frame.specs.declared.head.StreamHead.{StreamHead};
 ghost use Rattle.ff_stream.specs.declared.item.Lane.{Lane};
 ghost use Rattle.ff_stream.specs.declared.item.Lane.TheVariants.{Frames};
 ghost use Rattle.ff_filter.specs.Shifts.{shifted};
-ghost use Rattle.ff_filter.specs.Sound.{IsSound};
+ghost use Rattle.ff_filter.specs.laws.Sound.{IsSound};
 
 /// A valid stream as it is is in shape for its own lane. So is one of frames with times from the start of its first
 /// item on. An unbroken one doesn't break off.

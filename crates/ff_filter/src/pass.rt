@@ -2,7 +2,7 @@
 ghost use Rattle.std.specs.Prelude.{◌≡◌, refl, false};
 ghost use Rattle.ff_stream.specs.declared.item.Lane.TheVariants.{Frames};
 ghost use Rattle.ff_stream.specs.Stream.{opened};
-ghost use Rattle.ff_stream.specs.Order.{below_self};
+ghost use Rattle.ff_stream.specs.laws.Order.{below_self};
 
 use crate::after::After;
 use crate::step::{Given, Step};

@@ -2,7 +2,7 @@
 ghost use Rattle.std.specs.Prelude.{◌≡◌, ◌-◌, ◌<◌, ◌^◌, pos, refl, false, Some};
 ghost use Rattle.ff_stream.specs.declared.item.Lane.TheVariants.{Frames};
 ghost use Rattle.ff_stream.specs.Stream.{opened, still_open, whole, broken};
-ghost use Rattle.ff_stream.specs.Order.{below_self};
+ghost use Rattle.ff_stream.specs.laws.Order.{below_self};
 ghost use Rattle.ff_stream.specs.Times.{ticks};
 ghost use Rattle.ff_filter.specs.Views.{closes};
 ghost use Rattle.ff_filter.specs.Shifts.{shifted, start_ticks, earlier as earlier_by, shifted-below, shifted-bare};

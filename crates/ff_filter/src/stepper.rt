@@ -2,7 +2,7 @@
 ghost use Rattle.std.specs.Prelude.{◌≡◌, ◌↔◌, ◌||◌, [], not, OnOk, OnErr, IfErr, IsTrue, Some, true, false};
 ghost use Rattle.ff_filter.specs.Views.{closes, Fed, Same, IsSpent};
 ghost use Rattle.ff_filter.specs.Made.{stepper_view, is_over, steps_spent, closing};
-ghost use Rattle.ff_filter.specs.StepperLaws.{stepper-grows, stepper-hides, stepper-settles, stepper-quiet, stepper-spent, stepper-shut, stepper-done};
+ghost use Rattle.ff_filter.specs.laws.StepperLaws.{stepper-grows, stepper-hides, stepper-settles, stepper-quiet, stepper-spent, stepper-shut, stepper-done};
 
 use crate::after::{After, closing_of};
 use crate::filter::Filter;

@@ -9,7 +9,7 @@ use Rattle.ff_stream.specs.declared.item.Lane.TheVariants.{Frames}
 use Rattle.ff_lang.specs.declared.graph.Arg.{Arg}
 use Rattle.ff_filter.specs.Options.{is_sound, IsRefused}
 use Rattle.ff_filter.specs.Views.{View, IsNew}
-use Rattle.ff_filter.specs.spread.Many.{AreMade}
+use Rattle.ff_filter.specs.laws.spread.Many.{AreMade}
 use Rattle.ff_vfilter.specs.Sizes.{sized}
 use Rattle.ff_vfilter.specs.FpsOptions.{fps_head}
 use Rattle.ff_afilter.specs.Channels.{mono_head, channels_in}

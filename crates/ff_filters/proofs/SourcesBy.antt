@@ -16,7 +16,7 @@ use Rattle.ff_source.specs.Colors.{color_named}
 use Rattle.ff_source.specs.ColorOptions.{SetsColor, color_manual, color_default, MakesColor, IsColor}
 use Rattle.ff_source.specs.Silences.{channels_named}
 use Rattle.ff_source.specs.SilenceOptions.{SetsSilence, silence_manual, silence_default, MakesSilence, IsSilence}
-use Rattle.ff_source.specs.Readings.{AfterRead}
+use Rattle.ff_source.specs.laws.Readings.{AfterRead}
 use Rattle.ff_source.specs.Sources.{IsSource}
 use Rattle.ff_lang.specs.declared.source.SourceName.TheVariants as source
 use Rattle.ff_filters.specs.declared.name.FilterName.{FilterName}

@@ -6,7 +6,7 @@ use Rattle.ff_lang.specs.declared.graph.Arg.{Arg}
 use Rattle.ff_filter.specs.Options.{is_sound, is_video, IsRefused}
 use Rattle.ff_filter.specs.Plain.{IsPass, pass_view, IsRebase, rebase_view}
 use Rattle.ff_filter.specs.Views.{View}
-use Rattle.ff_filter.specs.spread.Many.{AreMade}
+use Rattle.ff_filter.specs.laws.spread.Many.{AreMade}
 use Rattle.ff_filter.specs.spread.Splits.{split_manual, IsSplit, split_view, split_heads}
 use Rattle.ff_vfilter.specs.Trims.{IsTrim, trim_view}
 use Rattle.ff_vfilter.specs.Crops.{IsCrop, crop_view, crop_head}

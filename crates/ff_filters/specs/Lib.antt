@@ -9,5 +9,5 @@ pub mod ReadBy
 pub mod SetBy
 pub mod Sources
 pub mod Configured
-pub mod SingleLaws
 pub mod limited
+pub mod laws

@@ -1,17 +1,17 @@
 //! The machine of any filter.
 ghost use Rattle.std.specs.Prelude.{◌≡◌};
 ghost use Rattle.ff_stream.specs.declared.item.Lane.TheVariants.{Frames};
-ghost use Rattle.ff_vfilter.specs.RateLaws.{rate-grows, rate-hides, rate-settles, rate-quiet};
-ghost use Rattle.ff_vfilter.specs.RateSpent.{rate-spent_only, rate-shut_spent, rate-done_spent};
-ghost use Rattle.ff_fsync.specs.stacks.Limits.{limits-grows, limits-hides, limits-settles, limits-quiet};
-ghost use Rattle.ff_fsync.specs.stacks.Stacked.{sync_seen};
-ghost use Rattle.ff_fsync.specs.stacks.StackedLaws.{sync_grows, sync_hides, sync_settles, sync_quiet, stacked-spent_only, stacked-shut_spent, stacked-done_spent};
-ghost use Rattle.ff_joins.specs.SegmentLaws.{segments-grows, segments-hides, segments-settles, segments-quiet};
-ghost use Rattle.ff_joins.specs.SegmentLaws.{segments-spent_only, segments-shut_spent, segments-done_spent};
-ghost use Rattle.ff_joins.specs.JoinLaws.{join-grows, join-hides, join-settles, join-quiet, join-spent_only, join-shut_spent, join-done_spent};
+ghost use Rattle.ff_vfilter.specs.laws.RateLaws.{rate-grows, rate-hides, rate-settles, rate-quiet};
+ghost use Rattle.ff_vfilter.specs.laws.RateSpent.{rate-spent_only, rate-shut_spent, rate-done_spent};
+ghost use Rattle.ff_fsync.specs.laws.stacks.Limits.{limits-grows, limits-hides, limits-settles, limits-quiet};
+ghost use Rattle.ff_fsync.specs.laws.stacks.Stacked.{sync_seen};
+ghost use Rattle.ff_fsync.specs.laws.stacks.StackedLaws.{sync_grows, sync_hides, sync_settles, sync_quiet, stacked-spent_only, stacked-shut_spent, stacked-done_spent};
+ghost use Rattle.ff_joins.specs.laws.SegmentLaws.{segments-grows, segments-hides, segments-settles, segments-quiet};
+ghost use Rattle.ff_joins.specs.laws.SegmentLaws.{segments-spent_only, segments-shut_spent, segments-done_spent};
+ghost use Rattle.ff_joins.specs.laws.JoinLaws.{join-grows, join-hides, join-settles, join-quiet, join-spent_only, join-shut_spent, join-done_spent};
 ghost use Rattle.ff_filters.specs.contracts.step.AnyStepStep.TheImpl.Laws.{below-law, calm-law, settles-law};
-ghost use Rattle.ff_filters.specs.SingleLaws.{single-grows, single-hides, single-settles, single-quiet, single-spent_only, single-shut_spent, single-done_spent};
-ghost use Rattle.ff_filters.specs.SingleLaws.{shared-grows, shared-hides, shared-settles, shared-quiet, shared-spent_only, shared-shut_spent, shared-done_spent};
+ghost use Rattle.ff_filters.specs.laws.SingleLaws.{single-grows, single-hides, single-settles, single-quiet, single-spent_only, single-shut_spent, single-done_spent};
+ghost use Rattle.ff_filters.specs.laws.SingleLaws.{shared-grows, shared-hides, shared-settles, shared-quiet, shared-spent_only, shared-shut_spent, shared-done_spent};
 
 use crate::step::AnyStep;
 use ff_afilter::Channels;

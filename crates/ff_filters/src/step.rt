@@ -2,11 +2,11 @@
 //! each of its matches here. The machine around it, and all that stands on [`crate::AnyFilter`], stay as they are.
 ghost use Rattle.std.specs.Prelude.{◌≡◌, refl};
 ghost use Rattle.ff_stream.specs.Stream.{opened, still_open, whole, broken};
-ghost use Rattle.ff_stream.specs.Order.{below_self};
+ghost use Rattle.ff_stream.specs.laws.Order.{below_self};
 ghost use Rattle.ff_filter.specs.Shifts.{shifted, shifted-below, shifted-bare};
-ghost use Rattle.ff_vfilter.specs.LastingLaws.{lasting-below, lasting-calm, lasting-settles, lasting-bare};
+ghost use Rattle.ff_vfilter.specs.laws.LastingLaws.{lasting-below, lasting-calm, lasting-settles, lasting-bare};
 ghost use Rattle.ff_vfilter.specs.Pictures.{repainted, repainted-below};
-ghost use Rattle.ff_afilter.specs.LastingLaws.{lasting-below as sound-below, lasting-calm as sound-calm, lasting-settles as sound-settles, lasting-bare as sound-bare};
+ghost use Rattle.ff_afilter.specs.laws.LastingLaws.{lasting-below as sound-below, lasting-calm as sound-calm, lasting-settles as sound-settles, lasting-bare as sound-bare};
 
 use ff_afilter::LastingATrim;
 use ff_filter::{Filter, Given, Limited, Pass, Rebase, Step, Stepper};

@@ -18,7 +18,7 @@ use Rattle.ff_flac_frame.specs.declared.subframe.SubKind.{SubKind}
 use Rattle.ff_flac_frame.specs.declared.subframe.SubKind.TheVariants.{Constant, Verbatim, Fixed, Lpc}
 use Rattle.ff_flac_frame.specs.Frame.{Part}
 use Rattle.ff_frame.specs.Audio.{FitsBits}
-use Rattle.ff_flac_frame.specs.Facts.{HasShape, IsPart}
+use Rattle.ff_flac_frame.specs.laws.Facts.{HasShape, IsPart}
 use Rattle.ff_flac_frame.specs.Prediction.{fixed, linear, restored, AllInDepth}
 use Rattle.ff_flac_frame.specs.Restored.{IsRestored}
 use Rattle.ff_flac_dec.specs.Values.{samples_as, coded_samples, channel_samples}

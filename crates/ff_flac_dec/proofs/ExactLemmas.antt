@@ -5,7 +5,7 @@ use Rattle.ff_flac_frame.specs.Frame.{IsStream, IsNever}
 use Rattle.ff_flac_frame.proofs.Whole.{is_not_yet}
 use Rattle.ff_flac_dec.specs.declared.front.Front.TheVariants.{Other, Whole}
 use Rattle.ff_flac_dec.specs.Packets.{unit}
-use Rattle.ff_flac_dec.specs.Units.{IsExact}
+use Rattle.ff_flac_dec.specs.laws.Units.{IsExact}
 use Rattle.ff_flac_dec.proofs.UnitLaws.{unit_begins, whole_begins, wait_more, other-append, wait_is, other_is}
 
 never : (s : FlacStream) → IsStream s → (bytes : List ℕ) → unit s bytes ≡ Other → IsNever s bytes

@@ -11,9 +11,9 @@ use Rattle.ff_flac_frame.specs.declared.stream.FlacStream.{FlacStream}
 use Rattle.ff_flac_frame.specs.declared.subframe.Subframe.{Subframe}
 use Rattle.ff_flac_frame.specs.Codes.{form_fits, depths}
 use Rattle.ff_flac_frame.specs.Frame.{IsStream, Part, Frame}
-use Rattle.ff_flac_frame.specs.Facts.{IsPart, AreParts, IsFrame}
+use Rattle.ff_flac_frame.specs.laws.Facts.{IsPart, AreParts, IsFrame}
 use Rattle.ff_flac_frame.specs.declared.frame.FlacFrame.{FlacFrame}
-use Rattle.ff_flac_frame.specs.Parts.{part_of, frame_of}
+use Rattle.ff_flac_frame.specs.laws.Parts.{part_of, frame_of}
 use Rattle.ff_flac_frame.specs.Prediction.{AllInDepth}
 use Rattle.ff_flac_dec.specs.Values.{channel_samples}
 use Rattle.ff_flac_dec.specs.Channels.{IsCoded, AllCoded, AllChannels, IsWithinDepths, first_depth, second_depth, left_right, pair, channels_of, sample_frame, interleaved_from, interleaved}

@@ -6,7 +6,7 @@ use Rattle.ff_bits.proofs.BitsLemmas.{length-bits, bits-append, drop-bits}
 use Rattle.ff_bits.proofs.Words.{window_of, byte_step}
 use Rattle.ff_flac_frame.specs.Frame.{IsBytes}
 use Rattle.ff_flac_dec.specs.Blocks.{rate_in, channels_in, bits_in}
-use Rattle.ff_flac_dec.specs.Info.{IsInfo}
+use Rattle.ff_flac_dec.specs.laws.Info.{IsInfo}
 
 -- the four bytes that hold rate, channels and depth
 abbrev four : List ℕ → List ℕ

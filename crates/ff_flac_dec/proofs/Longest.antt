@@ -13,7 +13,7 @@ use Rattle.ff_bits.specs.NumberGrammar.{follow, opened, sixes, coded_below, is_w
 use Rattle.ff_bits.proofs.BitsLemmas.{length-bits}
 use Rattle.ff_flac_frame.specs.declared.stream.FlacStream.{FlacStream}
 use Rattle.ff_flac_frame.specs.Codes.{any, equal, below, sync, not_zero, block_table, rate_fits, form_fits, depth_fits, kind_fits, kind_of, order_of, warm_count, order_fits, depths}
-use Rattle.ff_flac_frame.specs.Facts.{IsHeader}
+use Rattle.ff_flac_frame.specs.laws.Facts.{IsHeader}
 use Rattle.ff_flac_frame.specs.Frame.{Frame, Header, Part, IsStream, block_of, rate_of, header, sample, zigzag, residual_limit, quotient_limit, rice, partition, partitions, residual, wasted_bits, predictor, subframe, subframes, sealed_header, unpadded, padded, frame}
 use Rattle.ff_flac_frame.proofs.FrameSound.{field-below, order_in, whole_block, IsSound-head}
 

@@ -11,7 +11,7 @@ use Rattle.ff_bits.proofs.SoundTexts.{with_text_takes}
 use Rattle.ff_bits.proofs.BitsLemmas.{length-bits}
 use Rattle.ff_flac_frame.specs.declared.stream.FlacStream.{FlacStream}
 use Rattle.ff_flac_frame.specs.Codes.{equal, any, below, sync, not_zero, block_table, depths, rate_fits, form_fits, depth_fits}
-use Rattle.ff_flac_frame.specs.Facts.{IsFrame, IsHeader, AreParts}
+use Rattle.ff_flac_frame.specs.laws.Facts.{IsFrame, IsHeader, AreParts}
 use Rattle.ff_flac_frame.specs.Frame.{Frame, IsStream, header, sealed_header, subframes, unpadded, padded, frame, Begins, block_of, rate_of}
 use Rattle.ff_flac_frame.proofs.FrameSound.{IsSound-header, IsSound-head, IsSound-subframes, depths_low, IsSound-unpadded, IsSound-padded}
 

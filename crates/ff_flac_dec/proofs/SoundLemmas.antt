@@ -4,7 +4,7 @@ use Rattle.std.proofs.Common.{ℤ, pos}
 use Rattle.std.proofs.lemmas.List.{drop_more, drop_all}
 use Rattle.ff_flac_frame.specs.declared.subframe.Subframe.{Subframe}
 use Rattle.ff_flac_frame.specs.Frame.{Part}
-use Rattle.ff_flac_frame.specs.Parts.{part_of}
+use Rattle.ff_flac_frame.specs.laws.Parts.{part_of}
 use Rattle.ff_flac_frame.specs.Prediction.{AllInDepth}
 use Rattle.ff_flac_dec.specs.Channels.{sample_frame, interleaved_from, interleaved, AllChannels}
 

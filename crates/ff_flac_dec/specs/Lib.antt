@@ -1,14 +1,8 @@
 pub mod Values
 pub mod Channels
-pub mod Joins
 pub mod Streams
 pub mod Blocks
-pub mod Info
 pub mod Heads
 pub mod Packets
-pub mod Units
 pub mod Cuts
-pub mod BlockLaws
-pub mod HeadLaws
-pub mod SoundLaws
-pub mod HandedOver
+pub mod laws

@@ -1,8 +1,8 @@
 //! The samples of one subframe, with its wasted bits.
 ghost use Rattle.std.specs.Prelude.{◌≡◌, ◌<◌, ◌≤◌, ◌^◌, ◌-◌, ◌*ℤ◌, ℕ, IfOk, IsErrOf, IfErr, IfSome, length, pos, map, replicate, All, FitsSigned};
 ghost use Rattle.std.specs.Int.{w32};
-ghost use Rattle.ff_flac_frame.specs.Parts.{part_of};
-ghost use Rattle.ff_flac_frame.specs.Facts.{IsPart};
+ghost use Rattle.ff_flac_frame.specs.laws.Parts.{part_of};
+ghost use Rattle.ff_flac_frame.specs.laws.Facts.{IsPart};
 ghost use Rattle.ff_flac_frame.specs.Prediction.{AllInDepth};
 ghost use Rattle.ff_flac_dec.specs.Values.{coded_samples, channel_samples};
 

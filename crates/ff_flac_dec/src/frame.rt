@@ -1,7 +1,7 @@
 //! The frame that some bytes begin with, under a head.
 ghost use Rattle.std.specs.Prelude.{◌≡◌, ℕ, IfOk, IsErrOf};
 ghost use Rattle.ff_flac_frame.specs.Frame.{IsStream, Begins, IsNotYet, IsNever};
-ghost use Rattle.ff_flac_frame.specs.Parts.{frame_of};
+ghost use Rattle.ff_flac_frame.specs.laws.Parts.{frame_of};
 ghost use Rattle.ff_flac_dec.specs.Streams.{stream_of};
 
 use crate::head::FlacHead;

@@ -9,7 +9,7 @@
 //! what is sent, and contracts see of either end only that it is there.
 ghost use Rattle.std.specs.Prelude.{◌≡◌, ℕ, IfSome, length};
 ghost use Rattle.ff_flac_frame.specs.Frame.{Begins};
-ghost use Rattle.ff_flac_frame.specs.Parts.{frame_of};
+ghost use Rattle.ff_flac_frame.specs.laws.Parts.{frame_of};
 
 use ff_flac_frame::{FlacFrame, FlacStream};
 use ff_frame::Bytes;
@@ -31,7 +31,7 @@ pub struct ReadFrame {
 pub struct WholeFrames;
 
 impl Protocol<ReadFrame> for WholeFrames {
-    ghost use Rattle.ff_flac_dec.specs.HandedOver.{IsWhole};
+    ghost use Rattle.ff_flac_dec.specs.laws.HandedOver.{IsWhole};
 
     ghost allows = { λ before read. IsWhole read };
 }

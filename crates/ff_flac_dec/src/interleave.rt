@@ -1,7 +1,7 @@
 //! The samples of channels, interleaved.
 ghost use Rattle.std.specs.Prelude.{◌≡◌, ◌<◌, ◌≤◌, ◌++◌, ◌∷◌, [], length, IfOk, IfErr, OnOk, pos, slice_index_or};
 ghost use Rattle.ff_flac_dec.specs.Channels.{sample_frame, interleaved};
-ghost use Rattle.ff_flac_dec.specs.Joins.{items_of};
+ghost use Rattle.ff_flac_dec.specs.laws.Joins.{items_of};
 
 use crate::end::DecodeEnd;
 use std::alloc::Global;

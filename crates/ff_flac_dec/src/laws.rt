@@ -3,8 +3,8 @@
 ghost use Rattle.std.specs.Prelude.{◌≤◌, ℕ, List, length};
 ghost use Rattle.ff_flac_frame.specs.declared.stream.FlacStream.{FlacStream};
 ghost use Rattle.ff_flac_frame.specs.Frame.{IsStream, IsBytes};
-ghost use Rattle.ff_flac_dec.specs.Info.{IsInfo};
-ghost use Rattle.ff_flac_dec.specs.Units.{IsExact};
+ghost use Rattle.ff_flac_dec.specs.laws.Info.{IsInfo};
+ghost use Rattle.ff_flac_dec.specs.laws.Units.{IsExact};
 
 /// A cut answers NotYet only where no frame is there and some continuation makes one. It answers Broken before the
 /// input's end only where none does. So what bytes begin with, as the packets are defined by it, is exact.

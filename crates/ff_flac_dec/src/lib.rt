@@ -3,7 +3,7 @@
 //! `specs/Blocks` says what one metadata block does to the reading of a head. `specs/Heads` says what the head of a
 //! whole input is, and which first bytes decide it. `specs/Streams` says what a head tells of the frames.
 //! `specs/Values` says which samples a subframe stands for, `specs/Channels` which channels a frame has.
-//! `specs/Packets` says which packets an input has. `specs/Units` says what it means that a frame is whole, or isn't
+//! `specs/Packets` says which packets an input has. `specs/laws/Units` says what it means that a frame is whole, or isn't
 //! yet. `specs/Cuts` says how a cut's state is tied to what it was fed and gave. A cut can send the frames that it
 //! has read to a decoder (`frame_channel`), so that these aren't read once more.
 #![tactic(auto)]

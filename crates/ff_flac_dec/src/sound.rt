@@ -3,11 +3,11 @@ ghost use Rattle.std.specs.Prelude.{◌≡◌, ◌<◌, ◌≤◌, ◌+◌, ◌-
 ghost use Rattle.std.specs.List.{AllByRecursion};
 ghost use Rattle.ff_frame.specs.Audio.{IsAudio};
 ghost use Rattle.ff_flac_frame.specs.Frame.{IsStream, Begins};
-ghost use Rattle.ff_flac_frame.specs.Facts.{IsPart, IsFrame};
-ghost use Rattle.ff_flac_frame.specs.Parts.{part_of, frame_of};
+ghost use Rattle.ff_flac_frame.specs.laws.Facts.{IsPart, IsFrame};
+ghost use Rattle.ff_flac_frame.specs.laws.Parts.{part_of, frame_of};
 ghost use Rattle.ff_flac_dec.specs.Values.{channel_samples};
 ghost use Rattle.ff_flac_dec.specs.Channels.{AllChannels, IsCoded, IsWithinDepths, left_right, first_depth, second_depth, channels_of, interleaved, decoded};
-ghost use Rattle.ff_flac_dec.specs.Joins.{items_of};
+ghost use Rattle.ff_flac_dec.specs.laws.Joins.{items_of};
 ghost use Rattle.ff_flac_dec.specs.Streams.{stream_of};
 
 use crate::channel::{kept, samples_of};

@@ -3,7 +3,7 @@ ghost use Rattle.std.specs.Prelude.{◌≡◌, ◌≤◌, ◌==◌, if◌then◌
 ghost use Rattle.ff_frame.specs.Audio.{FitsBits};
 ghost use Rattle.ff_flac_frame.specs.Prediction.{AllInDepth};
 ghost use Rattle.ff_flac_dec.specs.Channels.{less, more, mid_left, mid_right, left_right, AllChannels, interleaved};
-ghost use Rattle.ff_flac_dec.specs.Joins.{joins};
+ghost use Rattle.ff_flac_dec.specs.laws.Joins.{joins};
 
 use crate::depth::all_fit;
 use crate::end::DecodeEnd;

@@ -2,8 +2,8 @@
 ghost use Rattle.std.specs.Prelude.{◌≡◌, ◌↔◌, List, ◌++◌, ℕ, false, IfOk, IfSome};
 ghost use Rattle.ff_flac_dec.specs.Heads.{grammar as flac_grammar, IsFlacStream, head, answered, IsOpen};
 ghost use Rattle.ff_flac_dec.specs.Streams.{IsHead};
-ghost use Rattle.ff_flac_dec.specs.HeadLaws.{is_lawful};
-ghost use Rattle.ff_flac_dec.specs.SoundLaws.{is_kept};
+ghost use Rattle.ff_flac_dec.specs.laws.HeadLaws.{is_lawful};
+ghost use Rattle.ff_flac_dec.specs.laws.SoundLaws.{is_kept};
 
 use crate::block::block_at;
 use crate::head::{BlockStep, FlacHead};

@@ -7,7 +7,7 @@ use Rattle.std.specs.Prelude.{Result, Ok, Err, IfOk}
 use Rattle.std.proofs.lemmas.List.{append-nil, append_assoc, length-map, take_all, take_more_set}
 use Rattle.std.proofs.lemmas.List.FromFn.{map-range_with_len_more}
 use Rattle.std.proofs.lemmas.List.Concat.{flat_map-append}
-use Rattle.ff_flac_enc.specs.Signal.{CanWrite}
+use Rattle.ff_flac_enc.specs.laws.Signal.{CanWrite}
 use Rattle.std.proofs.lemmas.List.Elements.{All-get_or, All-same, All-from_recursion}
 use Rattle.std.proofs.Math.Nat.{div-mul-le_self, mul-le-mul_right, le-div_iff_mul-le, div-le_of_le-mul}
 use Rattle.ff_flac_subframe.specs.rice.Least.{least}
@@ -15,7 +15,7 @@ use Rattle.ff_flac_subframe.proofs.RiceLemmas.LeastLemmas.{pick_is, range_more}
 use Rattle.ff_frame.specs.Audio.{FitsBits}
 use Rattle.ff_flac_subframe.specs.Subframe.{Spelling, subframe_bits, candidates, fixed_of, predictors, all_are, first_or_zero}
 use Rattle.ff_flac_subframe.specs.Subframe.Spelling.{constant, verbatim}
-use Rattle.ff_flac_subframe.specs.Plan.{size}
+use Rattle.ff_flac_subframe.specs.laws.Plan.{size}
 use Rattle.ff_flac_enc.specs.Layout.{signal, signals, joined, bodies, forms, layouts, layouts_with, layout_size, body, Layout}
 use Rattle.ff_flac_enc.specs.declared.head.Head.{Head}
 use Rattle.ff_flac_enc.specs.Head.{opened}

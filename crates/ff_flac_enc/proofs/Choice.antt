@@ -6,8 +6,8 @@ use Rattle.std.proofs.lemmas.Bool.Decides.{nat_tests}
 use Rattle.ff_flac_subframe.specs.rice.Least.{choose, least}
 use Rattle.ff_frame.specs.Audio.{FitsBits}
 use Rattle.ff_flac_subframe.specs.Subframe.{Spelling, subframe_bits, candidates, magnitude}
-use Rattle.ff_flac_subframe.specs.Plan.{size}
-use Rattle.ff_flac_enc.specs.Signal.{CanWrite}
+use Rattle.ff_flac_subframe.specs.laws.Plan.{size}
+use Rattle.ff_flac_enc.specs.laws.Signal.{CanWrite}
 use Rattle.ff_flac_subframe.proofs.Plans.{first_small}
 use Rattle.std.proofs.Math.Nat.{pow-suc}
 use Rattle.ff_flac_subframe.proofs.RiceLemmas.LeastLemmas.{least-append, least-map, least-same, least-shift, least-shift_right, least-flat_map}

@@ -2,7 +2,7 @@
 use Rattle.std.proofs.Common.{◌≡◌, ℕ, zero, suc, ◌+◌, ◌<◌, List, [], ◌∷◌, length, map, get_or, slice_index_or, Result, Ok, Err, IfOk, sym, refl, ap, ◌∙◌, subst, arith}
 use Rattle.std.specs.declared.alloc.AllocError.{AllocError}
 use Rattle.ff_frame.specs.declared.audio.AFrame.{AFrame}
-use Rattle.ff_flac_enc.specs.Blocks.{IsCoded, AreCoded, GiveCoded}
+use Rattle.ff_flac_enc.specs.laws.Blocks.{IsCoded, AreCoded, GiveCoded}
 
 abbrev pub Coded : Type 0
 Coded = Result (List ℕ) AllocError

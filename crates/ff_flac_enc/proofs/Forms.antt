@@ -10,15 +10,15 @@ use Rattle.ff_flac_dec.specs.Channels.{both}
 use Rattle.ff_flac_subframe.specs.rice.Least.{least}
 use Rattle.ff_flac_subframe.proofs.RiceLemmas.LeastLemmas.{least_holds}
 use Rattle.ff_flac_subframe.specs.Subframe.{Spelling, candidates, subframe_bits}
-use Rattle.ff_flac_subframe.specs.Plan.{size, spelling_of, PlanFits}
-use Rattle.ff_flac_subframe.specs.Outlook.{IsOutlook}
+use Rattle.ff_flac_subframe.specs.laws.Plan.{size, spelling_of, PlanFits}
+use Rattle.ff_flac_subframe.specs.laws.Outlook.{IsOutlook}
 use Rattle.ff_flac_subframe.specs.declared.subframe.Outlook.{Outlook}
 use Rattle.ff_flac_subframe.specs.declared.subframe.Plan.{Plan}
 use Rattle.ff_flac_subframe.specs.declared.subframe.Planned.{Planned}
 use Rattle.ff_flac_enc.specs.Channels.{best, best_bits}
-use Rattle.ff_flac_enc.specs.Choice.{fewest, IsBest, IsKnown}
+use Rattle.ff_flac_enc.specs.laws.Choice.{fewest, IsBest, IsKnown}
 use Rattle.ff_flac_enc.specs.Layout.{Layout, signals, bodies, layouts, layouts_with, body, layout_size, half, mid_of, side_of, signal}
-use Rattle.ff_flac_enc.specs.Shape.{form_of, Chooses, first_depth, first_samples, second_depth, second_samples, pair_layout}
+use Rattle.ff_flac_enc.specs.laws.Shape.{form_of, Chooses, first_depth, first_samples, second_depth, second_samples, pair_layout}
 use Rattle.ff_flac_enc.specs.declared.shape.Shape.{Shape}
 use Rattle.ff_flac_enc.specs.declared.shape.Shape.TheVariants.{Independent, LeftSide, SideRight, MidSide}
 use Rattle.ff_flac_enc.proofs.Apart.{best_is, best_found}

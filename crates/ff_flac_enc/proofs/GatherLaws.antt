@@ -24,7 +24,7 @@ use Rattle.ff_stream.specs.declared.item.Item.TheVariants.{Audio}
 use Rattle.ff_stream.specs.declared.item.Lane.TheVariants.{Frames}
 use Rattle.ff_flac_enc.specs.declared.blocks.Blocks.{Blocks}
 use Rattle.ff_flac_enc.specs.Gathered.{changed, format_of, full_size, all_samples, count_due, block_at, blocks_due, EndInTime}
-use Rattle.ff_flac_enc.specs.Cuts.{Cuts, IsLike}
+use Rattle.ff_flac_enc.specs.laws.Cuts.{Cuts, IsLike}
 use Rattle.ff_flac_enc.proofs.GatherLemmas.{within_open}
 use Rattle.ff_flac_enc.proofs.GatherState.{block_is}
 

@@ -11,7 +11,7 @@ use Rattle.ff_frame.specs.Audio.{FitsBits, IsAudio}
 use Rattle.ff_frame.specs.declared.audio.AFrame.{AFrame}
 use Rattle.ff_flac_enc.specs.declared.format.Format.{Format}
 use Rattle.ff_flac_enc.specs.Gathered.{format_of, full_size, count_due, block_at, blocks_from, IsDue, IsKept, Holds}
-use Rattle.ff_flac_enc.specs.Cuts.{IsLike}
+use Rattle.ff_flac_enc.specs.laws.Cuts.{IsLike}
 
 -- ---- how many blocks are due
 

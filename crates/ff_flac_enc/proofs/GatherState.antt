@@ -10,7 +10,7 @@ use Rattle.ff_frame.specs.declared.audio.AFrame.{AFrame}
 use Rattle.ff_flac_enc.specs.declared.format.Format.{Format}
 use Rattle.ff_flac_enc.specs.declared.blocks.Blocks.{Blocks}
 use Rattle.ff_flac_enc.specs.Gathered.{format_of, full_size, all_samples, count_due, block_at, blocks_due, EndInTime, IsDue, IsKept, Holds}
-use Rattle.ff_flac_enc.specs.Cuts.{Cuts, Goes, IsLike}
+use Rattle.ff_flac_enc.specs.laws.Cuts.{Cuts, Goes, IsLike}
 use Rattle.ff_flac_enc.proofs.GatherLemmas.{alike, within_open, takes, none_with, get_block, count_blocks}
 
 -- with a frame of this format there is a channel

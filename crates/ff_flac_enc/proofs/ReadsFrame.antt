@@ -15,7 +15,7 @@ use Rattle.std.proofs.lemmas.Nat.{pow_pos}
 use Rattle.ff_flac_frame.specs.declared.stream.FlacStream.{FlacStream}
 use Rattle.ff_flac_frame.specs.Codes.{any, equal, sync, not_zero, rate_fits, form_fits, depth_fits, depths}
 use Rattle.ff_flac_frame.specs.Frame.{Header, Part, Frame, block_of, rate_of, header, sealed_header, subframe, subframes, unpadded, padded, frame}
-use Rattle.ff_flac_subframe.specs.rice.Spells.{Reads}
+use Rattle.ff_flac_subframe.specs.laws.rice.Spells.{Reads}
 use Rattle.ff_flac_subframe.proofs.RiceLemmas.ReadsBack.{reads-give, reads-then, reads-map, reads-bits, reads-field}
 use Rattle.ff_flac_subframe.proofs.RiceLemmas.ReadsRice.{all-map, all-flat_map, all-weaker}
 use Rattle.ff_flac_frame.specs.Prediction.{AllInDepth}
@@ -23,7 +23,7 @@ use Rattle.ff_flac_dec.specs.Channels.{AllCoded, IsCoded}
 use Rattle.ff_flac_dec.specs.Values.{channel_samples, coded_samples}
 use Rattle.ff_flac_subframe.specs.Subframe.{Spelling, subframe_bits, candidates}
 use Rattle.ff_flac_subframe.specs.Subframe.Spelling.{constant, fixed, verbatim}
-use Rattle.ff_flac_subframe.specs.Part.{part_for}
+use Rattle.ff_flac_subframe.specs.laws.Part.{part_for}
 use Rattle.ff_frame.specs.Audio.{FitsBits}
 use Rattle.ff_flac_subframe.proofs.ReadsSub.{IsReadBack, candidates_read}
 use Rattle.ff_flac_subframe.proofs.Restored.{StandsFor, candidates_stand}

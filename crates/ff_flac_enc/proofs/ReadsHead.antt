@@ -8,7 +8,7 @@ use Rattle.ff_bits.specs.Reading.{◌>>=◌, give, field}
 use Rattle.ff_bits.proofs.NumberBelow.{reads_31}
 use Rattle.ff_flac_frame.specs.Codes.{any, not_zero, rate_fits, depth_fits}
 use Rattle.ff_flac_frame.specs.Frame.{block_of, rate_of}
-use Rattle.ff_flac_subframe.specs.rice.Spells.{Reads}
+use Rattle.ff_flac_subframe.specs.laws.rice.Spells.{Reads}
 use Rattle.ff_flac_subframe.proofs.RiceLemmas.ReadsBack.{reads-map, reads-value, reads-field}
 use Rattle.ff_flac_enc.specs.Head.{block_code, block_bits_by, rate_code, depth_code}
 

@@ -19,7 +19,7 @@ use Rattle.ff_flac_frame.specs.Codes.{form_fits, depths}
 use Rattle.ff_flac_frame.specs.Frame.{Frame, Begins, frame}
 use Rattle.ff_flac_dec.specs.Channels.{AllChannels, AllCoded, IsWithinDepths, both, mid_right, separated, pair, channels_of, sample_frame, interleaved, interleaved_from, decoded}
 use Rattle.ff_flac_subframe.specs.rice.Least.{least}
-use Rattle.ff_flac_subframe.specs.rice.Spells.{Reads}
+use Rattle.ff_flac_subframe.specs.laws.rice.Spells.{Reads}
 use Rattle.ff_flac_subframe.proofs.RiceLemmas.LeastLemmas.{least_holds}
 use Rattle.ff_flac_subframe.proofs.RiceLemmas.ReadsRice.{all-map, all-flat_map, all-weaker}
 use Rattle.ff_flac_enc.specs.declared.head.Head.{Head}

@@ -4,7 +4,7 @@ use Rattle.std.specs.List.{range_with_len}
 use Rattle.ff_flac_subframe.specs.rice.Least.{least}
 use Rattle.ff_flac_subframe.specs.Subframe.{Spelling, subframe_bits, candidates}
 use Rattle.ff_flac_subframe.specs.Subframe.Spelling.{verbatim}
-use Rattle.ff_flac_subframe.specs.Plan.{size}
+use Rattle.ff_flac_subframe.specs.laws.Plan.{size}
 
 -- the samples of one of n channels
 unfoldable pub channel_of : ℕ → List ℤ → ℕ → List ℤ

@@ -1,11 +1,7 @@
 pub mod Layout
-pub mod Shape
-pub mod Choice
-pub mod Signal
 pub mod Head
 pub mod Channels
 pub mod Frame
-pub mod Blocks
 pub mod Gathered
-pub mod Cuts
 pub mod Totals
+pub mod laws

@@ -2,7 +2,7 @@
 
 ghost use Rattle.std.specs.Prelude.{◌≡◌, ◌+◌, ◌<◌, ◌≤◌, ◌^◌, length, map, Ok, IfOk, All};
 ghost use Rattle.ff_flac_enc.specs.Frame.{IsBlock};
-ghost use Rattle.ff_flac_enc.specs.Blocks.{IsCoded, AreCoded, GiveCoded};
+ghost use Rattle.ff_flac_enc.specs.laws.Blocks.{IsCoded, AreCoded, GiveCoded};
 
 use crate::frame::encode_block;
 use ff_frame::{AFrame, Bytes};

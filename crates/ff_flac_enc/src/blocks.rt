@@ -73,7 +73,7 @@ fn block(alloc: Global, format: Format, pts: i64, samples: &[i32]) -> Result<AFr
 
 impl Blocks {
     ghost use Rattle.ff_flac_enc.specs.Gathered.{EndInTime, blocks_due};
-    ghost use Rattle.ff_flac_enc.specs.Cuts.{Cuts, IsLike, has_ended, format_in};
+    ghost use Rattle.ff_flac_enc.specs.laws.Cuts.{Cuts, IsLike, has_ended, format_in};
 
     /// Fed nothing, it has given no block.
     pub fn new(alloc: Global) -> Blocks

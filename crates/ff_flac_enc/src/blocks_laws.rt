@@ -13,7 +13,7 @@ ghost use Rattle.ff_stream.specs.Lanes.{IsValid};
 ghost use Rattle.ff_stream.specs.Stream.{Mark};
 ghost use Rattle.ff_flac_enc.specs.declared.blocks.Blocks.{Blocks};
 ghost use Rattle.ff_flac_enc.specs.Gathered.{EndInTime, all_samples, blocks_due, changed};
-ghost use Rattle.ff_flac_enc.specs.Cuts.{Cuts, IsLike, format_in};
+ghost use Rattle.ff_flac_enc.specs.laws.Cuts.{Cuts, IsLike, format_in};
 
 /// Whatever keeps the stream of the frames fed valid for a lane of frames can be fed, and their samples end in time.
 pub fn frames_of_a_valid_stream_can_be_fed()

@@ -3,7 +3,7 @@
 //! `specs/Layout` lists the ways to write the subframes of a frame, in the order of ties; `specs/Head` says what stands
 //! before and after them. `encode_block` writes the first of the shortest.
 //!
-//! `Blocks` gathers the samples of frames in blocks (`specs/Gathered`, `specs/Cuts`), and `Counter` what the header of a
+//! `Blocks` gathers the samples of frames in blocks (`specs/Gathered`, `specs/laws/Cuts`), and `Counter` what the header of a
 //! stream tells of its frames (`specs/Totals`).
 #![tactic(auto)]
 

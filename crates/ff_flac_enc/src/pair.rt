@@ -2,13 +2,13 @@
 
 ghost use Rattle.std.specs.Prelude.{◌≡◌, ◌+◌, ◌≤◌, ◌++◌, [], ◌∷◌, length, IfOk, OnOk, IsSome, Some, ℕ, ℤ, List};
 ghost use Rattle.ff_flac_subframe.specs.rice.Least.{least};
-ghost use Rattle.ff_flac_subframe.specs.Outlook.{IsOutlook};
+ghost use Rattle.ff_flac_subframe.specs.laws.Outlook.{IsOutlook};
 ghost use Rattle.ff_flac_enc.specs.Head.{IsHead, opened};
 ghost use Rattle.ff_flac_enc.specs.Layout.{Layout, layouts, layout_size, body, mid_of, side_of};
 ghost use Rattle.ff_flac_enc.specs.Channels.{best_bits};
-ghost use Rattle.ff_flac_enc.specs.Signal.{CanWrite};
-ghost use Rattle.ff_flac_enc.specs.Shape.{pair_layout};
-ghost use Rattle.ff_flac_enc.specs.Choice.{CanWriteFour, IsKnown, IsBest, AreOutlooks, AreKnown, ArePlanned, IsChoice};
+ghost use Rattle.ff_flac_enc.specs.laws.Signal.{CanWrite};
+ghost use Rattle.ff_flac_enc.specs.laws.Shape.{pair_layout};
+ghost use Rattle.ff_flac_enc.specs.laws.Choice.{CanWriteFour, IsKnown, IsBest, AreOutlooks, AreKnown, ArePlanned, IsChoice};
 
 use crate::head::{Head, open_frame};
 use crate::shape::{

@@ -1,8 +1,8 @@
 //! The form of two channels that has the fewest bits.
 
 ghost use Rattle.std.specs.Prelude.{◌≡◌, ◌+◌, ◌<◌, ◌≤◌, ◌^◌, ℕ, ℤ, List, IfSome, IsSome};
-ghost use Rattle.ff_flac_enc.specs.Shape.{form_of, Chooses, first_depth, first_samples, second_depth, second_samples};
-ghost use Rattle.ff_flac_enc.specs.Choice.{first_known, second_known, AreKnown, ArePlanned, IsLowest, IsChoice};
+ghost use Rattle.ff_flac_enc.specs.laws.Shape.{form_of, Chooses, first_depth, first_samples, second_depth, second_samples};
+ghost use Rattle.ff_flac_enc.specs.laws.Choice.{first_known, second_known, AreKnown, ArePlanned, IsLowest, IsChoice};
 
 use ff_flac_subframe::Plan;
 

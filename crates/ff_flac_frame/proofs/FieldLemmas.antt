@@ -7,7 +7,7 @@ use Rattle.ff_bits.specs.Reading.{Answer, Done, More, Bad, Reader, times, some, 
 use Rattle.ff_flac_frame.proofs.Loops.{with_front, times_more, times_bad}
 use Rattle.ff_flac_frame.specs.declared.end.FrameEnd.{FrameEnd}
 use Rattle.ff_flac_frame.specs.declared.end.FrameEnd.TheVariants.{NotYet, Never, NoMemory}
-use Rattle.ff_flac_frame.specs.Gives.{Fails}
+use Rattle.ff_flac_frame.specs.laws.Gives.{Fails}
 use Rattle.ff_bits.proofs.Fields.{field-whole, field-part}
 use Rattle.ff_bits.proofs.BitsLemmas.{value_below}
 

@@ -22,7 +22,7 @@ use Rattle.ff_flac_frame.specs.declared.subframe.SubKind.TheVariants.{Fixed, Lpc
 use Rattle.ff_flac_frame.specs.Codes.{any, equal, below, sync, not_zero, block_table, rate_fits, form_fits, depth_fits, kind_fits, kind_of, order_of, warm_count, order_fits, depths}
 use Rattle.ff_flac_frame.specs.Frame.{IsStream, Part, block_of, rate_of, header, sample, zigzag, residual_limit, quotient_limit, rice, partition, partitions, residual, wasted_bits, predictor, subframe, subframes, sealed_header, unpadded, padded, frame}
 use Rattle.ff_frame.specs.Audio.{FitsBits}
-use Rattle.ff_flac_frame.specs.Facts.{IsResidual, HasShape, IsPart, AreParts, IsHeader, IsFrame}
+use Rattle.ff_flac_frame.specs.laws.Facts.{IsResidual, HasShape, IsPart, AreParts, IsHeader, IsFrame}
 
 -- ---- tools
 

@@ -7,7 +7,7 @@ use Rattle.ff_bits.proofs.Sound.{done_same}
 use Rattle.ff_bits.proofs.BitsLemmas.{length-bits, bits-append}
 use Rattle.ff_flac_frame.specs.declared.stream.FlacStream.{FlacStream}
 use Rattle.ff_flac_frame.specs.Frame.{Frame, IsStream, frame, Begins}
-use Rattle.ff_flac_frame.specs.Facts.{IsFrame}
+use Rattle.ff_flac_frame.specs.laws.Facts.{IsFrame}
 use Rattle.ff_flac_frame.proofs.FrameSound.{IsSound-frame}
 
 pub apart : (s : FlacStream) (bytes : List ℕ) (f g : Frame) (m n : ℕ) → Begins s bytes f m → Begins s bytes g n → (m ≡ n) × (f ≡ g)

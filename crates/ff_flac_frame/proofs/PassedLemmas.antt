@@ -3,8 +3,8 @@ use Rattle.std.proofs.Common.{◌≡◌, ℕ, ◌-◌, ◌≤◌, List, [], ◌+
 use Rattle.ff_bits.specs.Reading.{Answer, Done, More, Bad, Reader, on, give, times}
 use Rattle.ff_flac_frame.specs.declared.end.FrameEnd.{FrameEnd}
 use Rattle.ff_flac_frame.specs.declared.end.FrameEnd.TheVariants.{NotYet, Never, NoMemory}
-use Rattle.ff_flac_frame.specs.Gives.{Fails}
-use Rattle.ff_flac_frame.specs.Front.{with_front}
+use Rattle.ff_flac_frame.specs.laws.Gives.{Fails}
+use Rattle.ff_flac_frame.specs.laws.Front.{with_front}
 use Rattle.ff_flac_frame.specs.Frame.{Header, Frame}
 use Rattle.ff_flac_frame.proofs.Loops.{times_go_on}
 

@@ -9,7 +9,7 @@ use Rattle.std.proofs.lemmas.List.{get_or_append_left, get_or_push, length_push,
 use Rattle.std.proofs.Math.Nat.{pow-le-pow_right}
 use Rattle.ff_frame.specs.Audio.{FitsBits}
 use Rattle.ff_flac_frame.proofs.FrameSound.{fits_low, fits_high, FitsBits-wider}
-use Rattle.ff_flac_frame.specs.Bounds.{IsSmall, IsBounded, IsWide}
+use Rattle.ff_flac_frame.specs.laws.Bounds.{IsSmall, IsBounded, IsWide}
 use Rattle.ff_flac_frame.specs.Prediction.{ago, restored, AllInDepth}
 
 pub IsSmall-in_depth : (depth : ℕ) (x : ℤ) → depth ≤ 25 → FitsBits depth x → IsSmall x

@@ -7,8 +7,8 @@ use Rattle.std.proofs.lemmas.Bool.{and_parts, leb-true}
 use Rattle.ff_bits.specs.Reading.{Answer, Done, More, Bad, Reader, on, give}
 use Rattle.ff_flac_frame.specs.declared.end.FrameEnd.{FrameEnd}
 use Rattle.ff_flac_frame.specs.declared.end.FrameEnd.TheVariants.{NotYet, Never, NoMemory}
-use Rattle.ff_flac_frame.specs.Gives.{Fails}
-use Rattle.ff_flac_frame.specs.Front.{with_front}
+use Rattle.ff_flac_frame.specs.laws.Gives.{Fails}
+use Rattle.ff_flac_frame.specs.laws.Front.{with_front}
 use Rattle.ff_flac_frame.specs.Codes.{order_fits}
 use Rattle.ff_flac_frame.specs.Frame.{partition, partitions}
 

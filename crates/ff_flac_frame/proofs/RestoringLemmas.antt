@@ -3,7 +3,7 @@ use Rattle.std.proofs.Common.{◌≡◌, ◌∙◌, ◌≤◌, ◌+◌, Bool, tr
 use Rattle.std.specs.Int.{w64}
 use Rattle.ff_flac_frame.specs.declared.predictor.Predictor.{Predictor}
 use Rattle.ff_flac_frame.specs.Prediction.{ago, fixed, linear, restored, AllInDepth}
-use Rattle.ff_flac_frame.specs.Restoring.{predicted, IsPredictor, IsReady, Restores}
+use Rattle.ff_flac_frame.specs.laws.Restoring.{predicted, IsPredictor, IsReady, Restores}
 use Rattle.ff_flac_frame.proofs.PredictionLemmas.{IsSmall-last, small_same64, restored-front, restored_more}
 
 -- some residuals more, and their samples

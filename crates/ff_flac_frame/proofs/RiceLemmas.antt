@@ -5,11 +5,11 @@ use Rattle.std.proofs.Math.Nat.{le-div_iff_mul-le}
 use Rattle.std.proofs.lemmas.Nat.{pow_pos}
 use Rattle.std.proofs.lemmas.Bool.{lt-ltb, le-ltb, cases_lt}
 use Rattle.ff_bits.specs.Reading.{Done, Bad, zeros, field}
-use Rattle.ff_bits.specs.Reads.{IsCoded}
+use Rattle.ff_bits.specs.laws.Reads.{IsCoded}
 use Rattle.ff_bits.proofs.LimitedZeros.{zeros_ended, zeros_too_many}
 use Rattle.ff_flac_frame.specs.declared.end.FrameEnd.{FrameEnd}
 use Rattle.ff_flac_frame.specs.declared.end.FrameEnd.TheVariants.{Never}
-use Rattle.ff_flac_frame.specs.Gives.{Gives, Fails}
+use Rattle.ff_flac_frame.specs.laws.Gives.{Gives, Fails}
 use Rattle.ff_flac_frame.specs.Codes.{below}
 use Rattle.ff_flac_frame.specs.Frame.{residual_limit, quotient_limit, zigzag, rice}
 use Rattle.ff_flac_frame.proofs.FieldLemmas.{took, refused}

@@ -3,7 +3,7 @@ use Rattle.std.proofs.Common.{◌≡◌, ℕ, zero, suc, ◌+◌, ◌-◌, ◌*�
 use Rattle.std.proofs.lemmas.List.{take-append-drop, drop_at, append-nil, drop_more, drop_all}
 use Rattle.std.proofs.Common.{get_or}
 use Rattle.ff_flac_frame.proofs.Loops.{regroup}
-use Rattle.ff_flac_frame.specs.Front.{with_front}
+use Rattle.ff_flac_frame.specs.laws.Front.{with_front}
 use Rattle.ff_bits.specs.Bits.{bits}
 use Rattle.ff_bits.specs.Reading.{Answer, Done, More, Bad, Reader, on, ◌>>=◌, give, field, with_text, and_text}
 use Rattle.ff_bits.specs.NumberGrammar.{is_within, follow, opened, sixes, coded_below}
@@ -12,7 +12,7 @@ use Rattle.ff_bits.proofs.Sound.{field_length, done_of, take_text}
 use Rattle.ff_bits.proofs.BitsLemmas.{length-bits, bits-append, drop-bits}
 use Rattle.ff_flac_frame.specs.declared.end.FrameEnd.{FrameEnd}
 use Rattle.ff_flac_frame.specs.declared.end.FrameEnd.TheVariants.{NotYet, Never, NoMemory}
-use Rattle.ff_flac_frame.specs.Gives.{Fails}
+use Rattle.ff_flac_frame.specs.laws.Gives.{Fails}
 use Rattle.ff_flac_frame.specs.Codes.{any, equal, below, sync, not_zero, rate_fits, form_fits, depth_fits}
 use Rattle.ff_flac_frame.specs.declared.stream.FlacStream.{FlacStream}
 use Rattle.ff_flac_frame.specs.Frame.{IsStream, Header, Part, Frame, subframe, subframes, block_of, rate_of, header, sealed_header, unpadded, padded, frame, Begins, IsNotYet, IsNever}

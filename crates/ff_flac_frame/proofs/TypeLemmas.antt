@@ -5,7 +5,7 @@ use Rattle.std.proofs.lemmas.Bool.{agree_below_at, and_parts, eqb-true}
 use Rattle.ff_flac_frame.specs.declared.subframe.SubKind.{SubKind}
 use Rattle.ff_flac_frame.specs.declared.subframe.SubKind.TheVariants.{Constant, Verbatim, Fixed, Lpc}
 use Rattle.ff_flac_frame.specs.Codes.{kind_of, order_of, kind_fits}
-use Rattle.ff_flac_frame.specs.Types.{Row, table, row_of, IsTypeBy, IsType}
+use Rattle.ff_flac_frame.specs.laws.Types.{Row, table, row_of, IsTypeBy, IsType}
 
 number_of : SubKind → ℕ
 number_of Constant = 0

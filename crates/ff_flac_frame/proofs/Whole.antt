@@ -9,7 +9,7 @@ use Rattle.ff_bits.proofs.Sound.{field_length, done_of}
 use Rattle.ff_bits.proofs.BitsLemmas.{length-bits, bits-append, bytes_of, bits-bytes_of, bytes_of-below, drop-bits}
 use Rattle.ff_flac_frame.specs.Codes.{equal}
 use Rattle.ff_flac_frame.specs.declared.stream.FlacStream.{FlacStream}
-use Rattle.ff_flac_frame.specs.Facts.{IsFrame}
+use Rattle.ff_flac_frame.specs.laws.Facts.{IsFrame}
 use Rattle.ff_flac_frame.specs.Frame.{IsStream, Frame, unpadded, padded, frame, Begins, IsNotYet, IsNever}
 use Rattle.ff_flac_frame.proofs.FrameSound.{IsSound-unpadded, IsSound-padded, IsSound-frame}
 

@@ -1,13 +1,5 @@
-pub mod Bounds
 pub mod Prediction
 pub mod Codes
-pub mod Types
 pub mod Frame
-pub mod Facts
-pub mod Rules
-pub mod Gives
-pub mod Front
-pub mod Passed
-pub mod Parts
-pub mod Restoring
 pub mod Restored
+pub mod laws

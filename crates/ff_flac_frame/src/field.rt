@@ -2,8 +2,8 @@
 ghost use Rattle.std.specs.Prelude.{◌≡◌, ◌<◌, ◌≤◌, ◌^◌, length, IfOk, true};
 ghost use Rattle.ff_bits.specs.Reading.{field};
 ghost use Rattle.ff_flac_frame.specs.Codes.{below};
-ghost use Rattle.ff_flac_frame.specs.Rules.{passes};
-ghost use Rattle.ff_flac_frame.specs.Gives.{Gives, Fails};
+ghost use Rattle.ff_flac_frame.specs.laws.Rules.{passes};
+ghost use Rattle.ff_flac_frame.specs.laws.Gives.{Gives, Fails};
 
 use crate::end::FrameEnd;
 use crate::rule::{Rule, is_passed, is_passed_by_some};

@@ -2,7 +2,7 @@
 ghost use Rattle.std.specs.Prelude.{◌≡◌, ◌<◌, ◌≤◌, ◌^◌, ◌-◌, IsTrue, ◌↔◌, length, pos, ◌*ℤ◌, ◌-ℤ◌, ◌+ℤ◌, FitsSigned};
 ghost use Rattle.std.specs.Int.{w64};
 ghost use Rattle.ff_frame.specs.Audio.{FitsBits};
-ghost use Rattle.ff_flac_frame.specs.Bounds.{IsSmall, IsBounded, IsWide};
+ghost use Rattle.ff_flac_frame.specs.laws.Bounds.{IsSmall, IsBounded, IsWide};
 ghost use Rattle.ff_flac_frame.specs.Prediction.{ago, fixed, AllInDepth};
 
 /// Whether a sample is within the depth.

@@ -4,8 +4,8 @@ ghost use Rattle.ff_bits.specs.Bits.{bits};
 ghost use Rattle.ff_bits.specs.Reading.{Done};
 ghost use Rattle.ff_flac_frame.specs.Codes.{depths};
 ghost use Rattle.ff_flac_frame.specs.Frame.{IsStream, Frame, sealed_header, unpadded, frame, subframes, Begins, IsNotYet, IsNever};
-ghost use Rattle.ff_flac_frame.specs.Gives.{Gives};
-ghost use Rattle.ff_flac_frame.specs.Parts.{header_of, part_of, read_of, frame_of};
+ghost use Rattle.ff_flac_frame.specs.laws.Gives.{Gives};
+ghost use Rattle.ff_flac_frame.specs.laws.Parts.{header_of, part_of, read_of, frame_of};
 
 use crate::end::FrameEnd;
 use crate::field::read_field;

@@ -4,8 +4,8 @@ ghost use Rattle.ff_bits.specs.Reading.{field, give};
 ghost use Rattle.ff_bits.specs.NumberGrammar.{coded_below, of_31_bits, of_36_bits};
 ghost use Rattle.ff_flac_frame.specs.Codes.{block_table};
 ghost use Rattle.ff_flac_frame.specs.Frame.{block_of, rate_of, header};
-ghost use Rattle.ff_flac_frame.specs.Gives.{Gives};
-ghost use Rattle.ff_flac_frame.specs.Parts.{header_of};
+ghost use Rattle.ff_flac_frame.specs.laws.Gives.{Gives};
+ghost use Rattle.ff_flac_frame.specs.laws.Parts.{header_of};
 
 use crate::end::FrameEnd;
 use crate::field::read_field;

@@ -3,8 +3,8 @@
 ghost use Rattle.std.specs.Prelude.{◌≡◌, ◌<◌, ℕ, List, ◌++◌, take};
 ghost use Rattle.ff_flac_frame.specs.declared.stream.FlacStream.{FlacStream};
 ghost use Rattle.ff_flac_frame.specs.Frame.{Frame, IsStream, Begins};
-ghost use Rattle.ff_flac_frame.specs.Facts.{IsFrame};
-ghost use Rattle.ff_flac_frame.specs.Types.{IsType};
+ghost use Rattle.ff_flac_frame.specs.laws.Facts.{IsFrame};
+ghost use Rattle.ff_flac_frame.specs.laws.Types.{IsType};
 
 /// Bytes begin with one frame at most, and it has one length.
 pub fn frames_are_apart()

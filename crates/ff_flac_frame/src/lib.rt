@@ -1,7 +1,7 @@
 //! FLAC frames, from their bytes (RFC 9639, section 9).
 //!
 //! `specs/Frame` says what a frame is, by readers on the list of an input's bits, one for each part of the grammar.
-//! Each has three answers: a value, more bits may make one, no bits will. `specs/Facts` says what holds of each
+//! Each has three answers: a value, more bits may make one, no bits will. `specs/laws/Facts` says what holds of each
 //! frame. `frame_at` reads the frame that begins some bytes, and `frame_size_at` only how long it is: that one keeps
 //! no residual.
 //!

@@ -4,7 +4,7 @@ ghost use Rattle.std.specs.Int.{w32};
 ghost use Rattle.ff_bits.specs.Reading.{zeros};
 ghost use Rattle.ff_bits.specs.Integers.{signed};
 ghost use Rattle.ff_flac_frame.specs.Frame.{zigzag, sample, rice, residual_limit, quotient_limit};
-ghost use Rattle.ff_flac_frame.specs.Gives.{Gives};
+ghost use Rattle.ff_flac_frame.specs.laws.Gives.{Gives};
 
 use crate::end::FrameEnd;
 use crate::field::{read_below, read_field};

@@ -4,8 +4,8 @@ ghost use Rattle.std.specs.Prelude.{◌≡◌, ◌<◌, ◌≤◌, nat_lt, if◌
 ghost use Rattle.ff_bits.specs.Reading.{times, give};
 ghost use Rattle.ff_flac_frame.specs.Codes.{order_of};
 ghost use Rattle.ff_flac_frame.specs.Frame.{sample, rice, partition, partitions, residual, subframe};
-ghost use Rattle.ff_flac_frame.specs.Gives.{Gives};
-ghost use Rattle.ff_flac_frame.specs.Passed.{passed};
+ghost use Rattle.ff_flac_frame.specs.laws.Gives.{Gives};
+ghost use Rattle.ff_flac_frame.specs.laws.Passed.{passed};
 
 use crate::end::FrameEnd;
 use crate::field::read_field;

@@ -3,7 +3,7 @@
 ghost use Rattle.std.specs.Prelude.{◌≡◌, ◌≤◌, ◌+◌, ◌+ℤ◌, ◌++◌, List, ℤ, true, IfOk, OnOk, IfErr, IsTrue, ◌↔◌, [], ◌∷◌, FitsSigned, vec_len, vec_capacity};
 ghost use Rattle.std.specs.Int.{w64};
 ghost use Rattle.ff_flac_frame.specs.Prediction.{ago, restored, AllInDepth};
-ghost use Rattle.ff_flac_frame.specs.Restoring.{predicted, IsLinear, IsPredictor, IsReady, Follows};
+ghost use Rattle.ff_flac_frame.specs.laws.Restoring.{predicted, IsLinear, IsPredictor, IsReady, Follows};
 
 use crate::end::FrameEnd;
 use crate::fixed::{is_in_depth, next_fixed};

@@ -4,9 +4,9 @@ ghost use Rattle.std.specs.Prelude.{◌≡◌, ◌<◌, ◌≤◌, ◌^◌, IfOk
 ghost use Rattle.ff_bits.specs.Reading.{times, give};
 ghost use Rattle.ff_flac_frame.specs.Codes.{kind_of, order_of, warm_count};
 ghost use Rattle.ff_flac_frame.specs.Frame.{sample, residual, wasted_bits, predictor, subframe};
-ghost use Rattle.ff_flac_frame.specs.Gives.{Gives};
-ghost use Rattle.ff_flac_frame.specs.Parts.{part_of};
-ghost use Rattle.ff_flac_frame.specs.Restoring.{Follows};
+ghost use Rattle.ff_flac_frame.specs.laws.Gives.{Gives};
+ghost use Rattle.ff_flac_frame.specs.laws.Parts.{part_of};
+ghost use Rattle.ff_flac_frame.specs.laws.Restoring.{Follows};
 
 use crate::end::FrameEnd;
 use crate::field::read_field;

@@ -4,9 +4,9 @@ ghost use Rattle.std.specs.Prelude.{◌≡◌, ◌<◌, ◌≤◌, ◌^◌, ◌+
 ghost use Rattle.std.specs.Int.{w32};
 ghost use Rattle.ff_bits.specs.Reading.{Done, times};
 ghost use Rattle.ff_flac_frame.specs.Frame.{sample, rice, partition, partitions, residual};
-ghost use Rattle.ff_flac_frame.specs.Gives.{Gives};
-ghost use Rattle.ff_flac_frame.specs.Front.{with_front};
-ghost use Rattle.ff_flac_frame.specs.Restoring.{Follows};
+ghost use Rattle.ff_flac_frame.specs.laws.Gives.{Gives};
+ghost use Rattle.ff_flac_frame.specs.laws.Front.{with_front};
+ghost use Rattle.ff_flac_frame.specs.laws.Restoring.{Follows};
 
 use crate::end::FrameEnd;
 use crate::field::read_field;

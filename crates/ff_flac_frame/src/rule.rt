@@ -2,7 +2,7 @@
 ghost use Rattle.std.specs.Prelude.{◌≡◌, ◌<◌, ◌≤◌, ◌^◌, ◌-◌, slice_index};
 ghost use Rattle.ff_bits.specs.Reading.{some};
 ghost use Rattle.ff_flac_frame.specs.Codes.{rate_table, rate_fits, form_fits, depth_fits, order_of, kind_fits, order_fits};
-ghost use Rattle.ff_flac_frame.specs.Rules.{passes};
+ghost use Rattle.ff_flac_frame.specs.laws.Rules.{passes};
 
 /// Which values of a field are accepted.
 #[derive(Clone, Copy)]

@@ -3,9 +3,9 @@
 ghost use Rattle.std.specs.Prelude.{◌≡◌, ◌≤◌, IfOk, IsErrOf, EachIndex, slice_index};
 ghost use Rattle.ff_bits.specs.Bits.{bits};
 ghost use Rattle.ff_flac_frame.specs.Frame.{IsStream, Frame, unpadded, frame, subframes, Begins, IsNotYet, IsNever};
-ghost use Rattle.ff_flac_frame.specs.Gives.{Gives};
-ghost use Rattle.ff_flac_frame.specs.Parts.{header_of};
-ghost use Rattle.ff_flac_frame.specs.Passed.{passed, header_alone};
+ghost use Rattle.ff_flac_frame.specs.laws.Gives.{Gives};
+ghost use Rattle.ff_flac_frame.specs.laws.Parts.{header_of};
+ghost use Rattle.ff_flac_frame.specs.laws.Passed.{passed, header_alone};
 
 use crate::end::FrameEnd;
 use crate::frame::{depths_of, read_end, read_head};

@@ -6,8 +6,8 @@ use Rattle.ff_flac_subframe.specs.rice.Least.{least}
 use Rattle.ff_flac_subframe.proofs.RiceLemmas.LeastLemmas.{least_holds}
 use Rattle.ff_flac_subframe.specs.declared.subframe.Planned.{Planned}
 use Rattle.ff_flac_subframe.specs.Subframe.{candidates, all_are, first_or_zero}
-use Rattle.ff_flac_subframe.specs.Plan.{spelling_of, size}
-use Rattle.ff_flac_subframe.specs.Leads.{IsFloor}
+use Rattle.ff_flac_subframe.specs.laws.Plan.{spelling_of, size}
+use Rattle.ff_flac_subframe.specs.laws.Leads.{IsFloor}
 use Rattle.ff_flac_subframe.proofs.ReadsSub.{all-candidates}
 use Rattle.ff_flac_subframe.proofs.Plans.{size-constant, size-verbatim, lower_floor_of}
 

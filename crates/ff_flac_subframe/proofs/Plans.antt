@@ -15,8 +15,8 @@ use Rattle.ff_flac_subframe.specs.rice.Rice.{zigzagged, Coding, codings, residua
 use Rattle.ff_frame.specs.Audio.{FitsBits}
 use Rattle.ff_flac_subframe.specs.Subframe.{Spelling, magnitude, steps, subframe_bits, sample_bits, rest_of, fixed_of, predictors, candidates, all_are, first_or_zero}
 use Rattle.ff_flac_subframe.specs.Subframe.Spelling.{constant, fixed, verbatim}
-use Rattle.ff_flac_subframe.specs.Plan.{spelling_of, size, IsBestPlan, PlanFits, constants}
-use Rattle.ff_flac_subframe.specs.Leads.{so_far, IsFloor, Leads}
+use Rattle.ff_flac_subframe.specs.laws.Plan.{spelling_of, size, IsBestPlan, PlanFits, constants}
+use Rattle.ff_flac_subframe.specs.laws.Leads.{so_far, IsFloor, Leads}
 use Rattle.ff_flac_subframe.proofs.RiceLemmas.LeastLemmas.{choose_first, choose_second, choose_assoc, least-append, least-map, least-same, least-shift, least_holds, least_one, least-nil, choose-map, range_more}
 use Rattle.ff_flac_subframe.proofs.RiceLemmas.Levels.{coding_cost}
 use Rattle.ff_flac_subframe.proofs.RiceLemmas.Orders.{filter_all, filter_none, range_between, range_split}

@@ -7,7 +7,7 @@ use Rattle.std.proofs.lemmas.List.Elements.{All-from_recursion, recursion_from_A
 use Rattle.std.proofs.lemmas.List.{length-append, length-drop, append_assoc, append-nil, drop_more, drop-drop, drop-set-lt, take_more, take_more_set, map-append}
 use Rattle.ff_bits.proofs.BitsLemmas.{length-bits_of}
 use Rattle.ff_frame.specs.Audio.{FitsBits}
-use Rattle.ff_flac_frame.specs.Bounds.{IsSmall, IsBounded, IsWide}
+use Rattle.ff_flac_frame.specs.laws.Bounds.{IsSmall, IsBounded, IsWide}
 use Rattle.ff_flac_subframe.specs.rice.Rice.{zigzagged}
 use Rattle.ff_flac_subframe.specs.Subframe.{steps, steps_from, rest_of, magnitude, sample_bits}
 

@@ -16,15 +16,15 @@ use Rattle.ff_flac_frame.specs.declared.subframe.SubKind.{SubKind}
 use Rattle.ff_flac_frame.specs.declared.subframe.SubKind.TheVariants.{Constant, Verbatim, Fixed}
 use Rattle.ff_flac_frame.specs.Codes.{any, equal, kind_fits, kind_of, order_of, warm_count}
 use Rattle.ff_flac_frame.specs.Frame.{Part, sample, residual, wasted_bits, predictor, subframe}
-use Rattle.ff_flac_frame.specs.Facts.{IsResidual}
-use Rattle.ff_flac_subframe.specs.rice.Spells.{Reads}
+use Rattle.ff_flac_frame.specs.laws.Facts.{IsResidual}
+use Rattle.ff_flac_subframe.specs.laws.rice.Spells.{Reads}
 use Rattle.ff_flac_subframe.specs.rice.Rice.{zigzagged, Coding, codings, residual_bits}
 use Rattle.ff_flac_subframe.proofs.RiceLemmas.ReadsBack.{reads-give, reads-then, reads-map, reads-bits, reads-value, reads-if_false, reads-if_true, reads-field, reads-times}
 use Rattle.ff_flac_subframe.proofs.RiceLemmas.ReadsRice.{all-map, all-flat_map, all-weaker, all-filter, codings_read}
 use Rattle.ff_flac_subframe.proofs.RiceLemmas.PartLemmas.{range_below}
 use Rattle.ff_flac_subframe.specs.Subframe.{Spelling, magnitude, sample_bits, subframe_bits, steps, rest_of, first_or_zero, all_are, fixed_of, predictors, candidates}
 use Rattle.ff_flac_subframe.specs.Subframe.Spelling.{constant, fixed, verbatim}
-use Rattle.ff_flac_subframe.specs.Part.{part_for}
+use Rattle.ff_flac_subframe.specs.laws.Part.{part_for}
 use Rattle.ff_flac_subframe.proofs.Predict.{magnitude_of, length-rest_of, from_below, above, steps_small, rest_of-suc, rest_of-zero}
 
 two_halves : (depth : ℕ) → 0 < depth → 2 ^ depth ≡ 2 * 2 ^ (depth - 1)

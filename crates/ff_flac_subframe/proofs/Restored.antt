@@ -13,7 +13,7 @@ use Rattle.std.proofs.lemmas.Bool.Decides.{Decides-int_eq}
 use Rattle.ff_flac_subframe.specs.rice.Rice.{Coding, codings}
 use Rattle.ff_flac_subframe.specs.Subframe.{Spelling, rest_of, first_or_zero, all_are, fixed_of, candidates}
 use Rattle.ff_flac_subframe.specs.Subframe.Spelling.{constant, fixed, verbatim}
-use Rattle.ff_flac_subframe.specs.Part.{part_for}
+use Rattle.ff_flac_subframe.specs.laws.Part.{part_for}
 use Rattle.ff_flac_subframe.proofs.ReadsSub.{all-candidates}
 use Rattle.ff_flac_subframe.proofs.Predict.{at, length-rest_of, rest_of-zero, prediction_1, prediction_2, prediction_3, prediction_4}
 

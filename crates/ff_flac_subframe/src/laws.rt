@@ -6,10 +6,10 @@ ghost use Rattle.ff_frame.specs.Audio.{FitsBits};
 ghost use Rattle.ff_flac_frame.specs.Frame.{subframe};
 ghost use Rattle.ff_flac_dec.specs.Values.{channel_samples};
 ghost use Rattle.ff_flac_subframe.specs.rice.Least.{least, IsFirstLeast};
-ghost use Rattle.ff_flac_subframe.specs.rice.Spells.{Reads};
+ghost use Rattle.ff_flac_subframe.specs.laws.rice.Spells.{Reads};
 ghost use Rattle.ff_flac_subframe.specs.Subframe.{Spelling, subframe_bits, candidates};
-ghost use Rattle.ff_flac_subframe.specs.Part.{part_for};
-ghost use Rattle.ff_flac_subframe.specs.Plan.{size};
+ghost use Rattle.ff_flac_subframe.specs.laws.Part.{part_for};
+ghost use Rattle.ff_flac_subframe.specs.laws.Plan.{size};
 
 /// Whichever candidate writes samples of this depth, a reader of the grammar takes its bits, whatever follows them, and gives
 /// the subframe that was written.

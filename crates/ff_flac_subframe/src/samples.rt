@@ -3,7 +3,7 @@
 ghost use Rattle.std.specs.Prelude.{◌≡◌, ◌+◌, ◌-◌, ◌*◌, ◌^◌, ◌<◌, ◌≤◌, ◌++◌, length, map, take, slice_index_or, ℤ, pos, ◌+ℤ◌, ◌-ℤ◌, ◌*ℤ◌, IfOk, OnOk, All};
 ghost use Rattle.std.specs.List.{flat_map, list_all};
 ghost use Rattle.std.specs.Ordering.{int_eq};
-ghost use Rattle.ff_flac_frame.specs.Bounds.{IsSmall, IsBounded, IsWide};
+ghost use Rattle.ff_flac_frame.specs.laws.Bounds.{IsSmall, IsBounded, IsWide};
 ghost use Rattle.ff_flac_subframe.specs.rice.Rice.{zigzagged};
 ghost use Rattle.ff_bits.specs.Integers.{unsigned};
 ghost use Rattle.ff_frame.specs.Audio.{FitsBits};

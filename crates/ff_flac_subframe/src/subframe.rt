@@ -3,12 +3,12 @@
 ghost use Rattle.std.specs.Prelude.{◌≡◌, ◌+◌, ◌-◌, ◌*◌, ◌^◌, ◌<◌, ◌≤◌, ◌++◌, List, length, map, min, slice_index, IfOk, OnOk, All, None, Ok, Some, ℕ};
 ghost use Rattle.std.specs.List.{AllByRecursion};
 ghost use Rattle.ff_flac_subframe.specs.rice.Rice.{zigzagged};
-ghost use Rattle.ff_flac_subframe.specs.Leads.{so_far, IsFloor, Leads};
+ghost use Rattle.ff_flac_subframe.specs.laws.Leads.{so_far, IsFloor, Leads};
 ghost use Rattle.ff_flac_subframe.specs.rice.Least.{choose, least};
 ghost use Rattle.ff_frame.specs.Audio.{FitsBits};
 ghost use Rattle.ff_flac_subframe.specs.Subframe.{magnitude, rest_of, subframe_bits, candidates, fixed_of, Spelling};
-ghost use Rattle.ff_flac_subframe.specs.Plan.{spelling_of, size, IsBestPlan, PlanFits, constants};
-ghost use Rattle.ff_flac_subframe.specs.Outlook.{IsOutlook};
+ghost use Rattle.ff_flac_subframe.specs.laws.Plan.{spelling_of, size, IsBestPlan, PlanFits, constants};
+ghost use Rattle.ff_flac_subframe.specs.laws.Outlook.{IsOutlook};
 
 use crate::rice::{best_coding, coding_below, least_bits, write_residual};
 use crate::samples::{are_equal, greatest_zigzag, put_sample, put_samples, take_steps, zigzags_by};

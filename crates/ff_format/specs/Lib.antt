@@ -1,6 +1,4 @@
 pub mod Formats
 pub mod Layouts
-pub mod Bodies
 pub mod Outputs
-pub mod Patches
-pub mod Patched
+pub mod laws

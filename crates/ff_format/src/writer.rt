@@ -3,7 +3,7 @@ ghost use Rattle.std.specs.Prelude.{◌≡◌, ◌+◌, ◌↔◌, ◌≤◌, �
 ghost use Rattle.ff_frame.specs.declared.packet.Pkt.{Pkt as Packet};
 ghost use Rattle.ff_frame.specs.declared.totals.Totals.{Totals};
 ghost use Rattle.ff_format.specs.Layouts.{Layout, IsBeyond, body};
-ghost use Rattle.ff_format.specs.Patches.{replacing, IsInside};
+ghost use Rattle.ff_format.specs.laws.Patches.{replacing, IsInside};
 
 use ff_frame::{Pkt, Totals};
 use std::alloc::{AllocError, Global};

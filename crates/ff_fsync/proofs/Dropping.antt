@@ -3,12 +3,12 @@ use Rattle.std.specs.Prelude.{◌≡◌, ℕ, suc, ◌+◌, ◌<◌, ◌≤◌, 
 use Rattle.std.proofs.Common.{inl, inr, ap, sym, ◌∙◌, subst, arith}
 use Rattle.std.proofs.lemmas.Bool.{cases_Bool, cases_lt, or_left, or_right, and_parts, and_from, and_left, le-leb, lt-leb, ne_eqb, false_from_ne_true}
 use Rattle.ff_stream.specs.Stream.{Stream, is_open, is_whole, is_broken}
-use Rattle.ff_stream.specs.Order.{same_stream}
+use Rattle.ff_stream.specs.laws.Order.{same_stream}
 use Rattle.ff_fsync.specs.Events.{events_same}
 use Rattle.ff_fsync.specs.Ranges.{all_to, any_to, all_at, all_from, any_at, any_from, none_from, all_same, any_same}
 use Rattle.ff_fsync.specs.Synced.{is_empty, some_of, each_of, last_of, later_of, pick, all_ended, ended_mark, mark_by, Timing, starts, begun, reached, is_known, is_ready, is_shown, pictures, horizon, outlasts, is_complete, allows, may_come, goes_on, synced_mark, synced_from}
-use Rattle.ff_fsync.specs.Rising.{Rises, some_append, last_append, rises_drop}
-use Rattle.ff_fsync.specs.SyncLaws.{open_is, Risen, Alike, AllReached, clash, alike_shown, alike_pictures, reached_sooner, complete_cases, complete_all, complete_ends, shown_enough, goes_on_cases, goes_on_by}
+use Rattle.ff_fsync.specs.laws.Rising.{Rises, some_append, last_append, rises_drop}
+use Rattle.ff_fsync.specs.laws.SyncLaws.{open_is, Risen, Alike, AllReached, clash, alike_shown, alike_pictures, reached_sooner, complete_cases, complete_all, complete_ends, shown_enough, goes_on_cases, goes_on_by}
 
 same_bool : (a b : Bool) → (a ≡ true → b ≡ true) → (b ≡ true → a ≡ true) → a ≡ b
 same_bool true b f g = sym (f refl)

@@ -12,11 +12,11 @@ use Rattle.ff_filter.specs.Shifts.{start_ticks}
 use Rattle.ff_fsync.specs.declared.input.Input.{Input}
 use Rattle.ff_fsync.specs.Ranges.{all_to, all_at, all_from, any_from, none_from, not_all, fails_from}
 use Rattle.ff_fsync.specs.Synced.{starts, begun, reached, is_known, is_ready, is_shown}
-use Rattle.ff_fsync.specs.Rising.{some_found}
-use Rattle.ff_fsync.specs.SyncLaws.{clash, reached_sooner}
+use Rattle.ff_fsync.specs.laws.Rising.{some_found}
+use Rattle.ff_fsync.specs.laws.SyncLaws.{clash, reached_sooner}
 use Rattle.ff_fsync.specs.Sides.{Side, side_at}
-use Rattle.ff_fsync.specs.Inputs.{items_of, starts_at, begun_by, reaches, IsNextIn}
-use Rattle.ff_fsync.specs.Syncs.{side_of, sides_of, standing_of, timing_of, IsStart, NoneFrom, IsLeast, LeastOf, IsDue, sooner_of}
+use Rattle.ff_fsync.specs.laws.Inputs.{items_of, starts_at, begun_by, reaches, IsNextIn}
+use Rattle.ff_fsync.specs.laws.Syncs.{side_of, sides_of, standing_of, timing_of, IsStart, NoneFrom, IsLeast, LeastOf, IsDue, sooner_of}
 
 pub side_there : (lane : Lane) (is : List Input) (p : ℕ) (i : Input) → p < length is → i ≡ get_or is p i → side_at lane (sides_of is) p ≡ side_of i
 side_there lane [] p i lt e = absurd (omega (arith, lt))

@@ -9,8 +9,8 @@ use Rattle.ff_stream.specs.declared.item.Lane.TheVariants.{Frames}
 use Rattle.ff_fsync.specs.declared.input.Input.{Input}
 use Rattle.ff_fsync.specs.Ranges.{list_to}
 use Rattle.ff_fsync.specs.Sides.{Side, side_at, fills_to, Sound}
-use Rattle.ff_fsync.specs.Inputs.{items_of, last_by, IsLed, led_by, given_back, all_back}
-use Rattle.ff_fsync.specs.Syncs.{side_of, sides_of, AreBegun}
+use Rattle.ff_fsync.specs.laws.Inputs.{items_of, last_by, IsLed, led_by, given_back, all_back}
+use Rattle.ff_fsync.specs.laws.Syncs.{side_of, sides_of, AreBegun}
 use Rattle.ff_fsync.proofs.Finding.{side_there, long_sides}
 
 pub long_back : (fs : List VFrame) (ss : List Side) → length (all_back fs ss) ≡ length ss

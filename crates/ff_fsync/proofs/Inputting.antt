@@ -20,10 +20,10 @@ use Rattle.ff_frame.specs.declared.head.StreamHead.{StreamHead}
 use Rattle.ff_stream.specs.Stream.{is_open, is_whole}
 use Rattle.ff_fsync.specs.Events.{put_if}
 use Rattle.ff_fsync.specs.Synced.{each_of, later_of, pick}
-use Rattle.ff_fsync.specs.Rising.{Rises, some_append, none_last, none_starts, none_begun}
+use Rattle.ff_fsync.specs.laws.Rising.{Rises, some_append, none_last, none_starts, none_begun}
 use Rattle.ff_fsync.specs.Sides.{Side, coming, kept, kept_from, fits_at, next_by, fills_to}
-use Rattle.ff_fsync.specs.SideLaws.{fills_reach}
-use Rattle.ff_fsync.specs.Inputs.{items_of, side_by, starts_at, begun_by, reaches, last_by, Trims, IsNextStart, second_by, GoesTo, IsLastBy}
+use Rattle.ff_fsync.specs.laws.SideLaws.{fills_reach}
+use Rattle.ff_fsync.specs.laws.Inputs.{items_of, side_by, starts_at, begun_by, reaches, last_by, Trims, IsNextStart, second_by, GoesTo, IsLastBy}
 
 pub reaches_is : (xs : List Item) (next t : ℕ) → fills_to 0 xs next ≡ true → nat_lt t next ≡ reaches xs t
 reaches_is xs next t e = fills_reach 0 next t xs e ∙ ap (λ b. b || reaches xs t) (le-ltb t 0 (omega arith))

@@ -12,11 +12,11 @@ use Rattle.ff_filter.specs.Shifts.{start_ticks}
 use Rattle.ff_fsync.specs.declared.input.Input.{Input}
 use Rattle.ff_fsync.specs.Ranges.{all_to, any_to, all_at, all_from, any_at, any_from, none_from, fails_from, not_any}
 use Rattle.ff_fsync.specs.Synced.{each_of, is_empty, ended_mark, all_ended, mark_by, begun, reached, is_known, outlasts, ends_with, is_complete, allows, may_come, goes_on, synced_mark}
-use Rattle.ff_fsync.specs.Rising.{some_found}
-use Rattle.ff_fsync.specs.SyncLaws.{clash, Allows, allows_cases, allows_from, reached_sooner, goes_on_cases, goes_on_by, broken_is, known_open}
+use Rattle.ff_fsync.specs.laws.Rising.{some_found}
+use Rattle.ff_fsync.specs.laws.SyncLaws.{clash, Allows, allows_cases, allows_from, reached_sooner, goes_on_cases, goes_on_by, broken_is, known_open}
 use Rattle.ff_fsync.specs.Sides.{Side}
-use Rattle.ff_fsync.specs.Inputs.{items_of, begun_by, reaches, whole_if}
-use Rattle.ff_fsync.specs.Syncs.{sides_of, standing_of, timing_of, ended_if, is_free, IsBound, is_lost}
+use Rattle.ff_fsync.specs.laws.Inputs.{items_of, begun_by, reaches, whole_if}
+use Rattle.ff_fsync.specs.laws.Syncs.{sides_of, standing_of, timing_of, ended_if, is_free, IsBound, is_lost}
 use Rattle.ff_fsync.proofs.Inputting.{outlasts_is, reaches_is}
 use Rattle.ff_fsync.proofs.Finding.{side_there, long_sides}
 

@@ -8,7 +8,7 @@ use Rattle.ff_stream.specs.declared.item.Item.TheVariants.{Audio, Video, Packet,
 use Rattle.ff_stream.specs.declared.item.Lane.{Lane}
 use Rattle.ff_stream.specs.Stream.{Mark, still_open, whole, broken, Stream}
 use Rattle.ff_stream.specs.Ports.{nothing}
-use Rattle.ff_stream.specs.Order.{closed_below, same_stream}
+use Rattle.ff_stream.specs.laws.Order.{closed_below, same_stream}
 use Rattle.ff_filter.specs.declared.after.After.{After}
 use Rattle.ff_filter.specs.Joins.{Flow, Ports, silence, one, before, before_at, before_if}
 use Rattle.ff_filter.specs.Made.{behind, is_over}
@@ -17,12 +17,12 @@ use Rattle.ff_filter.specs.Views.{View, Same, Fed, Gave, Waits, Stopped, closes}
 use Rattle.ff_filter.proofs.Moves.{same_self}
 use Rattle.ff_fsync.specs.Events.{events, events_none, events_first}
 use Rattle.ff_fsync.specs.Synced.{Timing, is_shown, pictures, horizon, synced_mark, synced_from}
-use Rattle.ff_fsync.specs.SyncLaws.{EachBelow, Risen, clash, shown_stays, shown_in_order, shown_below, shown_reached}
-use Rattle.ff_fsync.specs.SyncStreams.{synced-below}
+use Rattle.ff_fsync.specs.laws.SyncLaws.{EachBelow, Risen, clash, shown_stays, shown_in_order, shown_below, shown_reached}
+use Rattle.ff_fsync.specs.laws.SyncStreams.{synced-below}
 use Rattle.ff_fsync.specs.Sides.{time_among, Side, side_at, coming, kept, streams, standing, timing, shown_as, left_to_show, sync_view, Sound}
-use Rattle.ff_fsync.specs.SideLaws.{all_risen, standing_below, standing_is}
-use Rattle.ff_fsync.specs.Inputs.{Trims}
-use Rattle.ff_fsync.specs.Syncs.{IsDue}
+use Rattle.ff_fsync.specs.laws.SideLaws.{all_risen, standing_below, standing_is}
+use Rattle.ff_fsync.specs.laws.Inputs.{Trims}
+use Rattle.ff_fsync.specs.laws.Syncs.{IsDue}
 use Rattle.ff_fsync.proofs.Dropping.{Drops, drop_synced}
 
 no_other : (q : ℕ) → q < 1 → q ≢ 0 → ⊥

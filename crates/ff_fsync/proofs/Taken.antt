@@ -14,10 +14,10 @@ use Rattle.ff_filter.specs.Made.{mark_after}
 use Rattle.ff_filter.specs.Shifts.{start_ticks}
 use Rattle.ff_fsync.specs.declared.input.Input.{Input}
 use Rattle.ff_fsync.specs.Synced.{is_shown, Timing}
-use Rattle.ff_fsync.specs.SyncLaws.{clash, Risen, ready_at}
+use Rattle.ff_fsync.specs.laws.SyncLaws.{clash, Risen, ready_at}
 use Rattle.ff_fsync.specs.Sides.{Side, side_at, frames_of}
-use Rattle.ff_fsync.specs.Inputs.{items_of, emptied, begun_by, Trims, IsLastBy, IsLed}
-use Rattle.ff_fsync.specs.Syncs.{side_of, sides_of, sides_sound, standing_of, timing_of, IsDue, AreTrimmed, AreLed, AreEmptied}
+use Rattle.ff_fsync.specs.laws.Inputs.{items_of, emptied, begun_by, Trims, IsLastBy, IsLed}
+use Rattle.ff_fsync.specs.laws.Syncs.{side_of, sides_of, sides_sound, standing_of, timing_of, IsDue, AreTrimmed, AreLed, AreEmptied}
 use Rattle.ff_fsync.proofs.Inputting.{rises_of}
 use Rattle.ff_fsync.proofs.Finding.{side_there, long_sides}
 use Rattle.ff_fsync.proofs.Dropping.{Drops, drop_shown, drop_no_more}

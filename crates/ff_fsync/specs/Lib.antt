@@ -1,13 +1,7 @@
 pub mod Events
-pub mod Inputs
 pub mod Pictures
 pub mod Ranges
-pub mod Rising
-pub mod SideLaws
 pub mod Sides
-pub mod SyncBreaks
-pub mod SyncLaws
-pub mod SyncStreams
 pub mod Synced
-pub mod Syncs
 pub mod stacks
+pub mod laws

@@ -3,11 +3,11 @@ use Rattle.std.specs.Prelude.{ℕ, pos, Bool, List, [], ◌∷◌, refl}
 use Rattle.ff_frame.specs.declared.video.Format.TheVariants.{Mono}
 use Rattle.ff_stream.specs.declared.item.Item.{Item}
 use Rattle.ff_stream.specs.declared.item.Item.TheVariants.{Video}
-use Rattle.ff_stream.specs.Breaks.{KeepsBrokenRule}
+use Rattle.ff_stream.specs.laws.Breaks.{KeepsBrokenRule}
 use Rattle.ff_stream.specs.Ports.{stream_at}
 use Rattle.ff_filter.specs.Joins.{Flow}
 use Rattle.ff_fsync.specs.Synced.{Timing, synced}
-use Rattle.ff_fsync.specs.SyncBreaks.{AreRisen, synced-keeps}
+use Rattle.ff_fsync.specs.laws.SyncBreaks.{AreRisen, synced-keeps}
 use Rattle.ff_fsync.specs.Sides.{time_among}
 
 -- so many streams of pictures

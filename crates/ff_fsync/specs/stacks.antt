@@ -1,10 +1,6 @@
 pub mod Bases
 pub mod CommonBases
-pub mod Examples
 pub mod Heads
-pub mod Limits
 pub mod Options
 pub mod Shapes
-pub mod Stacked
-pub mod StackedLaws
 pub mod Stacks

@@ -7,7 +7,7 @@ ghost use Rattle.ff_filter.specs.Views.{Fed, Same, Gave, Waits, IsSpent};
 ghost use Rattle.ff_fsync.specs.Ranges.{all_to};
 ghost use Rattle.ff_fsync.specs.Synced.{begun, is_known, is_shown, pictures as pictures_at, synced_mark, is_complete as complete_of, goes_on as goes_on_of};
 ghost use Rattle.ff_fsync.specs.Sides.{side_at, shown_as, sync_view, sync_spent, frames_of};
-ghost use Rattle.ff_fsync.specs.Syncs.{sides_of, sides_sound, standing_of, timing_of, IsStart, NoneFrom, LeastOf, IsDue, sooner_of};
+ghost use Rattle.ff_fsync.specs.laws.Syncs.{sides_of, sides_sound, standing_of, timing_of, IsStart, NoneFrom, LeastOf, IsDue, sooner_of};
 
 use crate::input::Input;
 use crate::stack::Stack;

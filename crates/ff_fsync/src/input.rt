@@ -8,7 +8,7 @@ ghost use Rattle.ff_filter.specs.Made.{is_over, mark_after};
 ghost use Rattle.ff_filter.specs.Views.{closes};
 ghost use Rattle.ff_fsync.specs.Synced.{is_empty as none_waits};
 ghost use Rattle.ff_fsync.specs.Sides.{coming, no_side, fills_to, frames_of};
-ghost use Rattle.ff_fsync.specs.Inputs.{items_of, side_by, emptied, begun_by, reaches, Trims, IsNextIn, IsLastBy, whole_if, second_by as second_starts_by, led_by, given_back};
+ghost use Rattle.ff_fsync.specs.laws.Inputs.{items_of, side_by, emptied, begun_by, reaches, Trims, IsNextIn, IsLastBy, whole_if, second_by as second_starts_by, led_by, given_back};
 
 use crate::time::time_among;
 use ff_filter::{After, closing_of};

@@ -1,8 +1,8 @@
 //! A law of what framesync shows: a function that does nothing, whose clause holds of all values.
 ghost use Rattle.std.specs.Prelude.{ℕ, Bool, List};
 ghost use Rattle.ff_stream.specs.declared.item.Item.{Item};
-ghost use Rattle.ff_stream.specs.Breaks.{KeepsBrokenRule};
-ghost use Rattle.ff_fsync.specs.SyncBreaks.{AreRisen};
+ghost use Rattle.ff_stream.specs.laws.Breaks.{KeepsBrokenRule};
+ghost use Rattle.ff_fsync.specs.laws.SyncBreaks.{AreRisen};
 ghost use Rattle.ff_fsync.specs.Pictures.{timed, shown_of};
 
 /// Of streams with rising times, what is shown keeps the broken rule. A broken input counts as open without a further

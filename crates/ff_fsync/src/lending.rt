@@ -1,9 +1,9 @@
 //! Frames moved out of the inputs while they are shown, so that none is copied.
 ghost use Rattle.std.specs.Prelude.{◌≡◌, ◌≤◌, length, IfOk, OnErr};
 ghost use Rattle.ff_stream.specs.declared.item.Lane.{Lane};
-ghost use Rattle.ff_fsync.specs.Inputs.{all_back};
+ghost use Rattle.ff_fsync.specs.laws.Inputs.{all_back};
 ghost use Rattle.ff_fsync.specs.Sides.{Sound};
-ghost use Rattle.ff_fsync.specs.Syncs.{sides_of, AreBegun};
+ghost use Rattle.ff_fsync.specs.laws.Syncs.{sides_of, AreBegun};
 
 use crate::input::Input;
 use ff_frame::VFrame;

@@ -3,7 +3,7 @@ ghost use Rattle.std.specs.Prelude.{◌≡◌, ◌<◌, ◌≤◌, ◌&&◌, ◌
 ghost use Rattle.ff_filter.specs.Made.{mark_after};
 ghost use Rattle.ff_fsync.specs.Ranges.{all_to, any_to};
 ghost use Rattle.ff_fsync.specs.Synced.{reached, allows, outlasts, may_come as may_come_at, ends_with as ends_with_of, synced_mark, is_complete as complete_of, goes_on as goes_on_of};
-ghost use Rattle.ff_fsync.specs.Syncs.{standing_of, timing_of, ended_if, is_lost as is_lost_by, IsBound};
+ghost use Rattle.ff_fsync.specs.laws.Syncs.{standing_of, timing_of, ended_if, is_lost as is_lost_by, IsBound};
 ghost use Rattle.ff_stream.specs.Stream.{is_open, is_whole, is_broken};
 
 use crate::framesync::Framesync;

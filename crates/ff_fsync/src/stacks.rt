@@ -9,7 +9,7 @@
 //!
 //! Which frames are shown together, and when, is framesync's (`ff_fsync`); how the planes of a stack lie is
 //! `ff_planes`'. `specs/stacks/Shapes` says what a frame of the stack is. `specs/stacks/Stacks` says which stack
-//! arguments and heads make, or why they are refused. `specs/stacks/Stacked` says how its machine is seen, within the
+//! arguments and heads make, or why they are refused. `specs/laws/stacks/Stacked` says how its machine is seen, within the
 //! limits of every stream. `specs/stacks/Bases` says what the common base of the inputs is, in whose units they come to
 //! framesync.
 

@@ -7,7 +7,7 @@ use Rattle.ff_graph_links.specs.declared.pads.drawn.Pad.{Pad}
 use Rattle.ff_graph_links.specs.pads.Links.{Seen}
 use Rattle.ff_filters.specs.Configured.{Filtered}
 use Rattle.ff_graph.specs.Configured.{Made, Refused, and_head, made_of, behind, make_from, OpenOut, feeds_one, unless_fed, outs_at}
-use Rattle.ff_graph.specs.Pads.{heads_in}
+use Rattle.ff_graph.specs.laws.Pads.{heads_in}
 
 -- these in front
 abbrev pub prefixed : List StreamHead → Option (List StreamHead) → Option (List StreamHead)

@@ -1,9 +1,8 @@
 pub mod Configured
 pub mod Drawings
-pub mod Examples
 pub mod Faults
 pub mod Meaning
 pub mod Opens
-pub mod Pads
 pub mod Sources
 pub mod composed
+pub mod laws

@@ -4,7 +4,7 @@ ghost use Rattle.ff_graph_links.specs.pads.Links.{all_seen, pads_in};
 ghost use Rattle.ff_graph.specs.Configured.{configured, make_all as all_made, open_outs as open_outs_of, CanBeHad};
 ghost use Rattle.ff_graph.specs.Drawings.{seen_graph};
 ghost use Rattle.ff_graph.specs.Opens.{filter_order, loops, sources_in};
-ghost use Rattle.ff_graph.specs.Pads.{heads_in, made_by, output_of, IsRefusal, IsRefused};
+ghost use Rattle.ff_graph.specs.laws.Pads.{heads_in, made_by, output_of, IsRefusal, IsRefused};
 ghost use Rattle.ff_graph.specs.declared.refusal.Refusal.TheVariants.{NoMemory};
 
 use crate::drawing::drawn;

@@ -3,7 +3,7 @@ ghost use Rattle.std.specs.Prelude.{◌≡◌, ◌&&◌, ◌==◌, IfOk, slice_g
 ghost use Rattle.std.specs.Option.{option_map};
 ghost use Rattle.ff_graph_dag.specs.wiring.Flows.{same_pad as same, pad_place};
 ghost use Rattle.ff_graph.specs.Configured.{head_at as head_of, head_into as head_to, heads_into as heads_to};
-ghost use Rattle.ff_graph.specs.Pads.{heads_in};
+ghost use Rattle.ff_graph.specs.laws.Pads.{heads_in};
 
 use ff_frame::StreamHead;
 use ff_graph_links::Pad;

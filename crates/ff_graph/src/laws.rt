@@ -5,7 +5,7 @@ ghost use Rattle.ff_frame.specs.declared.head.StreamHead.{StreamHead};
 ghost use Rattle.ff_lang.specs.declared.graph.Graph.{Graph as Text};
 ghost use Rattle.ff_graph.specs.Configured.{Refused, configured};
 ghost use Rattle.ff_graph.specs.Drawings.{seen_graph};
-ghost use Rattle.ff_graph.specs.Examples.{picture, out, two_beside, apart, surplus, crowded};
+ghost use Rattle.ff_graph.specs.laws.Examples.{picture, out, two_beside, apart, surplus, crowded};
 
 /// The filter that is refused is one of the graph, and it isn't refused for want of memory.
 pub fn refusals_are_of_filters()

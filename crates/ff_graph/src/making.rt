@@ -6,7 +6,7 @@ ghost use Rattle.ff_filter.specs.Views.{View};
 ghost use Rattle.ff_graph_links.specs.pads.Links.{seen, all_seen, pads_in};
 ghost use Rattle.ff_graph.specs.Opens.{sources_in, open_pads};
 ghost use Rattle.ff_graph.specs.Configured.{Made, heads_into as heads_to, made_on, made_of, make_from, none_made};
-ghost use Rattle.ff_graph.specs.Pads.{heads_in, filtered_by, made_by, IsRefusal};
+ghost use Rattle.ff_graph.specs.laws.Pads.{heads_in, filtered_by, made_by, IsRefusal};
 
 use crate::fitting::{is_misfit, is_surplus};
 use crate::heads::heads_into;

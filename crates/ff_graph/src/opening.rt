@@ -3,7 +3,7 @@ ghost use Rattle.std.specs.Prelude.{◌≡◌, IfOk, map, slice_get};
 ghost use Rattle.ff_graph_links.specs.pads.Links.{all_seen};
 ghost use Rattle.ff_filters.specs.Names.{filter_named};
 ghost use Rattle.ff_graph.specs.Opens.{is_known as known, takes_sound_as, source_in, open_in, open_ins};
-ghost use Rattle.ff_graph.specs.Pads.{input_of};
+ghost use Rattle.ff_graph.specs.laws.Pads.{input_of};
 ghost use Rattle.ff_graph.specs.Sources.{if_made, made_in};
 
 use crate::drawing::drawn;

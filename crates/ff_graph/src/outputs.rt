@@ -3,7 +3,7 @@ ghost use Rattle.std.specs.Prelude.{◌≡◌, ◌++◌, [], IfOk, OnOk, length,
 ghost use Rattle.std.specs.List.{list_any};
 ghost use Rattle.ff_graph_links.specs.pads.Links.{all_seen, pads_in};
 ghost use Rattle.ff_graph.specs.Configured.{is_pad as is_at_pad, feeds_one as some_feeds, unless_fed, outs_at, outs_from};
-ghost use Rattle.ff_graph.specs.Pads.{heads_in, output_of};
+ghost use Rattle.ff_graph.specs.laws.Pads.{heads_in, output_of};
 
 use crate::heads::same_pad;
 use ff_frame::StreamHead;

@@ -2,7 +2,7 @@
 ghost use Rattle.std.specs.Prelude.{◌≡◌, Result, Err};
 ghost use Rattle.ff_frame.specs.declared.config.ConfigError.TheVariants as fault;
 ghost use Rattle.ff_graph.specs.Configured.{Made, Refused};
-ghost use Rattle.ff_graph.specs.Pads.{IsRefusal};
+ghost use Rattle.ff_graph.specs.laws.Pads.{IsRefusal};
 ghost use Rattle.ff_graph.specs.declared.refusal.Refusal.TheVariants.{NoMemory};
 
 use ff_frame::ConfigError;

@@ -2,7 +2,7 @@
 ghost use Rattle.std.specs.Prelude.{◌≡◌, IfOk};
 ghost use Rattle.std.specs.Option.{option_map};
 ghost use Rattle.ff_graph.specs.Faults.{source_fault as fault_in};
-ghost use Rattle.ff_graph.specs.Pads.{fault_of};
+ghost use Rattle.ff_graph.specs.laws.Pads.{fault_of};
 ghost use Rattle.ff_graph.specs.Sources.{is_source_filter as makes_its_own, made_in};
 
 use crate::drawing::drawn;

@@ -11,9 +11,9 @@ use Rattle.ff_graph_dag.specs.declared.graph.Port.{Port}
 use Rattle.ff_graph_dag.specs.declared.graph.Wire.{Wire}
 use Rattle.ff_graph_dag.specs.declared.graph.Plan.{Plan}
 use Rattle.ff_graph_dag.specs.declared.placed.Placed.{Placed}
-use Rattle.ff_graph_dag.specs.Dags.{Spot, spot_of, held_at, IsReady, Delivered, Kept, Stored, Pulled}
-use Rattle.ff_graph_dag.specs.Graphs.{spots, no_spot, spot_at, wire_at, port_held, port_stopped, graph_view, Sound, IsCarried, IsEmpty, to_go, InThere}
-use Rattle.ff_graph_dag.specs.Readings.{spots_size}
+use Rattle.ff_graph_dag.specs.laws.Dags.{Spot, spot_of, held_at, IsReady, Delivered, Kept, Stored, Pulled}
+use Rattle.ff_graph_dag.specs.laws.Graphs.{spots, no_spot, spot_at, wire_at, port_held, port_stopped, graph_view, Sound, IsCarried, IsEmpty, to_go, InThere}
+use Rattle.ff_graph_dag.specs.laws.Readings.{spots_size}
 use Rattle.ff_graph_dag.proofs.Edges.{stored}
 use Rattle.ff_graph_dag.proofs.Moving.{spots_set, spot_is, size_set, node_of, to_there, from_there, kept_carried, kept_sound, kept_same, delivered_sound}
 use Rattle.ff_graph_dag.proofs.Moving.{delivered_same, delivered_less}

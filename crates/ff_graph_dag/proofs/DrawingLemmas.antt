@@ -9,13 +9,13 @@ use Rattle.ff_stream.specs.declared.item.Lane.{Lane}
 use Rattle.ff_filter.specs.Joins.{Flow}
 use Rattle.ff_filter.specs.Joins.{Ports, silence, before, before_if, before_at}
 use Rattle.ff_filter.specs.Views.{View, SamePorts, Same, closes}
-use Rattle.ff_filter.specs.Held.{held_closes}
+use Rattle.ff_filter.specs.laws.Held.{held_closes}
 use Rattle.ff_graph_dag.specs.declared.graph.Port.{Port}
 use Rattle.ff_graph_dag.specs.declared.graph.Plan.{Plan}
-use Rattle.ff_graph_dag.specs.Dags.{Spot, held_at, spot_shut, reads, solve_spots, IsDecided, Stored, Pulled}
-use Rattle.ff_graph_dag.specs.Graphs.{no_spot, spot_at, wire_at, port_shut, port_ended, port_stopped, port_held, graph_view, Apart, InThere, OutThere, Sound}
-use Rattle.ff_graph_dag.specs.Graphs.{begins, go_on, to_go}
-use Rattle.ff_graph_dag.specs.Readings.{is_same, is_other}
+use Rattle.ff_graph_dag.specs.laws.Dags.{Spot, held_at, spot_shut, reads, solve_spots, IsDecided, Stored, Pulled}
+use Rattle.ff_graph_dag.specs.laws.Graphs.{no_spot, spot_at, wire_at, port_shut, port_ended, port_stopped, port_held, graph_view, Apart, InThere, OutThere, Sound}
+use Rattle.ff_graph_dag.specs.laws.Graphs.{begins, go_on, to_go}
+use Rattle.ff_graph_dag.specs.laws.Readings.{is_same, is_other}
 use Rattle.ff_graph_dag.proofs.Edges.{reads_free, solve_drawn}
 use Rattle.ff_graph_dag.proofs.Moving.{size_set, node_of, each_by, each_map, each_both, each_all, flags, sum_less, fits_alike, from_there, else_by}
 

@@ -7,17 +7,17 @@ use Rattle.std.specs.declared.alloc.AllocError.{AllocError}
 use Rattle.ff_stream.specs.declared.item.Item.{Item}
 use Rattle.ff_stream.specs.declared.item.Item.TheVariants.{Audio, Video, Packet, Trailer, End, Broken}
 use Rattle.ff_stream.specs.declared.item.Lane.{Lane}
-use Rattle.ff_stream.specs.Order.{nothing_below}
+use Rattle.ff_stream.specs.laws.Order.{nothing_below}
 use Rattle.ff_stream.specs.Ports.{nothing, IsClosed}
 use Rattle.ff_filter.specs.Joins.{Flow}
 use Rattle.ff_net.specs.Nets.{put_all}
 use Rattle.ff_filter.specs.Joins.{Ports, Grows, silence, before, before_if, before_at, closed_above}
 use Rattle.ff_filter.specs.Views.{View, SamePorts, Same, Fed, Gave, Stopped, IsSpent, closes}
-use Rattle.ff_filter.specs.Held.{after_held, held_closes}
+use Rattle.ff_filter.specs.laws.Held.{after_held, held_closes}
 use Rattle.ff_graph_dag.specs.declared.graph.Node.{Node}
-use Rattle.ff_graph_dag.specs.Dags.{Spot, held_at, spot_shut, reads, comes, gives, after, solve_spots, Free, StandsAt, Untouched, AllUntouched, Reads, Leaves, Leads}
-use Rattle.ff_graph_dag.specs.Dags.{Kept, Delivered, Stored, Pulled, IsDecided}
-use Rattle.ff_graph_dag.specs.Readings.{is_other, is_same}
+use Rattle.ff_graph_dag.specs.laws.Dags.{Spot, held_at, spot_shut, reads, comes, gives, after, solve_spots, Free, StandsAt, Untouched, AllUntouched, Reads, Leaves, Leads}
+use Rattle.ff_graph_dag.specs.laws.Dags.{Kept, Delivered, Stored, Pulled, IsDecided}
+use Rattle.ff_graph_dag.specs.laws.Readings.{is_other, is_same}
 
 suc_zero : (p : ℕ) → (suc p == 0) ≡ false
 suc_zero p = grind (arith, nat_tests)

@@ -7,14 +7,14 @@ use Rattle.ff_stream.specs.declared.item.Item.{Item}
 use Rattle.ff_stream.specs.declared.item.Lane.{Lane}
 use Rattle.ff_filter.specs.Joins.{Ports, before_at}
 use Rattle.ff_filter.specs.Views.{View, Same, Fed, closes}
-use Rattle.ff_filter.specs.Held.{held_closes}
+use Rattle.ff_filter.specs.laws.Held.{held_closes}
 use Rattle.ff_graph_dag.specs.declared.graph.Port.{Port}
 use Rattle.ff_graph_dag.specs.declared.graph.Plan.{Plan}
 use Rattle.ff_graph_dag.specs.declared.placed.Placed.{Placed}
-use Rattle.ff_graph_dag.specs.Dags.{Spot, spot_of, held_at, spot_shut, reads, solve_spots, IsDecided, Stored}
-use Rattle.ff_graph_dag.specs.Graphs.{spots, no_spot, spot_at, wire_at, feed_at, port_shut, port_ended, port_stopped, port_held, graph_view, Apart, InThere}
-use Rattle.ff_graph_dag.specs.Graphs.{OutThere, Sound, IsEntry}
-use Rattle.ff_graph_dag.specs.Readings.{spots_size, flag_is, feed_is}
+use Rattle.ff_graph_dag.specs.laws.Dags.{Spot, spot_of, held_at, spot_shut, reads, solve_spots, IsDecided, Stored}
+use Rattle.ff_graph_dag.specs.laws.Graphs.{spots, no_spot, spot_at, wire_at, feed_at, port_shut, port_ended, port_stopped, port_held, graph_view, Apart, InThere}
+use Rattle.ff_graph_dag.specs.laws.Graphs.{OutThere, Sound, IsEntry}
+use Rattle.ff_graph_dag.specs.laws.Readings.{spots_size, flag_is, feed_is}
 use Rattle.ff_graph_dag.proofs.Edges.{reads_free, solve_stored, stored}
 use Rattle.ff_graph_dag.proofs.Moving.{spots_set, spot_is, size_set, node_of, each_by, each_map, each_all, flags, fits_alike, to_there, else_by}
 use Rattle.ff_graph_dag.proofs.DrawingLemmas.{Alikes, alikes_self}

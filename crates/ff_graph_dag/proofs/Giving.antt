@@ -8,14 +8,14 @@ use Rattle.ff_stream.specs.declared.item.Lane.{Lane}
 use Rattle.ff_stream.specs.Ports.{nothing}
 use Rattle.ff_filter.specs.Joins.{Ports, silence, before_if, before_at}
 use Rattle.ff_filter.specs.Views.{View, Same, Gave, closes}
-use Rattle.ff_filter.specs.Held.{held_closes}
+use Rattle.ff_filter.specs.laws.Held.{held_closes}
 use Rattle.ff_graph_dag.specs.declared.graph.Port.{Port}
 use Rattle.ff_graph_dag.specs.declared.graph.Plan.{Plan}
 use Rattle.ff_graph_dag.specs.declared.placed.Placed.{Placed}
-use Rattle.ff_graph_dag.specs.Dags.{Spot, spot_of, held_at, reads, solve_spots, IsDecided, Kept, Pulled}
-use Rattle.ff_graph_dag.specs.Graphs.{spots, no_spot, spot_at, no_port, pad_at, edge_at, wire_at, flag_at, port_shut, port_ended, port_stopped, graph_view, Apart}
-use Rattle.ff_graph_dag.specs.Graphs.{Each, InThere, OutThere, Sound, IsPad, IsCarried, IsQuiet}
-use Rattle.ff_graph_dag.specs.Readings.{is_same, is_other, spots_size, flag_is}
+use Rattle.ff_graph_dag.specs.laws.Dags.{Spot, spot_of, held_at, reads, solve_spots, IsDecided, Kept, Pulled}
+use Rattle.ff_graph_dag.specs.laws.Graphs.{spots, no_spot, spot_at, no_port, pad_at, edge_at, wire_at, flag_at, port_shut, port_ended, port_stopped, graph_view, Apart}
+use Rattle.ff_graph_dag.specs.laws.Graphs.{Each, InThere, OutThere, Sound, IsPad, IsCarried, IsQuiet}
+use Rattle.ff_graph_dag.specs.laws.Readings.{is_same, is_other, spots_size, flag_is}
 use Rattle.ff_graph_dag.proofs.Edges.{reads_at, solve_gave}
 use Rattle.ff_graph_dag.proofs.Moving.{spots_set, spot_is, size_set, node_of, each_by, each_map, each_all, flags, fits_alike, from_there, else_by, kept_sound}
 use Rattle.ff_graph_dag.proofs.Moving.{kept_same, kept_carried}

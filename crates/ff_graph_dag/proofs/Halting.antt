@@ -3,7 +3,7 @@ use Rattle.std.proofs.Common.{◌≡◌, ◌≢◌, ℕ, zero, suc, ◌<◌, ◌
 use Rattle.std.proofs.Common.{cond, sym, ◌∙◌, subst, arith}
 use Rattle.std.proofs.lemmas.Bool.Decides.{nat_tests}
 use Rattle.ff_stream.specs.Ports.{nothing}
-use Rattle.ff_stream.specs.Order.{closed_below, nothing_below}
+use Rattle.ff_stream.specs.laws.Order.{closed_below, nothing_below}
 use Rattle.ff_filter.specs.Joins.{Flow, Ports, Grows, silence}
 use Rattle.ff_filter.specs.Views.{View, Same}
 use Rattle.ff_graph_dag.specs.declared.graph.Node.{Node}
@@ -11,9 +11,9 @@ use Rattle.ff_graph_dag.specs.declared.graph.Port.{Port}
 use Rattle.ff_graph_dag.specs.declared.graph.Wire.{Wire}
 use Rattle.ff_graph_dag.specs.declared.graph.Plan.{Plan}
 use Rattle.ff_graph_dag.specs.declared.placed.Placed.{Placed}
-use Rattle.ff_graph_dag.specs.Dags.{Spot, spot_of, comes, gives, after, solve_spots, Reads, Leads, IsDecided, Halted}
-use Rattle.ff_graph_dag.specs.Graphs.{spots, no_spot, spot_at, wire_at, port_shut, port_ended, port_stopped, graph_view, Apart, OutThere, Sound}
-use Rattle.ff_graph_dag.specs.GraphLaws.{all_spots}
+use Rattle.ff_graph_dag.specs.laws.Dags.{Spot, spot_of, comes, gives, after, solve_spots, Reads, Leads, IsDecided, Halted}
+use Rattle.ff_graph_dag.specs.laws.Graphs.{spots, no_spot, spot_at, wire_at, port_shut, port_ended, port_stopped, graph_view, Apart, OutThere, Sound}
+use Rattle.ff_graph_dag.specs.laws.GraphLaws.{all_spots}
 use Rattle.ff_graph_dag.proofs.Edges.{OutsFit}
 use Rattle.ff_graph_dag.proofs.Moving.{spots_set, spot_is, node_of, each_both, each_all, flags, from_there}
 use Rattle.ff_graph_dag.proofs.Stopping.{Else, put_else, reads_else, after_else, solve_else, stands_is, left_sound, stops_else, shuts, ends}

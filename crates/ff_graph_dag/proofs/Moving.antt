@@ -11,9 +11,9 @@ use Rattle.ff_graph_dag.specs.declared.graph.Node.{Node}
 use Rattle.ff_graph_dag.specs.declared.graph.Port.{Port}
 use Rattle.ff_graph_dag.specs.declared.graph.Plan.{Plan}
 use Rattle.ff_graph_dag.specs.declared.placed.Placed.{Placed}
-use Rattle.ff_graph_dag.specs.Dags.{Spot, spot_of, held_at, reads, solve_spots, Alike, Kept, Delivered}
-use Rattle.ff_graph_dag.specs.Graphs.{spots, no_spot, spot_at, wire_at, flag_at, port_shut, port_ended, port_stopped, port_held, graph_view, Apart, Each, InThere}
-use Rattle.ff_graph_dag.specs.Graphs.{OutThere, Fits, Sound, IsCarried, begins, go_on, sum_below, to_go}
+use Rattle.ff_graph_dag.specs.laws.Dags.{Spot, spot_of, held_at, reads, solve_spots, Alike, Kept, Delivered}
+use Rattle.ff_graph_dag.specs.laws.Graphs.{spots, no_spot, spot_at, wire_at, flag_at, port_shut, port_ended, port_stopped, port_held, graph_view, Apart, Each, InThere}
+use Rattle.ff_graph_dag.specs.laws.Graphs.{OutThere, Fits, Sound, IsCarried, begins, go_on, sum_below, to_go}
 use Rattle.ff_graph_dag.proofs.Edges.{solve_same, kept_self}
 
 -- lists ---------------------------------------------------------------------------------------------------------

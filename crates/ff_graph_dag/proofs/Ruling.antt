@@ -3,16 +3,16 @@ use Rattle.std.proofs.Common.{◌≡◌, ◌⊎◌, inl, inr, ℕ, zero, suc, �
 use Rattle.std.proofs.Common.{slice_get, refl, ap, sym, ◌∙◌, subst, arith}
 use Rattle.ff_stream.specs.Ports.{IsClosed}
 use Rattle.ff_filter.specs.Joins.{silence}
-use Rattle.ff_filter.specs.Held.{held_closes}
+use Rattle.ff_filter.specs.laws.Held.{held_closes}
 use Rattle.ff_filter.specs.Views.{View, IsSpent, AllDone}
 use Rattle.ff_graph_dag.specs.declared.graph.Port.{Port}
 use Rattle.ff_graph_dag.specs.declared.graph.Plan.{Plan}
 use Rattle.ff_graph_dag.specs.declared.placed.Placed.{Placed}
-use Rattle.ff_graph_dag.specs.Dags.{Spot, spot_of, held_at}
-use Rattle.ff_graph_dag.specs.Graphs.{spots, spot_at, wire_at, feed_at, port_shut, port_ended, port_stopped, InThere, Sound}
-use Rattle.ff_graph_dag.specs.Readings.{feed_is, left_true, right_true, spots_size}
-use Rattle.ff_graph_dag.specs.Spends.{spends_at, port_spent, feed_spent, port_done, Swept, leads_to_spent, CountsAsStopped, IsClosedBy, IsSpentThere}
-use Rattle.ff_graph_dag.specs.Spends.{SaysSpent, AllGaveAll}
+use Rattle.ff_graph_dag.specs.laws.Dags.{Spot, spot_of, held_at}
+use Rattle.ff_graph_dag.specs.laws.Graphs.{spots, spot_at, wire_at, feed_at, port_shut, port_ended, port_stopped, InThere, Sound}
+use Rattle.ff_graph_dag.specs.laws.Readings.{feed_is, left_true, right_true, spots_size}
+use Rattle.ff_graph_dag.specs.laws.Spends.{spends_at, port_spent, feed_spent, port_done, Swept, leads_to_spent, CountsAsStopped, IsClosedBy, IsSpentThere}
+use Rattle.ff_graph_dag.specs.laws.Spends.{SaysSpent, AllGaveAll}
 use Rattle.ff_graph_dag.proofs.Moving.{to_there}
 
 -- the filter in its place

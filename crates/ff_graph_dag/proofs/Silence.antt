@@ -8,10 +8,10 @@ use Rattle.ff_filter.specs.Joins.{Ports, silence}
 use Rattle.ff_graph_dag.specs.declared.graph.Node.{Node}
 use Rattle.ff_graph_dag.specs.declared.graph.Port.{Port}
 use Rattle.ff_graph_dag.specs.declared.graph.Plan.{Plan}
-use Rattle.ff_graph_dag.specs.Dags.{Spot, held_at, reads, solve_spots}
-use Rattle.ff_graph_dag.specs.Graphs.{no_spot, spot_at, pad_at, edge_at, wire_at, port_held, graph_view, Sound, IsEmpty, AreEmpty, IsQuiet, among, ways_of, on_way}
-use Rattle.ff_graph_dag.specs.Graphs.{out_edge, in_edge, is_port, comes_from, IsCone}
-use Rattle.ff_graph_dag.specs.Readings.{at_is, port_is, from_is, own_way, is_way, read_is}
+use Rattle.ff_graph_dag.specs.laws.Dags.{Spot, held_at, reads, solve_spots}
+use Rattle.ff_graph_dag.specs.laws.Graphs.{no_spot, spot_at, pad_at, edge_at, wire_at, port_held, graph_view, Sound, IsEmpty, AreEmpty, IsQuiet, among, ways_of, on_way}
+use Rattle.ff_graph_dag.specs.laws.Graphs.{out_edge, in_edge, is_port, comes_from, IsCone}
+use Rattle.ff_graph_dag.specs.laws.Readings.{at_is, port_is, from_is, own_way, is_way, read_is}
 use Rattle.ff_graph_dag.proofs.Sweeping.{Quiets, solve_quiet, gives_quiet}
 
 -- flags ---------------------------------------------------------------------------------------------------------

@@ -2,16 +2,16 @@
 use Rattle.std.proofs.Common.{◌≡◌, ◌≢◌, ℕ, ◌<◌, ◌||◌, Bool, true, false, List, length, slice_get, refl, ap, sym, ◌∙◌, subst, arith}
 use Rattle.std.proofs.Common.{[], ◌∷◌, zero, suc}
 use Rattle.ff_filter.specs.Joins.{Ports, Grows}
-use Rattle.ff_filter.specs.Held.{held_closes}
+use Rattle.ff_filter.specs.laws.Held.{held_closes}
 use Rattle.ff_filter.specs.Views.{View, IsSpent}
 use Rattle.ff_graph_dag.specs.declared.graph.Port.{Port}
 use Rattle.ff_graph_dag.specs.declared.graph.Plan.{Plan}
 use Rattle.ff_graph_dag.specs.declared.placed.Placed.{Placed}
-use Rattle.ff_graph_dag.specs.Dags.{Spot, spot_of, held_at, solve_spots, Reads, IsDecided}
-use Rattle.ff_graph_dag.specs.Graphs.{spots, no_spot, spot_at, wire_at, feed_at, port_shut, graph_view, Sound}
-use Rattle.ff_graph_dag.specs.GraphLaws.{all_spots}
-use Rattle.ff_graph_dag.specs.Readings.{spots_size, flag_is, feed_is}
-use Rattle.ff_graph_dag.specs.Spends.{spends_at, port_spent, feed_spent}
+use Rattle.ff_graph_dag.specs.laws.Dags.{Spot, spot_of, held_at, solve_spots, Reads, IsDecided}
+use Rattle.ff_graph_dag.specs.laws.Graphs.{spots, no_spot, spot_at, wire_at, feed_at, port_shut, graph_view, Sound}
+use Rattle.ff_graph_dag.specs.laws.GraphLaws.{all_spots}
+use Rattle.ff_graph_dag.specs.laws.Readings.{spots_size, flag_is, feed_is}
+use Rattle.ff_graph_dag.specs.laws.Spends.{spends_at, port_spent, feed_spent}
 use Rattle.ff_graph_dag.proofs.Edges.{decided_spent}
 use Rattle.ff_graph_dag.proofs.Moving.{node_of, to_there}
 use Rattle.ff_graph_dag.proofs.Stopping.{reads_else}

@@ -8,15 +8,15 @@ use Rattle.ff_stream.specs.declared.item.Lane.{Lane}
 use Rattle.ff_net.specs.Nets.{put_all}
 use Rattle.ff_filter.specs.Joins.{Flow, Ports}
 use Rattle.ff_filter.specs.Views.{View, Same, Stopped}
-use Rattle.ff_filter.specs.Held.{after_held, held_closes}
+use Rattle.ff_filter.specs.laws.Held.{after_held, held_closes}
 use Rattle.ff_graph_dag.specs.declared.graph.Node.{Node}
 use Rattle.ff_graph_dag.specs.declared.graph.Port.{Port}
 use Rattle.ff_graph_dag.specs.declared.graph.Plan.{Plan}
 use Rattle.ff_graph_dag.specs.declared.placed.Placed.{Placed}
-use Rattle.ff_graph_dag.specs.Dags.{Spot, spot_of, held_at, reads, comes, gives, after, solve_spots, Free, StandsAt, AllUntouched, Leaves, IsDecided, Halted}
-use Rattle.ff_graph_dag.specs.Graphs.{spots, no_spot, spot_at, pad_at, edge_at, wire_at, port_shut, port_ended, port_stopped, graph_view, Apart, InThere}
-use Rattle.ff_graph_dag.specs.Graphs.{OutThere, Sound, IsPad}
-use Rattle.ff_graph_dag.specs.Readings.{spots_size, flag_is}
+use Rattle.ff_graph_dag.specs.laws.Dags.{Spot, spot_of, held_at, reads, comes, gives, after, solve_spots, Free, StandsAt, AllUntouched, Leaves, IsDecided, Halted}
+use Rattle.ff_graph_dag.specs.laws.Graphs.{spots, no_spot, spot_at, pad_at, edge_at, wire_at, port_shut, port_ended, port_stopped, graph_view, Apart, InThere}
+use Rattle.ff_graph_dag.specs.laws.Graphs.{OutThere, Sound, IsPad}
+use Rattle.ff_graph_dag.specs.laws.Readings.{spots_size, flag_is}
 use Rattle.ff_graph_dag.proofs.Edges.{OutsFit, gives_by, decided_stopped}
 use Rattle.ff_graph_dag.proofs.Moving.{spots_set, spot_is, size_set, node_of, each_by, each_map, each_all, flags, fits_alike, from_there, else_by}
 use Rattle.ff_graph_dag.proofs.DrawingLemmas.{Alikes, alikes_self}

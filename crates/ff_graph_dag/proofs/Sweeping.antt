@@ -10,9 +10,9 @@ use Rattle.ff_filter.specs.Joins.{Ports, silence}
 use Rattle.ff_graph_dag.specs.declared.graph.Node.{Node}
 use Rattle.ff_graph_dag.specs.declared.graph.Port.{Port}
 use Rattle.ff_graph_dag.specs.declared.graph.Plan.{Plan}
-use Rattle.ff_graph_dag.specs.Dags.{Spot, held_at, reads, comes, gives, after, solve_spots, Kept}
-use Rattle.ff_graph_dag.specs.Graphs.{no_spot, spot_at, wire_at, port_held, port_ended, Sound, IsCarried, IsEmpty, AreEmpty, begins, go_on, to_go}
-use Rattle.ff_graph_dag.specs.Readings.{at_is}
+use Rattle.ff_graph_dag.specs.laws.Dags.{Spot, held_at, reads, comes, gives, after, solve_spots, Kept}
+use Rattle.ff_graph_dag.specs.laws.Graphs.{no_spot, spot_at, wire_at, port_held, port_ended, Sound, IsCarried, IsEmpty, AreEmpty, begins, go_on, to_go}
+use Rattle.ff_graph_dag.specs.laws.Readings.{at_is}
 use Rattle.ff_graph_dag.proofs.Edges.{solve_alike, kept_self}
 use Rattle.ff_graph_dag.proofs.Moving.{sum_same}
 

@@ -3,15 +3,15 @@ use Rattle.std.proofs.Common.{◌≡◌, ◌≢◌, ℕ, zero, suc, ◌+◌, ◌
 use Rattle.std.proofs.Common.{slice_get, slice_index_or, slice_set, refl, ap, sym, ◌∙◌, subst, arith}
 use Rattle.std.proofs.lemmas.Bool.Decides.{nat_tests}
 use Rattle.ff_filter.specs.Views.{View}
-use Rattle.ff_filter.specs.Held.{held_closes}
+use Rattle.ff_filter.specs.laws.Held.{held_closes}
 use Rattle.ff_graph_dag.specs.declared.graph.Port.{Port}
 use Rattle.ff_graph_dag.specs.declared.graph.Wire.{Wire}
 use Rattle.ff_graph_dag.specs.declared.graph.Plan.{Plan}
 use Rattle.ff_graph_dag.specs.declared.placed.Placed.{Placed}
-use Rattle.ff_graph_dag.specs.Dags.{Spot, spot_of, held_at, Halted}
-use Rattle.ff_graph_dag.specs.Graphs.{spots, spot_at, wire_at, port_shut, port_ended, port_stopped, Sound}
-use Rattle.ff_graph_dag.specs.Readings.{left_true, right_true, spots_size}
-use Rattle.ff_graph_dag.specs.Spends.{spends_at, port_spent, port_done, SweptFrom, Swept}
+use Rattle.ff_graph_dag.specs.laws.Dags.{Spot, spot_of, held_at, Halted}
+use Rattle.ff_graph_dag.specs.laws.Graphs.{spots, spot_at, wire_at, port_shut, port_ended, port_stopped, Sound}
+use Rattle.ff_graph_dag.specs.laws.Readings.{left_true, right_true, spots_size}
+use Rattle.ff_graph_dag.specs.laws.Spends.{spends_at, port_spent, port_done, SweptFrom, Swept}
 use Rattle.ff_graph_dag.proofs.Moving.{spots_set, spot_is, from_there}
 use Rattle.ff_graph_dag.proofs.Stopping.{ends, stops_else, stops_here}
 use Rattle.ff_graph_dag.proofs.Carrying.{filter_there, source_there}

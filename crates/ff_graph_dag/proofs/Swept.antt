@@ -5,8 +5,8 @@ use Rattle.ff_filter.specs.Views.{View, Same, Fed}
 use Rattle.ff_graph_dag.specs.declared.graph.Port.{Port}
 use Rattle.ff_graph_dag.specs.declared.graph.Plan.{Plan}
 use Rattle.ff_graph_dag.specs.declared.placed.Placed.{Placed}
-use Rattle.ff_graph_dag.specs.Graphs.{feed_at}
-use Rattle.ff_graph_dag.specs.Spends.{spends_at, port_spent, feed_spent}
+use Rattle.ff_graph_dag.specs.laws.Graphs.{feed_at}
+use Rattle.ff_graph_dag.specs.laws.Spends.{spends_at, port_spent, feed_spent}
 use Rattle.ff_graph_dag.proofs.Sweeps.{got_at}
 
 pub fed_same : (u v w : View) (p : ℕ) (x : Item) → Fed u v p x → Same v w → Fed u w p x

@@ -6,7 +6,7 @@ use Rattle.std.proofs.lemmas.List.{get_or-set_same, get_or-set_other}
 use Rattle.ff_stream.specs.declared.item.Item.{Item}
 use Rattle.ff_stream.specs.declared.item.Lane.{Lane}
 use Rattle.ff_filter.specs.Views.{View, SamePorts, Same, Fed, Gave, Stopped, IsNew, closes}
-use Rattle.ff_graph_dag.specs.Over.{Told}
+use Rattle.ff_graph_dag.specs.laws.Over.{Told}
 
 pub told_same : (u v : View) (bs : List Bool) → SamePorts u v → ((q : ℕ) → v.ended q ≡ u.ended q) → ((q : ℕ) → v.stopped q ≡ u.stopped q) → Told u bs → Told v bs
 told_same u v bs p e s t = record {

@@ -1,10 +1,2 @@
-pub mod Dags
-pub mod GraphLaws
-pub mod Graphs
-pub mod Over
-pub mod Parts
-pub mod Readings
-pub mod SettleLaws
-pub mod Spends
-pub mod ties
 pub mod wiring
+pub mod laws

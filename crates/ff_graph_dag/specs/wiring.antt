@@ -1,4 +1,2 @@
 pub mod Flows
 pub mod Limits
-pub mod Meant
-pub mod Wires

@@ -2,13 +2,13 @@
 ghost use Rattle.std.specs.Prelude.{◌≡◌, ◌⊎◌, ◌<◌, ℕ, Bool, IfOk, replicate, length, true, false};
 ghost use Rattle.ff_filter.specs.Joins.{Ports};
 ghost use Rattle.ff_graph_dag.specs.declared.graph.Port.{Port as APort};
-ghost use Rattle.ff_graph_dag.specs.Parts.{AreNew, composed};
+ghost use Rattle.ff_graph_dag.specs.laws.Parts.{AreNew, composed};
 ghost use Rattle.ff_filter.specs.Views.{IsNew};
-ghost use Rattle.ff_graph_dag.specs.Graphs.{graph_view, spots, feed_at, port_shut, Sound};
-ghost use Rattle.ff_graph_dag.specs.GraphLaws.{graph_grows, graph_hides, graph_quiet};
-ghost use Rattle.ff_graph_dag.specs.SettleLaws.{graph_settles};
-ghost use Rattle.ff_graph_dag.specs.Spends.{leads_to_spent as leads_so, Swept, Swept-prop, SaysSpent, AllGaveAll};
-ghost use Rattle.ff_graph_dag.specs.Over.{Told, Told-prop, all_true, each_over, graph_spends, graph_spent_only, graph_shut_spent, graph_done_spent};
+ghost use Rattle.ff_graph_dag.specs.laws.Graphs.{graph_view, spots, feed_at, port_shut, Sound};
+ghost use Rattle.ff_graph_dag.specs.laws.GraphLaws.{graph_grows, graph_hides, graph_quiet};
+ghost use Rattle.ff_graph_dag.specs.laws.SettleLaws.{graph_settles};
+ghost use Rattle.ff_graph_dag.specs.laws.Spends.{leads_to_spent as leads_so, Swept, Swept-prop, SaysSpent, AllGaveAll};
+ghost use Rattle.ff_graph_dag.specs.laws.Over.{Told, Told-prop, all_true, each_over, graph_spends, graph_spent_only, graph_shut_spent, graph_done_spent};
 
 use crate::graph::{Graph, Plan};
 use crate::placed::{Placed, is_last};

@@ -1,8 +1,8 @@
 //! The plan of filters that feed one another, and the ways of items along its edges.
 ghost use Rattle.std.specs.Prelude.{◌≡◌, ◌<◌, ◌+◌, length, Option, None, Ok, Some, OnOk, OnErr, IfOk, IfErr, true, false};
-ghost use Rattle.ff_graph_dag.specs.Graphs.{Sound, Sound-prop, graph_view, spots, to_go, IsCarried, IsEmpty, AreEmpty, IsQuiet, ways_of, port_held, wire_at};
+ghost use Rattle.ff_graph_dag.specs.laws.Graphs.{Sound, Sound-prop, graph_view, spots, to_go, IsCarried, IsEmpty, AreEmpty, IsQuiet, ways_of, port_held, wire_at};
 ghost use Rattle.ff_stream.specs.declared.item.Item.{Item};
-ghost use Rattle.ff_graph_dag.specs.Spends.{feed_spent, SweptFrom, Swept};
+ghost use Rattle.ff_graph_dag.specs.laws.Spends.{feed_spent, SweptFrom, Swept};
 ghost use Rattle.ff_filter.specs.Views.{Same, Fed, Gave, Waits, Stopped};
 
 use crate::placed::Placed;

@@ -12,8 +12,8 @@
 //! no more of an input, the output that feeds it is stopped, and so on upwards. So nothing is kept for an output that
 //! is over.
 //!
-//! What a graph still gives is said on all edges at once (`specs/Graphs`). At the start it is the solution of a
-//! network with a part for each filter (`specs/Parts`).
+//! What a graph still gives is said on all edges at once (`specs/laws/Graphs`). At the start it is the solution of a
+//! network with a part for each filter (`specs/laws/Parts`).
 //!
 //! `ties`: The edges on the way to each output of a plan, and what is read off a plan that makes it sound.
 //!

@@ -3,9 +3,9 @@ ghost use Rattle.std.specs.Prelude.{◌≡◌, ℕ, ◌<◌, length, slice_set, 
 ghost use Rattle.ff_filter.specs.Joins.{silence, Ports};
 ghost use Rattle.ff_stream.specs.Ports.{nothing};
 ghost use Rattle.ff_filter.specs.Views.{Gave, Waits, Same, Stopped, IsNew, closes};
-ghost use Rattle.ff_filter.specs.Held.{held_closes};
-ghost use Rattle.ff_graph_dag.specs.Parts.{IsNewSpot};
-ghost use Rattle.ff_graph_dag.specs.Dags.{spot_of, spot_shut, held_at, IsDecided, IsReady, Delivered, Kept, Pulled, Halted};
+ghost use Rattle.ff_filter.specs.laws.Held.{held_closes};
+ghost use Rattle.ff_graph_dag.specs.laws.Parts.{IsNewSpot};
+ghost use Rattle.ff_graph_dag.specs.laws.Dags.{spot_of, spot_shut, held_at, IsDecided, IsReady, Delivered, Kept, Pulled, Halted};
 
 use ff_filter::Filter;
 use ff_stream::{Item, Refused};

@@ -1,3 +1,4 @@
 pub mod orders
 pub mod pads
 pub mod labels
+pub mod laws

@@ -2,4 +2,3 @@ pub mod Clear
 pub mod Labels
 pub mod Names
 pub mod Order
-pub mod Tables

@@ -2,7 +2,7 @@
 use Rattle.std.proofs.Common.{◌≡◌, ℕ, List, Bool, true, false, subst, sym, refl, ap, ◌∙◌}
 use Rattle.std.specs.Str.{bytes_eq}
 use Rattle.std.proofs.lemmas.Slice.Eq.{bytes_eq-Decides}
-use Rattle.ff_host.specs.Tally.{Table, marks_at, Sets}
+use Rattle.ff_host.specs.laws.Tally.{Table, marks_at, Sets}
 use Rattle.ff_host.specs.declared.tally.Marks.{Marks}
 
 pub kept_count : (count : Marks → ℕ) (old new : Table) (name : List ℕ) (marks : Marks) → Sets old new name marks

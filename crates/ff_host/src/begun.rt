@@ -1,7 +1,7 @@
 //! A source whose first bytes were read already.
 ghost use Rattle.std.specs.Prelude.{◌≡◌, ◌≤◌, ◌+◌, ◌&&◌, ℕ, List, length, true, vec_capacity};
 ghost use Rattle.std.specs.Io.KnownBytes.{prepend_known};
-ghost use Rattle.ff_host.specs.Begun.{still_in};
+ghost use Rattle.ff_host.specs.laws.Begun.{still_in};
 
 use crate::fill::copy_front;
 use crate::source::{Failed, Source};

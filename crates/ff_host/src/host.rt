@@ -2,7 +2,7 @@
 ghost use Rattle.std.specs.Prelude.{◌≡◌, ◌-◌, List, [], ℕ, false, Option, Some, IfOk, OnOk, OnErr, IsErrOf};
 ghost use Rattle.ff_host.specs.Causes.{HasCause, HasCauseOf, added, SameElsewhere, SameCounts};
 ghost use Rattle.ff_host.specs.Files.{Files, KeepsFiles, PutsFile, GivesFile, HoldsNothing, TellsOf};
-ghost use Rattle.ff_host.specs.Opens.{CountsOpening};
+ghost use Rattle.ff_host.specs.laws.Opens.{CountsOpening};
 ghost use Rattle.ff_host.specs.declared.host.HostError.TheVariants.{NoMemory};
 
 use crate::sink::Sink;

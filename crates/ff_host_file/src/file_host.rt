@@ -1,6 +1,6 @@
 //! The machine's files as a host.
 ghost use Rattle.std.specs.Prelude.{◌≡◌, ◌+◌, ◌<◌, ◌≤◌, ℕ, List, Some, None, IsTrue, string_bytes};
-ghost use Rattle.ff_host.specs.Tally.{marks_at};
+ghost use Rattle.ff_host.specs.laws.Tally.{marks_at};
 
 use crate::cause::{Cause, Causes};
 use crate::file_id::{FileId, id_of, is_among, let_go, note};

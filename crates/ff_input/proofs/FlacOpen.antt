@@ -11,7 +11,7 @@ use Rattle.ff_flac_dec.specs.Streams.{stream_of}
 use Rattle.ff_flac_dec.specs.Packets.{unit, packets_from, demuxed}
 use Rattle.ff_flac_dec.specs.Cuts.{Goes, flac_cutter}
 use Rattle.ff_flac_dec.proofs.UnitLaws.{wait_more, unit_begins, packets_whole, packets_none}
-use Rattle.ff_input.specs.Reading.{IsUndecided}
+use Rattle.ff_input.specs.laws.Reading.{IsUndecided}
 use Rattle.ff_input.proofs.OpenSteps.{get_behind, get_past}
 
 pub flac_open : (head : FlacHead) (used count n : ℕ) (held fed : List ℕ) → IsStream (stream_of head.head) → unit (stream_of head.head) held ≡ Wait

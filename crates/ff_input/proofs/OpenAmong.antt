@@ -4,7 +4,7 @@ use Rattle.std.specs.Prelude.{slice_get}
 use Rattle.ff_frame.specs.declared.packet.Pkt.{Pkt}
 use Rattle.ff_reader.specs.Cutters.{Cutter}
 use Rattle.ff_input.proofs.Among.{IsAmong}
-use Rattle.ff_input.specs.Reading.{IsUndecided, LeavesOpen}
+use Rattle.ff_input.specs.laws.Reading.{IsUndecided, LeavesOpen}
 
 module _ {H C K D : Type 0} {own : Cutter H C} {all : Cutter K D} {head_in : H → K} {cut_in : C → D} (a : IsAmong own all head_in cut_in) where
   undecided_among : (h : H) (fed : List ℕ) (n : ℕ) → IsUndecided own h fed n → IsUndecided all (head_in h) fed n

@@ -11,14 +11,14 @@ use Rattle.ff_frame.specs.declared.head.Codec.{Codec}
 use Rattle.ff_frame.specs.declared.head.StreamHead.{StreamHead}
 use Rattle.ff_frame.specs.declared.head.StreamHead.TheVariants.{Audio, Video}
 use Rattle.ff_frame.specs.declared.packet.Pkt.{Pkt}
-use Rattle.ff_frame.specs.PcmLaws.{few_sample_bytes}
+use Rattle.ff_frame.specs.laws.PcmLaws.{few_sample_bytes}
 use Rattle.ff_frame.specs.Codecs.{sample_bytes}
 use Rattle.ff_pcm.specs.declared.body.head.PcmHead.{PcmHead}
 use Rattle.ff_pcm.specs.declared.body.cut.PcmCut.{PcmCut}
 use Rattle.ff_pcm.specs.body.Packets.{block_of, body, frames, packet_at, packet_count, packets_of, whole_len, IsHead, IsStream}
 use Rattle.ff_pcm.specs.body.Cuts.{ReachesLen, IsBodyEnded, Cuts, has_ended, is_done, pcm_cutter}
 use Rattle.ff_pcm.proofs.BodyLemmas.CutLaws.{packet_is, packets_get, packets_length, body_length}
-use Rattle.ff_input.specs.Reading.{IsUndecided}
+use Rattle.ff_input.specs.laws.Reading.{IsUndecided}
 
 le_or_more : (m n : ℕ) → (m ≤ n) ⊎ (n < m)
 le_or_more zero n = inl (omega arith)

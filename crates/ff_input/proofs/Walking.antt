@@ -14,7 +14,7 @@ use Rattle.ff_input.specs.declared.walk.InputWalk.TheVariants.{Start, Other, In}
 use Rattle.ff_input.specs.Answers.{Answers, IsBehind}
 use Rattle.ff_input.specs.FirstWords.{told}
 use Rattle.ff_input.specs.Formats.{Found, InputHead, IsHead, first_words, named, head_in, head_by, input_head, any_head}
-use Rattle.ff_input.specs.Places.{IsOf, IsOfNone, Reached, IsReached}
+use Rattle.ff_input.specs.laws.Places.{IsOf, IsOfNone, Reached, IsReached}
 use Rattle.ff_input.proofs.FirstWordLaws.{named_stays, none_stays, open_unnamed, open_goes_on}
 use Rattle.ff_input.proofs.Told.{answers_same}
 use Rattle.ff_input.proofs.WordLaws.{all_words, words_apart}

@@ -13,15 +13,15 @@ use Rattle.ff_reader.proofs.ReadingLaws.{reading_at, within_short}
 use Rattle.ff_format.specs.declared.format.FileFormat.TheVariants as format
 use Rattle.ff_y4m.specs.declared.head.Y4mHead.{Y4mHead}
 use Rattle.ff_flac_dec.specs.declared.head.FlacHead.{FlacHead}
-use Rattle.ff_au.specs.HeadLaws as au_laws
+use Rattle.ff_au.specs.laws.HeadLaws as au_laws
 use Rattle.ff_au.specs.Heads as au
 use Rattle.ff_pcm.specs.declared.body.head.PcmHead.{PcmHead}
-use Rattle.ff_wav.specs.HeadLaws as wav_laws
+use Rattle.ff_wav.specs.laws.HeadLaws as wav_laws
 use Rattle.ff_wav.proofs.FormLaws as wav_forms
 use Rattle.ff_y4m.specs.Heads as y4m
 use Rattle.ff_y4m.specs.Lines.{line_feed, space}
 use Rattle.ff_y4m.proofs.HeadLaws as y4m_laws
-use Rattle.ff_flac_dec.specs.HeadLaws as flac_laws
+use Rattle.ff_flac_dec.specs.laws.HeadLaws as flac_laws
 use Rattle.ff_wav.specs.Heads as wav
 use Rattle.ff_flac_dec.specs.Heads as flac
 use Rattle.ff_input.specs.declared.one_of.OneOf.TheVariants.{First, Other}

@@ -8,7 +8,7 @@ use Rattle.ff_y4m.specs.Packets.{unit, packets_from, packet_in, demuxed}
 use Rattle.ff_y4m.specs.Cuts.{Goes, y4m_cutter}
 use Rattle.ff_y4m.proofs.DecidedLaws.{wait_more, frame_found}
 use Rattle.ff_y4m.proofs.UnitLaws.{packets_frame, packets_none}
-use Rattle.ff_input.specs.Reading.{IsUndecided}
+use Rattle.ff_input.specs.laws.Reading.{IsUndecided}
 use Rattle.ff_input.proofs.OpenSteps.{get_behind, get_past}
 
 pub y4m_open : (head : Y4mHead) (used n : ℕ) (held fed : List ℕ) → unit head.frame_bytes held ≡ Wait → ((more : List ℕ) → Goes head used n held fed more)

@@ -31,10 +31,10 @@ use Rattle.ff_input.specs.declared.one_of.OneOf.TheVariants.{First, Other}
 use Rattle.ff_input.specs.Answers.{as_found, either_head, either_reached, units_reached, wav_reached}
 use Rattle.ff_input.specs.Either.{either_cutter}
 use Rattle.ff_input.specs.FirstWords.{Word, named_in}
-use Rattle.ff_input.specs.FlacShapes.{flac_owes}
-use Rattle.ff_input.specs.Owed.{Owes, either_owes}
-use Rattle.ff_input.specs.PcmShapes.{pcm_owes}
-use Rattle.ff_input.specs.Y4mShapes.{y4m_owes}
+use Rattle.ff_input.specs.laws.FlacShapes.{flac_owes}
+use Rattle.ff_input.specs.laws.Owed.{Owes, either_owes}
+use Rattle.ff_input.specs.laws.PcmShapes.{pcm_owes}
+use Rattle.ff_input.specs.laws.Y4mShapes.{y4m_owes}
 
 -- ---- a line for each format
 

@@ -2,11 +2,4 @@ pub mod Answers
 pub mod Either
 pub mod FirstWords
 pub mod Formats
-pub mod FlacShapes
-pub mod PcmShapes
-pub mod Owed
-pub mod Places
-pub mod Reading
-pub mod Shapes
-pub mod Streams
-pub mod Y4mShapes
+pub mod laws

@@ -17,8 +17,8 @@ pub const PIECE: usize = 65536;
 /// A format whose inputs can be demuxed. The packets of each are in shape for their lane. More is read only where
 /// what was read leaves the next packet undecided.
 pub trait Demuxable: PacketCut {
-    ghost use Rattle.ff_input.specs.Owed.{Owes};
-    ghost use Rattle.ff_input.specs.Reading.{LeavesOpen};
+    ghost use Rattle.ff_input.specs.laws.Owed.{Owes};
+    ghost use Rattle.ff_input.specs.laws.Reading.{LeavesOpen};
 
     /// How many bytes are asked for where more are wanted.
     ghost asks: { Self → ℕ };
@@ -58,8 +58,8 @@ pub trait Demuxable: PacketCut {
 }
 
 impl Demuxable for PcmCut {
-    ghost use Rattle.ff_input.specs.Reading.{piece_size};
-    ghost use Rattle.ff_input.specs.PcmShapes.{pcm_owes};
+    ghost use Rattle.ff_input.specs.laws.Reading.{piece_size};
+    ghost use Rattle.ff_input.specs.laws.PcmShapes.{pcm_owes};
 
     ghost asks = { λ cut. piece_size };
 
@@ -81,8 +81,8 @@ impl Demuxable for PcmCut {
 }
 
 impl Demuxable for Y4mCut {
-    ghost use Rattle.ff_input.specs.Reading.{piece_size};
-    ghost use Rattle.ff_input.specs.Y4mShapes.{y4m_owes};
+    ghost use Rattle.ff_input.specs.laws.Reading.{piece_size};
+    ghost use Rattle.ff_input.specs.laws.Y4mShapes.{y4m_owes};
 
     ghost asks = { λ cut. piece_size };
 
@@ -104,7 +104,7 @@ impl Demuxable for Y4mCut {
 }
 
 impl Demuxable for FlacCut {
-    ghost use Rattle.ff_input.specs.FlacShapes.{flac_asks, flac_owes};
+    ghost use Rattle.ff_input.specs.laws.FlacShapes.{flac_asks, flac_owes};
 
     ghost asks = { flac_asks };
 
@@ -131,7 +131,7 @@ impl Demuxable for FlacCut {
 
 impl<A: Demuxable, B: Demuxable> Demuxable for OneOf<A, B> {
     ghost use Rattle.ff_input.specs.Either.{either};
-    ghost use Rattle.ff_input.specs.Owed.{either_owes};
+    ghost use Rattle.ff_input.specs.laws.Owed.{either_owes};
 
     ghost asks = { either A.asks B.asks };
 

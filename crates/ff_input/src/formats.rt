@@ -2,7 +2,7 @@
 ghost use Rattle.std.specs.Prelude.{◌≡◌, ◌≤◌, [], Some, Err, length};
 ghost use Rattle.ff_input.specs.FirstWords.{told};
 ghost use Rattle.ff_input.specs.Formats.{first_words};
-ghost use Rattle.ff_input.specs.Places.{Reached};
+ghost use Rattle.ff_input.specs.laws.Places.{Reached};
 
 use crate::first_word::{FirstWord, told_by_word};
 use crate::head_reader::HeadReader;

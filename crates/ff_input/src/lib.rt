@@ -10,8 +10,8 @@
 //! nested, are one format. `formats` lists them, and beside it `specs/Formats` says what the head of a whole input
 //! is. It is the head in the format that was given, or in the one whose first words the input has. `specs/FirstWords`
 //! says when these are told. `specs/Answers` says what an answer means that was given at a prefix of the input. It is
-//! not yet exactly where some bytes decide otherwise than others, and else the head, whatever follows. `specs/Places`
-//! says how far a walk has read, `specs/Reading` which bytes a cut asks for, and `specs/Shapes` that packets are in
+//! not yet exactly where some bytes decide otherwise than others, and else the head, whatever follows. `specs/laws/Places`
+//! says how far a walk has read, `specs/laws/Reading` which bytes a cut asks for, and `specs/laws/Shapes` that packets are in
 //! shape.
 #![tactic(auto)]
 

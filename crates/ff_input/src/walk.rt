@@ -5,7 +5,7 @@ ghost use Rattle.ff_input.specs.declared.first_word.FirstWord.TheVariants as fir
 ghost use Rattle.ff_input.specs.Answers.{Answers};
 ghost use Rattle.ff_input.specs.FirstWords.{told};
 ghost use Rattle.ff_input.specs.Formats.{InputHead, IsHead, first_words, input_head};
-ghost use Rattle.ff_input.specs.Places.{Reached, IsReached};
+ghost use Rattle.ff_input.specs.laws.Places.{Reached, IsReached};
 
 use crate::first_word::FirstWord;
 use crate::formats::{AnyWalk, InputHead, start_of, told_by_words};

@@ -15,18 +15,18 @@ use Rattle.ff_stream.specs.Within.{some_pass, passes_limits}
 use Rattle.ff_filter.specs.declared.after.After.{After}
 use Rattle.ff_filter.specs.declared.after.After.TheVariants.{More, Whole, Broke}
 use Rattle.ff_filter.specs.Joins.{Flow, silence, joined}
-use Rattle.ff_filter.specs.Limits.{limit_step}
+use Rattle.ff_filter.specs.laws.Limits.{limit_step}
 use Rattle.ff_filter.specs.Made.{is_over}
 use Rattle.ff_filter.specs.Runs.{run_at, no_more}
 use Rattle.ff_joins.specs.declared.join.Join.{Join}
 use Rattle.ff_joins.specs.declared.sound_inlet.SoundInlet.{SoundInlet}
 use Rattle.ff_joins.specs.Joined.{Row, row_stream, rows_to, join_mark, frames_in, frame_at, frames_to, flattened}
 use Rattle.ff_joins.specs.JoinOptions.{channels_of}
-use Rattle.ff_joins.specs.JoinedLaws.{rows_few, rows_many}
-use Rattle.ff_joins.specs.JoinCuts.{width_to, frame_length, frame_end, is_late, next_frames}
-use Rattle.ff_joins.specs.JoinDrawing.{made_on, kept_rows, HaveAll, StandsSo}
-use Rattle.ff_joins.specs.JoinSeen.{fed_mark}
-use Rattle.ff_joins.specs.Lots.{Lot, lots, last_port, rows_kept, row_then, all_come, start_after, frame_on, skipped, cell, row_to, cells_to}
+use Rattle.ff_joins.specs.laws.JoinedLaws.{rows_few, rows_many}
+use Rattle.ff_joins.specs.laws.JoinCuts.{width_to, frame_length, frame_end, is_late, next_frames}
+use Rattle.ff_joins.specs.laws.JoinDrawing.{made_on, kept_rows, HaveAll, StandsSo}
+use Rattle.ff_joins.specs.laws.JoinSeen.{fed_mark}
+use Rattle.ff_joins.specs.laws.Lots.{Lot, lots, last_port, rows_kept, row_then, all_come, start_after, frame_on, skipped, cell, row_to, cells_to}
 use Rattle.ff_joins.proofs.Framing.{rows_skipped, skip_long}
 use Rattle.ff_joins.proofs.FrameSteps.{dropped_rows, rows_drop, rows_same, cells_are, come_many, come_silent}
 use Rattle.ff_joins.proofs.Decisions.{so_open, so_whole, so_lost}

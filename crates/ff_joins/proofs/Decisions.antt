@@ -13,17 +13,17 @@ use Rattle.ff_stream.specs.Within.{passes_limits}
 use Rattle.ff_filter.specs.declared.after.After.{After}
 use Rattle.ff_filter.specs.declared.after.After.TheVariants.{More, Whole, Broke}
 use Rattle.ff_filter.specs.Joins.{Flow, Ports, silence, one, before}
-use Rattle.ff_filter.specs.Limits.{limited}
+use Rattle.ff_filter.specs.laws.Limits.{limited}
 use Rattle.ff_filter.specs.Made.{behind, is_over, left}
 use Rattle.ff_filter.specs.Views.{Gave, Waits, closes}
 use Rattle.ff_joins.specs.declared.join.Join.{Join}
 use Rattle.ff_joins.specs.Joined.{Row, row_stream, rows_to, rows_in, join_mark, frames_in, frames_to, joined_rows, flattened, sound_frame}
 use Rattle.ff_joins.specs.JoinOptions.{rate_of, bits_of, channels_of}
-use Rattle.ff_joins.specs.JoinedLaws.{rows_few, rows_many}
-use Rattle.ff_joins.specs.JoinBreaks.{EndsAt, LostAt, mark_whole, mark_lost, whole_by, lost_by}
-use Rattle.ff_joins.specs.Lots.{Lot, lots, rows_kept, row_then, all_come, start_after, frame_on, still_joined, lots_view, last_port, skipped, no_rows, has_started}
-use Rattle.ff_joins.specs.JoinSeen.{join_seen}
-use Rattle.ff_joins.specs.JoinDrawing.{due, frame_with, made_on, kept_rows, HaveAll, IsNextFrame, StandsSo, IsLast}
+use Rattle.ff_joins.specs.laws.JoinedLaws.{rows_few, rows_many}
+use Rattle.ff_joins.specs.laws.JoinBreaks.{EndsAt, LostAt, mark_whole, mark_lost, whole_by, lost_by}
+use Rattle.ff_joins.specs.laws.Lots.{Lot, lots, rows_kept, row_then, all_come, start_after, frame_on, still_joined, lots_view, last_port, skipped, no_rows, has_started}
+use Rattle.ff_joins.specs.laws.JoinSeen.{join_seen}
+use Rattle.ff_joins.specs.laws.JoinDrawing.{due, frame_with, made_on, kept_rows, HaveAll, IsNextFrame, StandsSo, IsLast}
 use Rattle.ff_joins.proofs.Settling.{long_first, short_first}
 use Rattle.ff_joins.proofs.Framing.{rows_long}
 use Rattle.ff_joins.proofs.FrameSteps.{dropped_rows, joined_same, whole_first, few_open, last_one, none_left, take_all, come_skipped, come_many, come_closed}

@@ -12,15 +12,15 @@ use Rattle.ff_stream.specs.Within.{passes_limits}
 use Rattle.ff_filter.specs.declared.after.After.{After}
 use Rattle.ff_filter.specs.declared.after.After.TheVariants.{More, Whole, Broke}
 use Rattle.ff_filter.specs.Joins.{Flow, Ports, before, before_if, before_at}
-use Rattle.ff_filter.specs.Limits.{limited}
+use Rattle.ff_filter.specs.laws.Limits.{limited}
 use Rattle.ff_filter.specs.Made.{is_over, left, closing}
 use Rattle.ff_filter.specs.Views.{Same, Fed, closes}
 use Rattle.ff_joins.specs.declared.join.Join.{Join}
 use Rattle.ff_joins.specs.declared.sound_inlet.SoundInlet.{SoundInlet}
 use Rattle.ff_joins.specs.Joined.{Row, rows_of, row_stream, first_start, joined_rows}
-use Rattle.ff_joins.specs.Lots.{Lot, lots, lot_of, lane_of, last_port, rows_kept, row_then, comes, all_come, start_after, frame_on, has_started_by, has_started}
-use Rattle.ff_joins.specs.Lots.{no_rows, still_joined, lots_view}
-use Rattle.ff_joins.specs.JoinSeen.{join_seen}
+use Rattle.ff_joins.specs.laws.Lots.{Lot, lots, lot_of, lane_of, last_port, rows_kept, row_then, comes, all_come, start_after, frame_on, has_started_by, has_started}
+use Rattle.ff_joins.specs.laws.Lots.{no_rows, still_joined, lots_view}
+use Rattle.ff_joins.specs.laws.JoinSeen.{join_seen}
 use Rattle.ff_joins.proofs.Framing.{lots_here, lots_others, lots_same, lanes_same}
 
 -- an item of which the rows were kept

@@ -14,9 +14,9 @@ use Rattle.ff_filter.specs.Joins.{Flow, Ports, silence}
 use Rattle.ff_joins.specs.Tests.{all_to, any_to}
 use Rattle.ff_joins.specs.Joined.{Row, row_stream, side_by_side, rows_to, rows_in, ends_at, lost_at, mark_by, join_mark, frames_in, frame_at}
 use Rattle.ff_joins.specs.Joined.{frames_to, joined_rows, flattened}
-use Rattle.ff_joins.specs.JoinedLaws.{rows_many}
-use Rattle.ff_joins.specs.JoinBreaks.{lasts}
-use Rattle.ff_joins.specs.Lots.{Lot, rows_kept, row_then, all_come, skipped, cell, row_to, cells_to}
+use Rattle.ff_joins.specs.laws.JoinedLaws.{rows_many}
+use Rattle.ff_joins.specs.laws.JoinBreaks.{lasts}
+use Rattle.ff_joins.specs.laws.Lots.{Lot, rows_kept, row_then, all_come, skipped, cell, row_to, cells_to}
 use Rattle.ff_joins.proofs.Framing.{rows_skipped, rows_long, row_at}
 
 -- rows side by side -----------------------------------------------------------------------------------------------------

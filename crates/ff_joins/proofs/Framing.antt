@@ -9,7 +9,7 @@ use Rattle.ff_stream.specs.declared.item.Lane.{Lane}
 use Rattle.ff_stream.specs.declared.item.Lane.TheVariants.{Frames}
 use Rattle.ff_joins.specs.declared.sound_inlet.SoundInlet.{SoundInlet}
 use Rattle.ff_joins.specs.Joined.{Row, split_rows}
-use Rattle.ff_joins.specs.Lots.{Lot, lots, lot_of, lane_of, rows_kept, skipped, cell, no_rows, has_started}
+use Rattle.ff_joins.specs.laws.Lots.{Lot, lots, lot_of, lane_of, rows_kept, skipped, cell, no_rows, has_started}
 
 pub few_samples : (count channels most : ℕ) → count * channels ≤ most → count * channels ≤ most
 few_samples count channels most le = le

@@ -21,8 +21,8 @@ use Rattle.ff_stream.specs.Lanes.{IsItemFor, Follows, InOrder, AreInShape, IsVal
 use Rattle.ff_filter.specs.Joins.{Ports}
 use Rattle.ff_joins.specs.Joined.{Row, split_rows, rows_of, all_rows_of, row_stream, side_by_side, rows_to, join_mark, frames_in, frame_at, frames_to, flattened}
 use Rattle.ff_joins.specs.Joined.{first_start, sound_frame, side_to_side}
-use Rattle.ff_joins.specs.JoinedLaws.{rows_few}
-use Rattle.ff_joins.specs.JoinShapes.{channels_to}
+use Rattle.ff_joins.specs.laws.JoinedLaws.{rows_few}
+use Rattle.ff_joins.specs.laws.JoinShapes.{channels_to}
 
 -- one item behind another --------------------------------------------------------------------------------------------------
 

@@ -9,12 +9,12 @@ use Rattle.ff_stream.specs.declared.item.Lane.TheVariants.{Frames}
 use Rattle.ff_stream.specs.Within.{passes_limits}
 use Rattle.ff_filter.specs.declared.after.After.TheVariants.{More}
 use Rattle.ff_filter.specs.Joins.{Ports}
-use Rattle.ff_filter.specs.Limits.{limited, limited_is}
+use Rattle.ff_filter.specs.laws.Limits.{limited, limited_is}
 use Rattle.ff_filter.specs.Views.{View}
 use Rattle.ff_joins.specs.declared.sound_inlet.SoundInlet.{SoundInlet}
 use Rattle.ff_joins.specs.Joined.{Row, joined_rows, first_start, sound_frame}
 use Rattle.ff_joins.specs.JoinOptions.{rate_of, bits_of, channels_of}
-use Rattle.ff_joins.specs.Lots.{Lot, lots, lot_of, lane_of, last_port, all_come, frame_on, lots_view, no_rows, rows_kept, has_started}
+use Rattle.ff_joins.specs.laws.Lots.{Lot, lots, lot_of, lane_of, last_port, all_come, frame_on, lots_view, no_rows, rows_kept, has_started}
 use Rattle.ff_joins.specs.JoinView.{channels_at, join_view, AreEmpty}
 
 abbrev empty_lot : ℕ → Lot

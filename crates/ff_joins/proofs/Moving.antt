@@ -16,14 +16,14 @@ use Rattle.ff_filter.specs.declared.inlet.Inlet.{Inlet}
 use Rattle.ff_filter.specs.Joins.{Flow, Ports, silence, one, before, before_if, before_at}
 use Rattle.ff_filter.specs.Views.{View, Same, Fed, Gave, Waits, IsSpent, IsOver, closes}
 use Rattle.ff_filter.specs.Made.{is_over, left, waiting, closing, steps_spent}
-use Rattle.ff_filter.specs.Limits.{limited}
-use Rattle.ff_filter.specs.StepperLaws.{over_left, or_left, or_right, or_one}
+use Rattle.ff_filter.specs.laws.Limits.{limited}
+use Rattle.ff_filter.specs.laws.StepperLaws.{over_left, or_left, or_right, or_one}
 use Rattle.ff_filter.proofs.Stepping.{closing-some}
 use Rattle.ff_joins.specs.declared.segments.Segments.{Segments}
 use Rattle.ff_joins.specs.Concats.{onward}
-use Rattle.ff_joins.specs.ConcatLaws.{onward-same}
-use Rattle.ff_joins.specs.Segmented.{came_at, came, over_at, bare_at, is_none, still_made, fields_view, segments_view, segments_spent, is_drawn, is_settled}
-use Rattle.ff_joins.specs.SegmentLaws.{segments-spent_only}
+use Rattle.ff_joins.specs.laws.ConcatLaws.{onward-same}
+use Rattle.ff_joins.specs.laws.Segmented.{came_at, came, over_at, bare_at, is_none, still_made, fields_view, segments_view, segments_spent, is_drawn, is_settled}
+use Rattle.ff_joins.specs.laws.SegmentLaws.{segments-spent_only}
 use Rattle.ff_joins.proofs.Placing.{came_there, came_here, came_others, over_here, over_others, over_same, bare_there, bare_here, bare_came, came_same, bare_open}
 
 pub fed_then : (u v w : View) (p : ℕ) (x : Item) → Fed u v p x → Same v w → Fed u w p x

@@ -9,7 +9,7 @@ use Rattle.ff_filter.specs.declared.after.After.TheVariants.{More, Whole, Broke}
 use Rattle.ff_filter.specs.declared.inlet.Inlet.{Inlet}
 use Rattle.ff_filter.specs.Joins.{Flow}
 use Rattle.ff_filter.specs.Made.{waiting, is_over}
-use Rattle.ff_joins.specs.Segmented.{came_at, over_at, bare_at, is_none, waits_in}
+use Rattle.ff_joins.specs.laws.Segmented.{came_at, over_at, bare_at, is_none, waits_in}
 
 pub came_there : (is : List Inlet) (p : ℕ) (i : Inlet) → p < length is → i ≡ get_or is p i → (t : Flow) → came_at is p t ≡ waiting i.queue.items i.after t
 came_there [] p i lt e t = absurd (omega (arith, lt))

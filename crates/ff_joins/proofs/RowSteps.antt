@@ -4,8 +4,8 @@ use Rattle.std.proofs.lemmas.List.{take-append-le, drop-append-le, drop-take, ta
 use Rattle.std.proofs.lemmas.Slice.{drop-append-drop}
 use Rattle.std.proofs.Math.Nat.{mul-le-mul_right}
 use Rattle.std.proofs.Math.Seq.{take-add}
-use Rattle.ff_joins.specs.JoinCuts.{width_to}
-use Rattle.ff_joins.specs.Lots.{Lot, cell, row_to, cells_to}
+use Rattle.ff_joins.specs.laws.JoinCuts.{width_to}
+use Rattle.ff_joins.specs.laws.Lots.{Lot, cell, row_to, cells_to}
 
 -- samples over those that stand from an index on ------------------------------------------------------------------------------
 

@@ -16,7 +16,7 @@ use Rattle.ff_stream.specs.Times.{HasTime, start_of, end_of, ticks, end_ticks}
 use Rattle.ff_stream.specs.Stream.{Mark, still_open, whole, broken}
 use Rattle.ff_stream.specs.Lanes.{FitsFrames, StartsAfter, IsItemFor, Follows, InOrder, AreInShape, IsValid, EndsInTime}
 use Rattle.ff_stream.specs.Within.{before_pass, within, passes_limits}
-use Rattle.ff_stream.specs.WithinLaws.{within_valid}
+use Rattle.ff_stream.specs.laws.WithinLaws.{within_valid}
 use Rattle.ff_filter.specs.Joins.{Flow, Ports}
 use Rattle.ff_joins.specs.Concats.{time_later, moved, later, last_end, in_order, concatenated}
 use Rattle.ff_joins.specs.Following.{followed_at}

@@ -10,9 +10,9 @@ use Rattle.ff_filter.specs.Joins.{Flow, Ports, one, before, before_all, before_a
 use Rattle.ff_filter.specs.Views.{closes}
 use Rattle.ff_filter.specs.Made.{waiting, is_over}
 use Rattle.ff_filter.specs.Runs.{no_more}
-use Rattle.ff_filter.specs.Limits.{limit_step, limited, run_next}
+use Rattle.ff_filter.specs.laws.Limits.{limit_step, limited, run_next}
 use Rattle.ff_joins.specs.Concats.{later, onward}
-use Rattle.ff_joins.specs.ConcatLaws.{data_before, later-closes, onward-next}
+use Rattle.ff_joins.specs.laws.ConcatLaws.{data_before, later-closes, onward-next}
 
 pub open_is : (a : After) → is_over a ≡ false → a ≡ More
 open_is More e = refl

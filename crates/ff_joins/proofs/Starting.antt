@@ -10,12 +10,12 @@ use Rattle.ff_filter.specs.declared.after.After.{After}
 use Rattle.ff_filter.specs.declared.after.After.TheVariants.{More}
 use Rattle.ff_filter.specs.declared.inlet.Inlet.{Inlet}
 use Rattle.ff_filter.specs.Joins.{Flow, Ports}
-use Rattle.ff_filter.specs.Limits.{limited, limited_is}
+use Rattle.ff_filter.specs.laws.Limits.{limited, limited_is}
 use Rattle.ff_filter.specs.Made.{waiting, is_over}
 use Rattle.ff_filter.specs.Views.{View}
 use Rattle.ff_joins.specs.Concats.{onward, concatenated}
 use Rattle.ff_joins.specs.ConcatOptions.{concat_view, EachIs}
-use Rattle.ff_joins.specs.Segmented.{came_at, over_at, bare_at, is_none, still_made, fields_view, AreNew}
+use Rattle.ff_joins.specs.laws.Segmented.{came_at, over_at, bare_at, is_none, still_made, fields_view, AreNew}
 
 module _ (i : Inlet) (queue : i.queue.items ≡ []) (after : i.after ≡ More) where
   came_new : (is : List Inlet) → ((p : ℕ) (t : Flow) → came_at is p t ≡ t) → (p : ℕ) (t : Flow) → came_at (is ++ i ∷ []) p t ≡ t

@@ -6,7 +6,7 @@ use mathlib.Core.List.{IsPrefix}
 use Rattle.ff_stream.specs.declared.item.Item.{Item}
 use Rattle.ff_stream.specs.Stream.{Mark, still_open, whole, broken, LiesBelow, opened, opened_mark, map_stream}
 use Rattle.ff_stream.specs.Ports.{IsClosed}
-use Rattle.ff_stream.specs.Order.{prefix_trans}
+use Rattle.ff_stream.specs.laws.Order.{prefix_trans}
 use Rattle.ff_filter.specs.Joins.{Flow}
 
 -- s, and where it is whole, then t

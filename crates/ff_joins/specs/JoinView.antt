@@ -8,7 +8,7 @@ use Rattle.ff_filter.specs.Views.{View}
 use Rattle.ff_joins.specs.declared.sound_inlet.SoundInlet.{SoundInlet}
 use Rattle.ff_joins.specs.Joined.{side_to_side}
 use Rattle.ff_joins.specs.JoinOptions.{rate_of, bits_of, channels_of}
-use Rattle.ff_joins.specs.Lots.{lots, lane_of}
+use Rattle.ff_joins.specs.laws.Lots.{lots, lane_of}
 
 -- the channels of input p
 abbrev pub channels_at : List StreamHead → ℕ → ℕ

@@ -1,9 +1,9 @@
 //! The machine of `concat`.
 ghost use Rattle.std.specs.Prelude.{◌≡◌, ◌↔◌, ◌<◌, length, IsTrue, true};
 ghost use Rattle.ff_filter.specs.Views.{IsSpent};
-ghost use Rattle.ff_joins.specs.Segmented.{over_at, segments_view, segments_spent, is_settled};
-ghost use Rattle.ff_joins.specs.SegmentLaws.{segments-grows, segments-hides, segments-settles};
-ghost use Rattle.ff_joins.specs.SegmentLaws.{segments-quiet, segments-spent_only, segments-shut_spent, segments-done_spent};
+ghost use Rattle.ff_joins.specs.laws.Segmented.{over_at, segments_view, segments_spent, is_settled};
+ghost use Rattle.ff_joins.specs.laws.SegmentLaws.{segments-grows, segments-hides, segments-settles};
+ghost use Rattle.ff_joins.specs.laws.SegmentLaws.{segments-quiet, segments-spent_only, segments-shut_spent, segments-done_spent};
 
 use crate::segments::Segments;
 use ff_filter::Filter;

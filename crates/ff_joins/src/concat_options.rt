@@ -2,7 +2,7 @@
 ghost use Rattle.std.specs.Prelude.{◌≡◌, ◌<◌, ◌∷◌, [], length, IfOk, IfErr, true, false};
 ghost use Rattle.ff_frame.specs.declared.config.ConfigError.TheVariants.{NoMemory};
 ghost use Rattle.ff_joins.specs.Arguments.{each_head};
-ghost use Rattle.ff_joins.specs.Segmented.{AreNew};
+ghost use Rattle.ff_joins.specs.laws.Segmented.{AreNew};
 ghost use Rattle.ff_joins.specs.ConcatOptions.{concat_set, one_kind, is_of_kind, EachIs, concat_view, concat_head};
 
 use crate::arguments::{last_number, ranged, times_given};

@@ -5,7 +5,7 @@ ghost use Rattle.ff_stream.specs.declared.item.Item.{Item as AnItem};
 ghost use Rattle.ff_filter.specs.Joins.{Flow, before};
 ghost use Rattle.ff_filter.specs.Made.{is_over as is_over_by, closing, waiting};
 ghost use Rattle.ff_filter.specs.Views.{closes, Same, Fed, Gave, Waits};
-ghost use Rattle.ff_joins.specs.Segmented.{over_at, waits_in, segments_view, is_drawn, is_settled, Settled, Turned, to_settle};
+ghost use Rattle.ff_joins.specs.laws.Segmented.{over_at, waits_in, segments_view, is_drawn, is_settled, Settled, Turned, to_settle};
 
 use crate::segments::Segments;
 use crate::times::later;

@@ -1,8 +1,8 @@
 //! Samples of several inputs, interleaved by channel.
 ghost use Rattle.std.specs.Prelude.{◌≡◌, ◌≤◌, ◌<◌, ◌+◌, ◌++◌, ◌*◌, ℕ, length, take, drop, IfOk};
-ghost use Rattle.ff_joins.specs.JoinCuts.{width_to};
+ghost use Rattle.ff_joins.specs.laws.JoinCuts.{width_to};
 ghost use Rattle.ff_joins.specs.JoinOptions.{channels_of as channels_of_head};
-ghost use Rattle.ff_joins.specs.Lots.{lot_of, lots, cell, cells_to};
+ghost use Rattle.ff_joins.specs.laws.Lots.{lot_of, lots, cell, cells_to};
 
 use crate::join_options::channels;
 use crate::rows::width;

@@ -1,6 +1,6 @@
 //! The state of `join`.
 ghost use Rattle.std.specs.Prelude.{◌≡◌, ◌<◌, length, true};
-ghost use Rattle.ff_joins.specs.Lots.{lots, has_started};
+ghost use Rattle.ff_joins.specs.laws.Lots.{lots, has_started};
 
 use crate::sound_inlet::SoundInlet;
 use ff_filter::After;

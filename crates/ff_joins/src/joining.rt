@@ -9,10 +9,10 @@ ghost use Rattle.ff_stream.specs.Stream.{has_closed};
 ghost use Rattle.ff_filter.specs.declared.after.After.TheVariants.{More};
 ghost use Rattle.ff_filter.specs.Made.{is_over as is_over_by};
 ghost use Rattle.ff_filter.specs.Views.{Same, Fed, Gave, Waits, IsSpent};
-ghost use Rattle.ff_joins.specs.Lots.{lots, start_after, has_started_by};
-ghost use Rattle.ff_joins.specs.JoinSeen.{join_seen, join_spent, fed_mark, is_decided as is_decided_by};
-ghost use Rattle.ff_joins.specs.JoinCuts.{frame_length, frame_end, is_late as is_late_by, next_frames};
-ghost use Rattle.ff_joins.specs.JoinDrawing.{due, frame_start, frame_with, HaveAll, IsNextFrame, StandsSo, IsLast};
+ghost use Rattle.ff_joins.specs.laws.Lots.{lots, start_after, has_started_by};
+ghost use Rattle.ff_joins.specs.laws.JoinSeen.{join_seen, join_spent, fed_mark, is_decided as is_decided_by};
+ghost use Rattle.ff_joins.specs.laws.JoinCuts.{frame_length, frame_end, is_late as is_late_by, next_frames};
+ghost use Rattle.ff_joins.specs.laws.JoinDrawing.{due, frame_start, frame_with, HaveAll, IsNextFrame, StandsSo, IsLast};
 
 use crate::interleaving::first_rows;
 use crate::join::Join;

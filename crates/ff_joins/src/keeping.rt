@@ -6,7 +6,7 @@ ghost use Rattle.ff_filter.specs.Made.{is_over as is_over_by};
 ghost use Rattle.ff_filter.specs.Views.{closes};
 ghost use Rattle.ff_joins.specs.Joined.{rows_of, split_rows};
 ghost use Rattle.ff_joins.specs.JoinOptions.{channels_of as channels_of_head};
-ghost use Rattle.ff_joins.specs.Lots.{lot_of, rows_kept, comes, skipped};
+ghost use Rattle.ff_joins.specs.laws.Lots.{lot_of, rows_kept, comes, skipped};
 
 use crate::join_options::channels;
 use crate::sample_queue::SampleQueue;

@@ -4,7 +4,7 @@ use Rattle.std.specs.Prelude.{◌==◌}
 use Rattle.std.proofs.lemmas.List.{append-nil}
 use Rattle.std.specs.List.{AllByRecursion}
 use Rattle.ff_lang.specs.Letters.{is_word_byte, is_special}
-use Rattle.ff_lang.specs.Reading.{empty_arg}
+use Rattle.ff_lang.specs.laws.Reading.{empty_arg}
 use Rattle.ff_lang.specs.declared.graph.Arg.{Arg}
 use Rattle.ff_lang.specs.declared.graph.Filter.{Filter}
 use Rattle.ff_lang.specs.Grammar.{IsValue, HasKey, IsArg}

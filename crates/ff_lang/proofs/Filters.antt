@@ -3,7 +3,7 @@ use Rattle.std.proofs.Common.{◌≡◌, ℕ, ◌+◌, ◌≤◌, true, Option, 
 use Rattle.std.proofs.lemmas.List.{append-nil}
 use Rattle.std.specs.List.{AllByRecursion}
 use Rattle.ff_lang.specs.Letters.{is_word_byte}
-use Rattle.ff_lang.specs.Reading.{empty_arg, empty_chain, before, with_filter, with_chain}
+use Rattle.ff_lang.specs.laws.Reading.{empty_arg, empty_chain, before, with_filter, with_chain}
 use Rattle.ff_lang.specs.declared.graph.Arg.{Arg}
 use Rattle.ff_lang.specs.declared.graph.Filter.{Filter}
 use Rattle.ff_lang.specs.declared.graph.Chain.{Chain}
@@ -11,7 +11,7 @@ use Rattle.ff_lang.specs.declared.graph.Graph.{Graph}
 use Rattle.ff_lang.specs.declared.parser.Parser.{Parser}
 use Rattle.ff_lang.specs.declared.parser.Place.TheVariants.{Name, Back}
 use Rattle.ff_lang.specs.Grammar.{AreLed, IsSeries, IsWord, IsFilter, IsChain, IsGraph}
-use Rattle.ff_lang.specs.Reading.{start}
+use Rattle.ff_lang.specs.laws.Reading.{start}
 use Rattle.ff_lang.proofs.Bytes.{blank_44, blank_59, both_true, lt_true}
 use Rattle.ff_lang.proofs.Runs.{reads, reads_byte, at}
 use Rattle.ff_lang.proofs.Labels.{reads_labels, front_hub, front_at, in_label_at, back_hub, back_at, out_label_at}

@@ -4,7 +4,7 @@ use Rattle.std.proofs.lemmas.List.{append-nil}
 use Rattle.std.specs.List.{AllByRecursion}
 use Rattle.ff_lang.specs.Letters.{is_label_byte, is_blank}
 use Rattle.ff_lang.specs.Grammar.{AreLabels}
-use Rattle.ff_lang.specs.Reading.{byte_next}
+use Rattle.ff_lang.specs.laws.Reading.{byte_next}
 use Rattle.ff_lang.specs.declared.graph.Arg.{Arg}
 use Rattle.ff_lang.specs.declared.graph.Chain.{Chain}
 use Rattle.ff_lang.specs.declared.graph.Graph.{Graph}

@@ -1,7 +1,7 @@
 -- The place of a fault, and what the call's answer says of the text.
 use Rattle.std.proofs.Common.{◌≡◌, ℕ, ◌+◌, ◌<◌, ◌≤◌, ◌⊎◌, inl, inr, Bool, true, false, Option, Some, None, List, [], ◌∷◌, ◌++◌, length, refl, sym, ap, subst, ◌∙◌, append_assoc, length-append, arith}
 use Rattle.std.proofs.lemmas.List.{append-nil}
-use Rattle.ff_lang.specs.Reading.{byte_next, end_of, with_filter, with_chain}
+use Rattle.ff_lang.specs.laws.Reading.{byte_next, end_of, with_filter, with_chain}
 use Rattle.ff_lang.specs.declared.graph.Arg.{Arg}
 use Rattle.ff_lang.specs.declared.graph.Filter.{Filter}
 use Rattle.ff_lang.specs.declared.graph.Chain.{Chain}
@@ -16,7 +16,7 @@ use Rattle.std.proofs.Math.Seq.{take-append_seam, take-append-add}
 use Rattle.std.proofs.Math.Utf8.{encode, encodes}
 use Rattle.std.proofs.lemmas.Str.{encodes-append}
 use Rattle.ff_lang.specs.Grammar.{IsGraph, GoesOn, IsBadAt}
-use Rattle.ff_lang.specs.Reading.{start, char_next, Goes}
+use Rattle.ff_lang.specs.laws.Reading.{start, char_next, Goes}
 use Rattle.ff_lang.specs.declared.error.LangError.{LangError}
 use Rattle.ff_lang.specs.declared.error.LangError.TheVariants.{Bad, NoMemory}
 use Rattle.ff_lang.proofs.Bytes.{word_97, label_97, label_93, lt_true}

@@ -5,7 +5,7 @@ use Rattle.std.specs.List.{AllByRecursion}
 use Rattle.ff_lang.specs.Letters.{is_word_byte, is_escaped}
 use Rattle.ff_lang.specs.Grammar.{AreLabels, IsLabel, IsValue, IsKeyed, IsArg, AreLed, IsSeries, AreArgs, IsTight, IsFilter, IsChain, IsGraph}
 use Rattle.ff_lang.specs.Grammar.IsValue.{ends, itself, escaped}
-use Rattle.ff_lang.specs.Printing.{escaped_value, printed_key, printed_arg, led, series, printed_args, printed_labels, printed_filter, printed_chain, printed, IsSoundKey, IsSoundFilter, IsSoundChain, IsSound}
+use Rattle.ff_lang.specs.laws.Printing.{escaped_value, printed_key, printed_arg, led, series, printed_args, printed_labels, printed_filter, printed_chain, printed, IsSoundKey, IsSoundFilter, IsSoundChain, IsSound}
 use Rattle.ff_lang.specs.declared.graph.Arg.{Arg}
 use Rattle.ff_lang.specs.declared.graph.Filter.{Filter}
 use Rattle.ff_lang.specs.declared.graph.Chain.{Chain}

@@ -3,7 +3,7 @@ use Rattle.std.proofs.Common.{◌≡◌, ◌≢◌, ℕ, ◌+◌, ◌<◌, ◌�
 use Rattle.std.proofs.lemmas.List.{append-nil}
 use Rattle.std.specs.List.{AllByRecursion}
 use Rattle.ff_lang.specs.Letters.{is_word_byte, is_label_byte, is_blank}
-use Rattle.ff_lang.specs.Reading.{empty_arg}
+use Rattle.ff_lang.specs.laws.Reading.{empty_arg}
 use Rattle.ff_lang.specs.declared.graph.Arg.{Arg}
 use Rattle.ff_lang.specs.declared.graph.Filter.{Filter}
 use Rattle.ff_lang.specs.declared.parser.Place.{Place}

@@ -2,7 +2,7 @@
 use Rattle.std.proofs.Common.{◌≡◌, ℕ, true, Option, Some, None, List, [], ◌∷◌, ◌++◌, refl, ap, ◌∙◌}
 use Rattle.ff_lang.specs.Letters.{is_blank}
 use Rattle.ff_lang.specs.Grammar.{AreBlanks}
-use Rattle.ff_lang.specs.Reading.{byte_next, end_of}
+use Rattle.ff_lang.specs.laws.Reading.{byte_next, end_of}
 use Rattle.ff_lang.specs.declared.graph.Arg.{Arg}
 use Rattle.ff_lang.specs.declared.graph.Filter.{Filter}
 use Rattle.ff_lang.specs.declared.graph.Chain.{Chain}

@@ -3,7 +3,7 @@ use Rattle.std.proofs.Common.{◌≡◌, ℕ, ◌<◌, Bool, true, false, ◌&&�
 use Rattle.std.specs.Prelude.{◌==◌}
 use Rattle.std.proofs.lemmas.List.{append-nil}
 use Rattle.ff_lang.specs.Letters.{is_word_byte, is_label_byte, is_blank, is_special}
-use Rattle.ff_lang.specs.Reading.{byte_next, empty_arg, empty_filter, empty_chain, with_filter, with_chain}
+use Rattle.ff_lang.specs.laws.Reading.{byte_next, empty_arg, empty_filter, empty_chain, with_filter, with_chain}
 use Rattle.ff_lang.specs.declared.graph.Arg.{Arg}
 use Rattle.ff_lang.specs.declared.graph.Filter.{Filter}
 use Rattle.ff_lang.specs.declared.graph.Chain.{Chain}
@@ -12,7 +12,7 @@ use Rattle.ff_lang.specs.declared.parser.Parser.{Parser}
 use Rattle.ff_lang.specs.declared.parser.Place.{Place}
 use Rattle.ff_lang.specs.declared.parser.Place.TheVariants.{Front, InLabel, Name, Named, Key, Value, Quoted, Escaped, OutLabel, Back}
 use Rattle.ff_lang.specs.Grammar.{AreLed, IsFilter, IsChain, IsGraph}
-use Rattle.ff_lang.specs.Reading.{start, place_next, place_end, tail_next, value_next}
+use Rattle.ff_lang.specs.laws.Reading.{start, place_next, place_end, tail_next, value_next}
 use Rattle.ff_lang.proofs.Bytes.{eq_out, eq_differs, both_out, lt_out}
 use Rattle.ff_lang.proofs.Runs.{and_reads, reads, at}
 use Rattle.ff_lang.proofs.Values.{all_snoc}

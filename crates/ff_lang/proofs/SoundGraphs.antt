@@ -6,7 +6,7 @@ use Rattle.ff_lang.specs.declared.graph.Filter.{Filter}
 use Rattle.ff_lang.specs.declared.graph.Chain.{Chain}
 use Rattle.ff_lang.specs.declared.graph.Graph.{Graph}
 use Rattle.ff_lang.specs.Grammar.{AreLabels, IsLabel, IsKeyed, IsArg, AreLed, IsSeries, AreArgs, IsFilter, IsChain, IsGraph}
-use Rattle.ff_lang.specs.Printing.{IsSoundKey, IsSoundFilter, IsSoundChain, IsSound}
+use Rattle.ff_lang.specs.laws.Printing.{IsSoundKey, IsSoundFilter, IsSoundChain, IsSound}
 
 labels_sound : (labels : List (List ℕ)) (text : List ℕ) → AreLabels text labels → AllByRecursion IsLabel labels
 labels_sound [] text h = tt

@@ -2,7 +2,7 @@
 use Rattle.std.proofs.Common.{◌≡◌, ℕ, ◌+◌, ◌≤◌, ◌/◌, ◌%◌, inl, inr, Bool, true, false, cond, Some, None, nat_lt, List, [], ◌∷◌, ◌++◌, refl, sym, ap, subst, ◌∙◌, append_assoc, arith}
 use Rattle.std.proofs.lemmas.List.{append-nil}
 use Rattle.std.specs.List.{AllByRecursion}
-use Rattle.ff_lang.specs.Reading.{byte_next}
+use Rattle.ff_lang.specs.laws.Reading.{byte_next}
 use Rattle.ff_lang.specs.declared.graph.Arg.{Arg}
 use Rattle.ff_lang.specs.declared.graph.Filter.{Filter}
 use Rattle.ff_lang.specs.declared.graph.Chain.{Chain}
@@ -14,7 +14,7 @@ use Rattle.std.proofs.lemmas.Bool.Decides.{nat_tests}
 use Rattle.std.proofs.lemmas.Bool.{cases_lt}
 use Rattle.std.proofs.lemmas.Str.{encode_ascii}
 use Rattle.std.proofs.Math.Utf8.{encode}
-use Rattle.ff_lang.specs.Reading.{char_next, place_next}
+use Rattle.ff_lang.specs.laws.Reading.{char_next, place_next}
 use Rattle.ff_lang.proofs.Bytes.{high_word, high_label, high_blank, high_special, high_eq}
 use Rattle.ff_lang.proofs.Runs.{and_run, run, at}
 

@@ -1,5 +1,4 @@
 pub mod Letters
 pub mod Grammar
-pub mod Printing
-pub mod Reading
 pub mod Sources
+pub mod laws

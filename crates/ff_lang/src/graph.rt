@@ -1,6 +1,6 @@
 //! Filtergraphs as values: chains of filters, each with its labels and arguments.
 ghost use Rattle.std.specs.Prelude.{◌≡◌};
-ghost use Rattle.ff_lang.specs.Reading.{empty_arg, empty_filter, empty_chain};
+ghost use Rattle.ff_lang.specs.laws.Reading.{empty_arg, empty_filter, empty_chain};
 
 use crate::lists::{Sequence, Text};
 use std::alloc::Global;

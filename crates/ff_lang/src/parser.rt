@@ -1,6 +1,6 @@
 //! The parser of filtergraphs, one character at a time.
 ghost use Rattle.std.specs.Prelude.{◌≡◌, IfOk, OnOk, encode_utf8};
-ghost use Rattle.ff_lang.specs.Reading.{Goes, start, ended, bracket, next_filter, next_chain, tail_next, front_next, in_label_next, name_next, named_next, special_next, value_next, key_next, quoted_next, out_label_next, back_next, char_next, end_of, pushed};
+ghost use Rattle.ff_lang.specs.laws.Reading.{Goes, start, ended, bracket, next_filter, next_chain, tail_next, front_next, in_label_next, name_next, named_next, special_next, value_next, key_next, quoted_next, out_label_next, back_next, char_next, end_of, pushed};
 
 use crate::graph::{Arg, Chain, Filter, Graph};
 use crate::letters::{LONGEST, is_blank, is_label, is_special, is_word};

@@ -1,7 +1,7 @@
 //! The printer of filtergraphs.
 ghost use Rattle.std.specs.Prelude.{◌≡◌, ◌++◌, ◌<◌, ℕ, List, OnOk, IfOk, string_bytes, encode_utf8};
 ghost use Rattle.ff_lang.specs.Grammar.{IsGraph};
-ghost use Rattle.ff_lang.specs.Printing.{escaped_value, printed_arg, series, printed_args, printed_labels, printed_filter, printed_chain, printed, IsSound};
+ghost use Rattle.ff_lang.specs.laws.Printing.{escaped_value, printed_arg, series, printed_args, printed_labels, printed_filter, printed_chain, printed, IsSound};
 
 use crate::graph::{Arg, Chain, Filter, Graph};
 use crate::letters::is_escaped;

@@ -1,8 +1,8 @@
 //! The reader of a whole string as a filtergraph.
 ghost use Rattle.std.specs.Prelude.{◌≡◌, ◌⊎◌, ℕ, IfOk, IsErrOf};
 ghost use Rattle.ff_lang.specs.Grammar.{IsGraph, IsBadAt};
-ghost use Rattle.ff_lang.specs.Printing.{IsSound};
-ghost use Rattle.ff_lang.specs.Reading.{start};
+ghost use Rattle.ff_lang.specs.laws.Printing.{IsSound};
+ghost use Rattle.ff_lang.specs.laws.Reading.{start};
 ghost use Rattle.ff_lang.specs.declared.graph.Graph.{Graph};
 
 use crate::error::LangError;

@@ -3,7 +3,7 @@ ghost use Rattle.std.specs.Prelude.{◌↔◌, ◌<◌, ◌≤◌, IsTrue, lengt
 ghost use Rattle.std.specs.List.{AllByRecursion};
 ghost use Rattle.ff_lang.specs.Grammar.{IsWord, IsLabel};
 ghost use Rattle.ff_lang.specs.declared.graph.Arg.{Arg};
-ghost use Rattle.ff_lang.specs.Printing.{IsSoundKey, IsSoundFilter, IsSoundChain, IsSound};
+ghost use Rattle.ff_lang.specs.laws.Printing.{IsSoundKey, IsSoundFilter, IsSoundChain, IsSound};
 
 use crate::graph::{Arg, Chain, Filter, Graph};
 use crate::letters::{LONGEST, is_label, is_word};

@@ -6,7 +6,7 @@ use Rattle.crossbeam_queue.specs.Fifo.{Pushes, Pops, Forks, Merges, Learns, Held
 use Rattle.crossbeam_queue.proofs.Lists.{at_set, at_snoc}
 use Rattle.ff_link.specs.declared.side.Way.{Way}
 use Rattle.ff_link.specs.declared.side.Side.{Side}
-use Rattle.ff_link.specs.Flow.{both_of, putter, taker, with_sent, with_taken, whole, nobody, no_way, Fits, Flows, IsTotal, CountsFlow, AnyCounts, IsRest, IsNext}
+use Rattle.ff_link.specs.laws.Flow.{both_of, putter, taker, with_sent, with_taken, whole, nobody, no_way, Fits, Flows, IsTotal, CountsFlow, AnyCounts, IsRest, IsNext}
 
 module _ {T : Type 0} where
   at_end : (l : List (Side T)) (a b : Side T) (j : ℕ) → get_elem? l j ≢ some b → get_elem? (l ++ a ∷ []) j ≡ some b → j ≡ length l

@@ -6,10 +6,10 @@ use Rattle.ff_stream.specs.declared.item.Lane.{Lane}
 use Rattle.ff_stream.specs.Stream.{Stream, still_open}
 use Rattle.ff_stream.specs.Items.{with_item, Leads}
 use Rattle.ff_stream.specs.Lanes.{IsValid}
-use Rattle.ff_stream.specs.LaneLaws.{valid_below, nothing_valid}
-use Rattle.ff_stream.specs.Order.{leads_below, leads_push}
+use Rattle.ff_stream.specs.laws.LaneLaws.{valid_below, nothing_valid}
+use Rattle.ff_stream.specs.laws.Order.{leads_below, leads_push}
 use Rattle.ff_stream.specs.Ports.{nothing}
-use Rattle.ff_link.specs.Sendings.{stream_from, stream_of, IsSending, Carries}
+use Rattle.ff_link.specs.laws.Sendings.{stream_from, stream_of, IsSending, Carries}
 
 -- what items lead to is the stream that they make
 pub leads_to : (s : Stream Item) (xs : List Item) (t : Stream Item) → Leads s xs t → stream_from s xs ≡ t

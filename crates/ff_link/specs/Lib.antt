@@ -1,5 +1,1 @@
-pub mod Sendings
-pub mod Flow
-pub mod Views
-pub mod Ends
-pub mod Answers
+pub mod laws

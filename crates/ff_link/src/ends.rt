@@ -1,11 +1,11 @@
 //! The two ends of a link: the sender and the receiver.
 ghost use Rattle.std.specs.Prelude.{◌≡◌, ◌≤◌, ◌+◌, ℕ, [], ◌∷◌, ◌++◌, length, Some, IfSome, IfNone, IfErr, OnErr};
 ghost use mathlib.Core.List.{IsPrefix};
-ghost use Rattle.ff_link.specs.Sendings.{Carries};
-ghost use Rattle.ff_link.specs.Views.{ended};
-ghost use Rattle.ff_link.specs.Answers.{after_put, HandsBack, SawUnfinished, SawFull};
-ghost use Rattle.ff_link.specs.Answers.{after_look_up, SawNoCount, after_push, SawFullAt};
-ghost use Rattle.ff_link.specs.Answers.{after_take, TakesValid, SawEmpty};
+ghost use Rattle.ff_link.specs.laws.Sendings.{Carries};
+ghost use Rattle.ff_link.specs.laws.Views.{ended};
+ghost use Rattle.ff_link.specs.laws.Answers.{after_put, HandsBack, SawUnfinished, SawFull};
+ghost use Rattle.ff_link.specs.laws.Answers.{after_look_up, SawNoCount, after_push, SawFullAt};
+ghost use Rattle.ff_link.specs.laws.Answers.{after_take, TakesValid, SawEmpty};
 
 use crate::answers::{Put, Settled, Take};
 use crate::side::{AllCounts, AllItems, Down, DownPass, Hears, Puts, Takes, Up, UpPass, Whole};
@@ -37,11 +37,11 @@ pub struct Sender {
 }
 
 impl Model for Sender {
-    ghost use Rattle.ff_link.specs.Views.{Sending};
+    ghost use Rattle.ff_link.specs.laws.Views.{Sending};
 
     ghost Value = { Sending };
 
-    ghost use Rattle.ff_link.specs.Ends.{sending, IsSender};
+    ghost use Rattle.ff_link.specs.laws.Ends.{sending, IsSender};
 
     ghost view = { sending };
 
@@ -59,11 +59,11 @@ pub struct Receiver {
 }
 
 impl Model for Receiver {
-    ghost use Rattle.ff_link.specs.Views.{Receiving};
+    ghost use Rattle.ff_link.specs.laws.Views.{Receiving};
 
     ghost Value = { Receiving };
 
-    ghost use Rattle.ff_link.specs.Ends.{receiving, IsReceiver};
+    ghost use Rattle.ff_link.specs.laws.Ends.{receiving, IsReceiver};
 
     ghost view = { receiving };
 
@@ -80,11 +80,11 @@ pub struct Finished {
 }
 
 impl Model for Finished {
-    ghost use Rattle.ff_link.specs.Views.{Ended};
+    ghost use Rattle.ff_link.specs.laws.Views.{Ended};
 
     ghost Value = { Ended };
 
-    ghost use Rattle.ff_link.specs.Ends.{finished, IsFinished};
+    ghost use Rattle.ff_link.specs.laws.Ends.{finished, IsFinished};
 
     ghost view = { finished };
 

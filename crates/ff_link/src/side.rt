@@ -57,7 +57,7 @@ pub trait Fixed {
 }
 
 impl Fixed for std::marker::Brand {
-    ghost use Rattle.ff_link.specs.Flow.{no_way};
+    ghost use Rattle.ff_link.specs.laws.Flow.{no_way};
 
     ghost way = { no_way };
 
@@ -68,7 +68,7 @@ impl Fixed for std::marker::Brand {
 pub struct Items;
 
 impl Protocol<Item, Side<Item>> for Items {
-    ghost use Rattle.ff_link.specs.Flow.{ItemsFlow, both_of, no_way};
+    ghost use Rattle.ff_link.specs.laws.Flow.{ItemsFlow, both_of, no_way};
 
     ghost holds = { ItemsFlow };
 
@@ -79,7 +79,7 @@ impl Protocol<Item, Side<Item>> for Items {
 pub struct Counts;
 
 impl Protocol<u64, Side<u64>> for Counts {
-    ghost use Rattle.ff_link.specs.Flow.{CountsFlow, both_of, no_way};
+    ghost use Rattle.ff_link.specs.laws.Flow.{CountsFlow, both_of, no_way};
 
     ghost holds = { CountsFlow };
 
@@ -92,7 +92,7 @@ pub struct PutsHere<F> {
 }
 
 impl<T, F: Fixed> Split<Side<T>> for PutsHere<F> {
-    ghost use Rattle.ff_link.specs.Flow.{putter, taker};
+    ghost use Rattle.ff_link.specs.laws.Flow.{putter, taker};
 
     ghost left = { λ v. putter F.way F.room v.sent };
 
@@ -103,7 +103,7 @@ impl<T, F: Fixed> Split<Side<T>> for PutsHere<F> {
 pub struct Whole;
 
 impl<T> Join<Side<T>> for Whole {
-    ghost use Rattle.ff_link.specs.Flow.{whole, nobody, no_way};
+    ghost use Rattle.ff_link.specs.laws.Flow.{whole, nobody, no_way};
 
     ghost both = { whole };
 
@@ -114,14 +114,14 @@ impl<T> Join<Side<T>> for Whole {
 pub struct Puts;
 
 impl<T> Outcome<T, Side<T>> for Puts {
-    ghost use Rattle.ff_link.specs.Flow.{with_sent};
+    ghost use Rattle.ff_link.specs.laws.Flow.{with_sent};
     ghost use Rattle.std.specs.Prelude.{◌≡◌, [], ◌∷◌, ◌++◌};
 
     ghost then = { λ v x w. w ≡ with_sent v (v.sent ++ x ∷ []) };
 }
 
 impl<T> Lesson<T, Side<T>> for Puts {
-    ghost use Rattle.ff_link.specs.Flow.{IsRest};
+    ghost use Rattle.ff_link.specs.laws.Flow.{IsRest};
 
     ghost fact = { λ v items. IsRest v.sent items };
 }
@@ -130,13 +130,13 @@ impl<T> Lesson<T, Side<T>> for Puts {
 pub struct Takes;
 
 impl Outcome<Item, Side<Item>> for Takes {
-    ghost use Rattle.ff_link.specs.Flow.{TakesNext};
+    ghost use Rattle.ff_link.specs.laws.Flow.{TakesNext};
 
     ghost then = { TakesNext };
 }
 
 impl Lesson<Item, Side<Item>> for Takes {
-    ghost use Rattle.ff_link.specs.Flow.{IsNext};
+    ghost use Rattle.ff_link.specs.laws.Flow.{IsNext};
 
     ghost fact = { λ v items. IsNext v.taken items };
 }
@@ -145,14 +145,14 @@ impl Lesson<Item, Side<Item>> for Takes {
 pub struct Hears;
 
 impl Outcome<u64, Side<u64>> for Hears {
-    ghost use Rattle.ff_link.specs.Flow.{with_taken};
+    ghost use Rattle.ff_link.specs.laws.Flow.{with_taken};
     ghost use Rattle.std.specs.Prelude.{◌≡◌, [], ◌∷◌, ◌++◌};
 
     ghost then = { λ v x w. w ≡ with_taken v (v.taken ++ x ∷ []) };
 }
 
 impl Lesson<u64, Side<u64>> for Hears {
-    ghost use Rattle.ff_link.specs.Flow.{IsNext};
+    ghost use Rattle.ff_link.specs.laws.Flow.{IsNext};
 
     ghost fact = { λ v items. IsNext v.taken items };
 }
@@ -161,7 +161,7 @@ impl Lesson<u64, Side<u64>> for Hears {
 pub struct AllItems;
 
 impl Lesson<Item, Side<Item>> for AllItems {
-    ghost use Rattle.ff_link.specs.Flow.{IsTotal, IsCarried};
+    ghost use Rattle.ff_link.specs.laws.Flow.{IsTotal, IsCarried};
 
     ghost fact = { λ v items. IsTotal IsCarried v items };
 }
@@ -170,7 +170,7 @@ impl Lesson<Item, Side<Item>> for AllItems {
 pub struct AllCounts;
 
 impl Lesson<u64, Side<u64>> for AllCounts {
-    ghost use Rattle.ff_link.specs.Flow.{IsTotal, AnyCounts};
+    ghost use Rattle.ff_link.specs.laws.Flow.{IsTotal, AnyCounts};
 
     ghost fact = { λ v items. IsTotal AnyCounts v items };
 }

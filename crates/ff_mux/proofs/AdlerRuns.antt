@@ -4,7 +4,7 @@ use Rattle.std.specs.List.{slice_range}
 use Rattle.std.proofs.Math.Nat.{add-mod-mod, mod-add-mod, mod-mod}
 use Rattle.std.proofs.lemmas.List.Folds.{drop_split}
 use Rattle.ff_mux.specs.Adler.{byte_sum, sum_of_sums}
-use Rattle.ff_mux.specs.Hashers.{AreSums}
+use Rattle.ff_mux.specs.laws.Hashers.{AreSums}
 use Rattle.ff_mux.specs.declared.adler.Sums.{Sums}
 
 plus : (a c d : ℕ) → a % 65521 ≡ c % 65521 → (a + d) % 65521 ≡ (c + d) % 65521

@@ -21,7 +21,7 @@ use Rattle.ff_flac_enc.specs.Frame.{IsBlock, stream_of}
 use Rattle.ff_flac_enc.specs.Gathered.{all_samples, block_at, blocks_due, count_due, full_size}
 use Rattle.ff_flac_enc.proofs.GatherLaws.{all_there}
 use Rattle.ff_flac_enc.proofs.Spelled.{SpellsWithin, spells_within}
-use Rattle.ff_mux.specs.writers.FlacWritten.{FollowFrom, HoldBlocks, StandsFor, StandFor}
+use Rattle.ff_mux.specs.laws.writers.FlacWritten.{FollowFrom, HoldBlocks, StandsFor, StandFor}
 
 -- ---- coded blocks one after another
 

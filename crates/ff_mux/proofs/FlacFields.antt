@@ -7,7 +7,7 @@ use Rattle.ff_bits.specs.Bits.{bits, bits_of}
 use Rattle.ff_bits.proofs.BitsLemmas.{bits-append}
 use Rattle.ff_bits.proofs.BitsOf.{bits_of-split, bits_of-mod, bits_of-add, bits-to_be_bytes}
 use Rattle.ff_mux.specs.FlacHead.{HasRoom, told, sound_of, digest_of, stream_info}
-use Rattle.ff_mux.specs.FlacLaws.{InfoIsFields}
+use Rattle.ff_mux.specs.laws.FlacLaws.{InfoIsFields}
 
 -- what is told in 36 bits has no more
 below_by : (n : ℕ) (b : Bool) → nat_lt n (2 ^ 36) ≡ b → (if b then n else 0) < 2 ^ 36

@@ -12,7 +12,7 @@ use Rattle.ff_flac_dec.specs.Heads.{head as head_read}
 use Rattle.ff_flac_enc.specs.Gathered.{all_samples, blocks_due}
 use Rattle.ff_mux.specs.FlacHead.{CanHold, HasRoom, stream_info, before_info, flac_start, unknown}
 use Rattle.ff_mux.specs.writers.FlacFile.{HasDigest, before_length, info_length}
-use Rattle.ff_mux.specs.writers.FlacWritten.{HasRate, AreFramesOf, HoldBlocks, AreRead, FilesAreRead, says}
+use Rattle.ff_mux.specs.laws.writers.FlacWritten.{HasRate, AreFramesOf, HoldBlocks, AreRead, FilesAreRead, says}
 use Rattle.ff_mux.proofs.FlacBodies.{frames_read}
 use Rattle.ff_mux.proofs.FlacHeads.{headers}
 use Rattle.ff_mux.proofs.WritersLemmas.FinishedLaws.{flacs_are_streams}

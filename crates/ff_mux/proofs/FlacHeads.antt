@@ -22,11 +22,11 @@ use Rattle.ff_reader.proofs.ReadingLaws.{reading_at, reading_stays}
 use Rattle.ff_reader.proofs.ReachLaws.{walk_decide}
 use Rattle.ff_flac_dec.specs.Blocks.{rate_in, channels_in, bits_in, sound_of, info, block}
 use Rattle.ff_flac_dec.specs.Heads.{magic, grammar}
-use Rattle.ff_flac_dec.specs.HeadLaws.{is_lawful}
-use Rattle.ff_flac_dec.specs.Info.{widths, field_in, info_field}
+use Rattle.ff_flac_dec.specs.laws.HeadLaws.{is_lawful}
+use Rattle.ff_flac_dec.specs.laws.Info.{widths, field_in, info_field}
 use Rattle.ff_mux.specs.FlacHead.{HasRoom, told, sound_of as sound_number, digest_of, stream_info, before_info, flac_start}
 use Rattle.ff_mux.specs.writers.FlacFile.{info_length}
-use Rattle.ff_mux.specs.writers.FlacWritten.{says, fields_of, HeadersAreRead, FieldsAreRead}
+use Rattle.ff_mux.specs.laws.writers.FlacWritten.{says, fields_of, HeadersAreRead, FieldsAreRead}
 use Rattle.ff_mux.proofs.FlacFields.{told_below, info_is_fields}
 
 -- ---- rate, channels and depth, by the four bytes that hold them

@@ -3,12 +3,12 @@ use Rattle.std.proofs.Common.{◌≡◌, ◌≢◌, ℕ, zero, suc, ◌+◌, ◌
 use Rattle.std.proofs.Common.{refl, sym, ap, ◌∙◌, subst, arith, append-nil}
 use Rattle.std.proofs.lemmas.Bool.{eq-eqb, ne_eqb}
 use Rattle.std.proofs.lemmas.List.Elements.{filter-append}
-use Rattle.ff_format.specs.Bodies.{bytes_then}
+use Rattle.ff_format.specs.laws.Bodies.{bytes_then}
 use Rattle.ff_format.specs.Layouts.{bytes_in}
 use Rattle.ff_frame.specs.declared.hash.HashKind.{HashKind}
 use Rattle.ff_frame.specs.declared.packet.Pkt.{Pkt}
 use Rattle.ff_mux.specs.DigestTexts.{is_of, packets_of}
-use Rattle.ff_mux.specs.Hashers.{hasher_kind, HasTaken, AllTaken, AreOfKind}
+use Rattle.ff_mux.specs.laws.Hashers.{hasher_kind, HasTaken, AllTaken, AreOfKind}
 use Rattle.ff_mux.specs.declared.digest.Hasher.{Hasher}
 
 -- ---- the packets of a stream

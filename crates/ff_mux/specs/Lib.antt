@@ -3,8 +3,6 @@ pub mod FrameHash
 pub mod HashTexts
 pub mod CrcTexts
 pub mod DigestTexts
-pub mod Hashers
-pub mod Puts
 pub mod FlacHead
-pub mod FlacLaws
 pub mod writers
+pub mod laws

@@ -28,7 +28,7 @@ pub(crate) enum Hasher {
 }
 
 impl Hasher {
-    ghost use Rattle.ff_mux.specs.Hashers.{hasher_kind, HasTaken};
+    ghost use Rattle.ff_mux.specs.laws.Hashers.{hasher_kind, HasTaken};
 
     /// Of no bytes.
     pub(crate) fn new(kind: HashKind) -> Hasher

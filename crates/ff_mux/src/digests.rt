@@ -3,7 +3,7 @@ ghost use Rattle.std.specs.Prelude.{◌≡◌, ℕ, ◌<◌, ◌*◌, ◌+◌, L
 ghost use Rattle.ff_lists.specs.Text.{line as line_of};
 ghost use Rattle.ff_mux.specs.CrcTexts.{sum_text};
 ghost use Rattle.ff_mux.specs.DigestTexts.{letter, named_digest};
-ghost use Rattle.ff_mux.specs.Hashers.{hasher_kind, HasTaken};
+ghost use Rattle.ff_mux.specs.laws.Hashers.{hasher_kind, HasTaken};
 
 use crate::adler::{Sums, both};
 use crate::digest::Hasher;

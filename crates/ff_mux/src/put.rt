@@ -16,7 +16,7 @@ pub struct HashPut {
 
 impl HashPut {
     ghost use Rattle.ff_mux.specs.HashTexts.{text_before, line_by};
-    ghost use Rattle.ff_mux.specs.Puts.{put_kind, put_heads};
+    ghost use Rattle.ff_mux.specs.laws.Puts.{put_kind, put_heads};
 
     /// For the packets of streams of these heads, fewer than 2^32.
     pub fn new(alloc: Global, kind: HashKind, heads: Vec<StreamHead>) -> HashPut

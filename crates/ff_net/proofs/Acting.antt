@@ -4,14 +4,14 @@ use Rattle.ff_net.specs.declared.fault.Fault.{Fault}
 use Rattle.ff_net.specs.declared.node.Node.{Node}
 use Rattle.ff_net.specs.declared.wires.Wires.{Wires}
 use Rattle.ff_net.specs.Pasts.{Past}
-use Rattle.ff_net.specs.Worlds.{Wire, Stand}
-use Rattle.ff_net.specs.Nodes.{IsSound, IsSame, NodeStands, in_wires_of, out_wires_of}
+use Rattle.ff_net.specs.laws.Worlds.{Wire, Stand}
+use Rattle.ff_net.specs.laws.Nodes.{IsSound, IsSame, NodeStands, in_wires_of, out_wires_of}
 use mathlib.Core.List.{IsPrefix}
-use Rattle.ff_stream.specs.Order.{prefix_self}
-use Rattle.ff_net.specs.Logs.{PassStep, tickets_in}
-use Rattle.ff_net.specs.Steps.{Course, Acts, IsHeldBack, Rests, Turns, Prepares, Later, Stepped}
-use Rattle.ff_sched.specs.Passing.{Passing}
-use Rattle.ff_net.specs.Views.{View}
+use Rattle.ff_stream.specs.laws.Order.{prefix_self}
+use Rattle.ff_net.specs.laws.Logs.{PassStep, tickets_in}
+use Rattle.ff_net.specs.laws.Steps.{Course, Acts, IsHeldBack, Rests, Turns, Prepares, Later, Stepped}
+use Rattle.ff_sched.specs.laws.Passing.{Passing}
+use Rattle.ff_net.specs.laws.Views.{View}
 use Rattle.ff_net.proofs.Moments.{fault_then, stepped_self, then_moves, has_moved_then, course_self, course_trans}
 use Rattle.ff_net.proofs.Changes.{true_not_false, same_stands}
 use Rattle.ff_net.proofs.Rounds.{or_true, or_false}

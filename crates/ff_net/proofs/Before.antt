@@ -2,20 +2,20 @@
 use Rattle.std.proofs.Common.{◌≡◌, ℕ, zero, suc, ◌<◌, ◌≤◌, inl, inr, List, [], ◌∷◌, ◌++◌, length, map, slice_index_or, refl, ap, sym, subst, arith, Some}
 use Rattle.ff_stream.specs.declared.item.Lane.{Lane}
 use Rattle.ff_stream.specs.Stream.{LiesBelow}
-use Rattle.ff_stream.specs.Order.{below_trans}
+use Rattle.ff_stream.specs.laws.Order.{below_trans}
 use Rattle.ff_stream.specs.Ports.{stream_at, AllBelow, nothing}
 use Rattle.ff_net.specs.declared.fault.Fault.{Fault}
 use Rattle.ff_net.specs.declared.node.Node.{Node}
 use Rattle.ff_net.specs.Ways.{Flow, lane_at, IsValidOn, AreValid}
 use Rattle.ff_net.specs.Pasts.{Task, IsIn}
-use Rattle.ff_net.specs.Laws.{IsOfInputs, Laws}
-use Rattle.ff_net.specs.Ports.{in_at}
-use Rattle.ff_net.specs.Worlds.{Wire}
-use Rattle.ff_net.specs.Nodes.{IsSound, in_wires_of, out_wires_of}
+use Rattle.ff_net.specs.laws.Laws.{IsOfInputs, Laws}
+use Rattle.ff_net.specs.laws.Ports.{in_at}
+use Rattle.ff_net.specs.laws.Worlds.{Wire}
+use Rattle.ff_net.specs.laws.Nodes.{IsSound, in_wires_of, out_wires_of}
 use Rattle.ff_net.specs.Nets.{Part, IsUpward, solve}
-use Rattle.ff_net.specs.Serial.{Moment, parts_of}
-use Rattle.ff_net.specs.Theorem.{AllFare, MeetsSolution}
-use Rattle.ff_net.specs.Views.{View}
+use Rattle.ff_net.specs.laws.Serial.{Moment, parts_of}
+use Rattle.ff_net.specs.laws.Theorem.{AllFare, MeetsSolution}
+use Rattle.ff_net.specs.laws.Views.{View}
 use Rattle.ff_net.proofs.PortSteps.{in_wire_in}
 use Rattle.ff_net.proofs.Queues.{nothing_valid_on}
 use Rattle.ff_net.proofs.Induction.{Placed, parts, IsOutputOf, AreFaultless, IsNet, map_valid, solve_valid, exact_before}

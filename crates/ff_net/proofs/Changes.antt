@@ -7,7 +7,7 @@ use Rattle.ff_stream.specs.declared.item.Item.TheVariants.{Broken}
 use Rattle.ff_stream.specs.declared.item.Lane.{Lane}
 use Rattle.ff_stream.specs.Stream.{Mark, still_open, LiesBelow, opened, opened_mark}
 use Rattle.ff_stream.specs.Items.{Closes, with_item}
-use Rattle.ff_stream.specs.Order.{below_self, below_trans, with_item_above, with_item_open, with_item_closed, opened_below, prefix_self}
+use Rattle.ff_stream.specs.laws.Order.{below_self, below_trans, with_item_above, with_item_open, with_item_closed, opened_below, prefix_self}
 use Rattle.ff_stream.specs.Ports.{AllBelow, stream_at, IsClosed}
 use Rattle.ff_net.specs.declared.fault.Fault.{Fault}
 use Rattle.ff_net.specs.declared.ports.InPort.{InPort}
@@ -15,12 +15,12 @@ use Rattle.ff_net.specs.declared.ports.OutPort.{OutPort}
 use Rattle.ff_net.specs.declared.node.Node.{Node}
 use Rattle.ff_net.specs.Ways.{Flow}
 use Rattle.ff_net.specs.Pasts.{Past, IsIn, gave_item, was_stopped}
-use Rattle.ff_net.specs.Laws.{NoMatter}
-use Rattle.ff_net.specs.Ports.{in_at, out_at, AreDone}
-use Rattle.ff_net.specs.Worlds.{Wire, put_on, take_on, finish_on}
-use Rattle.ff_net.specs.Nodes.{HeldIs, FedAllButOne, OutStands, InStands, IsSound, IsSame, MayClose, NodeStands, LogStands, in_wires_of, out_wires_of, HaveLanes}
-use Rattle.ff_net.specs.Steps.{Course}
-use Rattle.ff_net.specs.Views.{View}
+use Rattle.ff_net.specs.laws.Laws.{NoMatter}
+use Rattle.ff_net.specs.laws.Ports.{in_at, out_at, AreDone}
+use Rattle.ff_net.specs.laws.Worlds.{Wire, put_on, take_on, finish_on}
+use Rattle.ff_net.specs.laws.Nodes.{HeldIs, FedAllButOne, OutStands, InStands, IsSound, IsSame, MayClose, NodeStands, LogStands, in_wires_of, out_wires_of, HaveLanes}
+use Rattle.ff_net.specs.laws.Steps.{Course}
+use Rattle.ff_net.specs.laws.Views.{View}
 use Rattle.ff_net.proofs.Logs.{fault_back, log_still}
 use Rattle.ff_net.proofs.Flows.{same_or_not, stream_at-with_item_same, stream_at-with_item_other}
 use Rattle.ff_net.proofs.Matters.{no_matter_lasts}

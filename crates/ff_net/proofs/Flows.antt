@@ -6,9 +6,9 @@ use Rattle.ff_stream.specs.declared.item.Item.{Item}
 use Rattle.ff_stream.specs.declared.item.Lane.{Lane}
 use Rattle.ff_stream.specs.Stream.{still_open, LiesBelow}
 use Rattle.ff_stream.specs.Items.{with_item}
-use Rattle.ff_stream.specs.Order.{below_self, below_both, nothing_below, with_item_above, all_trans, prefix_self}
+use Rattle.ff_stream.specs.laws.Order.{below_self, below_both, nothing_below, with_item_above, all_trans, prefix_self}
 use Rattle.ff_stream.specs.Ports.{nothing, stream_at, AllBelow}
-use Rattle.ff_stream.specs.LaneLaws.{valid_below, valid_front}
+use Rattle.ff_stream.specs.laws.LaneLaws.{valid_below, valid_front}
 use Rattle.ff_net.specs.Ways.{Flow, lane_at, IsValidOn, AreValid, with_item_at}
 use Rattle.ff_net.specs.Pasts.{Past, due, cut_to, fed}
 

@@ -1,19 +1,19 @@
 -- How a node begins.
 use Rattle.std.proofs.Common.{◌≡◌, ℕ, zero, suc, ◌<◌, Bool, false, List, [], ◌∷◌, map, length, refl, ap, sym, ◌∙◌, subst, arith, inl, Option, None}
-use Rattle.ff_stream.specs.Order.{below_self}
+use Rattle.ff_stream.specs.laws.Order.{below_self}
 use Rattle.ff_stream.specs.Ports.{nothing}
 use Rattle.ff_net.specs.declared.ports.InPort.{InPort}
 use Rattle.ff_net.specs.declared.ports.OutPort.{OutPort}
 use Rattle.ff_net.specs.declared.node.Node.{Node}
 use Rattle.ff_net.specs.Pasts.{Task, start}
-use Rattle.ff_net.specs.Ports.{in_at, out_at, in_wires, out_wires}
-use Rattle.ff_net.specs.Worlds.{fresh}
-use Rattle.ff_net.specs.Nodes.{InStands, OutStands, NodeStands, IsSound, MayClose}
+use Rattle.ff_net.specs.laws.Ports.{in_at, out_at, in_wires, out_wires}
+use Rattle.ff_net.specs.laws.Worlds.{fresh}
+use Rattle.ff_net.specs.laws.Nodes.{InStands, OutStands, NodeStands, IsSound, MayClose}
 use mathlib.Core.List.{IsPrefix}
-use Rattle.ff_net.specs.Logs.{AreTicketsOf, hand_of, tickets_in, told_in}
+use Rattle.ff_net.specs.laws.Logs.{AreTicketsOf, hand_of, tickets_in, told_in}
 use Rattle.ff_sched.specs.declared.logged.Logged.{Logged}
 use Rattle.ff_frame.specs.declared.event.Ticket.{Ticket}
-use Rattle.ff_net.specs.Views.{View}
+use Rattle.ff_net.specs.laws.Views.{View}
 use Rattle.ff_net.proofs.Changes.{true_not_false}
 
 abbrev pub in_new : ℕ → InPort

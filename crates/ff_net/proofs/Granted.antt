@@ -4,19 +4,19 @@ use mathlib.Core.List.{IsPrefix}
 use Rattle.ff_stream.specs.declared.item.Item.{Item}
 use Rattle.ff_stream.specs.declared.item.Lane.{Lane}
 use Rattle.ff_stream.specs.Stream.{Mark, still_open, whole, LiesBelow, opened, opened_mark}
-use Rattle.ff_stream.specs.Order.{below_trans, closed_below, stream_at-opened}
+use Rattle.ff_stream.specs.laws.Order.{below_trans, closed_below, stream_at-opened}
 use Rattle.ff_stream.specs.Ports.{nothing, stream_at, AllBelow, IsClosed}
 use Rattle.ff_net.specs.declared.ports.InPort.{InPort}
 use Rattle.ff_net.specs.declared.node.Node.{Node}
 use Rattle.ff_net.specs.Ways.{Flow, lane_at, IsValidOn, AreValid}
 use Rattle.ff_net.specs.Pasts.{Past, Task, IsIn, cut_to}
-use Rattle.ff_net.specs.Laws.{Laws}
-use Rattle.ff_net.specs.Ports.{in_at, in_wires}
-use Rattle.ff_net.specs.Worlds.{Wire}
-use Rattle.ff_net.specs.Nodes.{NodeStands, IsSound, IsDone, HaveLanes, in_wires_of, out_wires_of}
+use Rattle.ff_net.specs.laws.Laws.{Laws}
+use Rattle.ff_net.specs.laws.Ports.{in_at, in_wires}
+use Rattle.ff_net.specs.laws.Worlds.{Wire}
+use Rattle.ff_net.specs.laws.Nodes.{NodeStands, IsSound, IsDone, HaveLanes, in_wires_of, out_wires_of}
 use Rattle.ff_net.specs.Nets.{Part, IsUpward, solve}
-use Rattle.ff_net.specs.Serial.{Moment, granted_part_of, granted_parts_of, part_of, parts_of, tried_by}
-use Rattle.ff_net.specs.Views.{View}
+use Rattle.ff_net.specs.laws.Serial.{Moment, granted_part_of, granted_parts_of, part_of, parts_of, tried_by}
+use Rattle.ff_net.specs.laws.Views.{View}
 use Rattle.ff_net.proofs.Flows.{all_cut_below, given_below, valid_on_below}
 use Rattle.ff_net.proofs.Induction.{Placed, parts, IsInputOf, IsLawful, AreLawful, AreFaultless, IsNet, exact_solve}
 use Rattle.ff_net.proofs.Whole.{at_port, bool_sound, lawful_by}

@@ -2,20 +2,20 @@
 use Rattle.std.proofs.Common.{◌≡◌, ℕ, List, ◌<◌, ◌≤◌, ◌+◌, ◌⊎◌, inl, inr, Bool, true, false, ◌||◌, ◌++◌, ◌∷◌, [], length, refl, ap, sym, ◌∙◌, subst, arith, length-append, append_assoc, Option, None, Some, IsSome}
 use Rattle.ff_frame.specs.declared.event.Event.TheVariants.{Grant}
 use Rattle.ff_sched.specs.Histories.{logged}
-use Rattle.ff_sched.specs.Passing.{Passing, Scheduler, Told}
+use Rattle.ff_sched.specs.laws.Passing.{Passing, Scheduler, Told}
 use Rattle.ff_frame.specs.declared.event.Event.{Event}
 use Rattle.ff_net.specs.declared.fault.Fault.{Fault}
 use Rattle.ff_net.specs.declared.node.Node.{Node}
 use Rattle.ff_net.specs.declared.wires.Wires.{Wires}
-use Rattle.ff_net.specs.Laws.{FaultStep, IsReading}
-use Rattle.ff_net.specs.Logs.{PassStep, ticket_of, tickets_in}
+use Rattle.ff_net.specs.laws.Laws.{FaultStep, IsReading}
+use Rattle.ff_net.specs.laws.Logs.{PassStep, ticket_of, tickets_in}
 use Rattle.ff_sched.specs.declared.logged.Logged.{Logged}
-use Rattle.ff_net.specs.Nodes.{IsOf, IsSound, LogStands, NodeStands}
+use Rattle.ff_net.specs.laws.Nodes.{IsOf, IsSound, LogStands, NodeStands}
 use Rattle.ff_net.specs.Pasts.{Past}
-use Rattle.ff_net.specs.Ports.{AreDone, NoneHeld, in_wires, out_wires}
-use Rattle.ff_net.specs.Steps.{Grants, Stepped, Tells}
-use Rattle.ff_net.specs.Views.{View}
-use Rattle.ff_net.specs.Worlds.{Wire}
+use Rattle.ff_net.specs.laws.Ports.{AreDone, NoneHeld, in_wires, out_wires}
+use Rattle.ff_net.specs.laws.Steps.{Grants, Stepped, Tells}
+use Rattle.ff_net.specs.laws.Views.{View}
+use Rattle.ff_net.specs.laws.Worlds.{Wire}
 use Rattle.ff_net.proofs.Changes.{machine_step, true_not_false}
 use Rattle.ff_net.proofs.Idling.{find_busy}
 use Rattle.ff_net.proofs.Logs.{tickets_more, log_still, log_granted}

@@ -3,7 +3,7 @@ use Rattle.std.proofs.Common.{◌≡◌, ℕ, zero, suc, ◌<◌, ◌⊎◌, inl
 use Rattle.ff_stream.specs.declared.item.Item.{Item}
 use Rattle.ff_stream.specs.Stream.{LiesBelow}
 use Rattle.ff_stream.specs.Items.{with_item}
-use Rattle.ff_stream.specs.Order.{below_both, with_item_above}
+use Rattle.ff_stream.specs.laws.Order.{below_both, with_item_above}
 use Rattle.ff_stream.specs.Ports.{stream_at, IsClosed}
 use Rattle.ff_net.specs.declared.node.Node.{Node}
 use Rattle.ff_net.specs.declared.ports.InPort.{InPort}
@@ -11,13 +11,13 @@ use Rattle.ff_net.specs.declared.ports.OutPort.{OutPort}
 use Rattle.ff_net.specs.declared.wires.Wires.{Wires}
 use Rattle.ff_net.specs.Ways.{Flow}
 use Rattle.ff_net.specs.Pasts.{Past, due}
-use Rattle.ff_net.specs.Laws.{OutputsClose, NoMatter, Laws}
-use Rattle.ff_net.specs.Ports.{in_at, out_at, AreDone, AreFinished, SomeHeld, NoneHeld}
-use Rattle.ff_net.specs.Worlds.{Wire, IsFull, IsEmpty}
-use Rattle.ff_net.specs.Nodes.{HeldIs, IsSound, IsSame, IsDone, NodeStands}
-use Rattle.ff_net.specs.Steps.{IsDue, Rests}
-use Rattle.ff_net.specs.Turns.{Waits, with_fault, with_items, held_back, for_items, IsRefused, full, empty, choked, IsIdle}
-use Rattle.ff_net.specs.Views.{View}
+use Rattle.ff_net.specs.laws.Laws.{OutputsClose, NoMatter, Laws}
+use Rattle.ff_net.specs.laws.Ports.{in_at, out_at, AreDone, AreFinished, SomeHeld, NoneHeld}
+use Rattle.ff_net.specs.laws.Worlds.{Wire, IsFull, IsEmpty}
+use Rattle.ff_net.specs.laws.Nodes.{HeldIs, IsSound, IsSame, IsDone, NodeStands}
+use Rattle.ff_net.specs.laws.Steps.{IsDue, Rests}
+use Rattle.ff_net.specs.laws.Turns.{Waits, with_fault, with_items, held_back, for_items, IsRefused, full, empty, choked, IsIdle}
+use Rattle.ff_net.specs.laws.Views.{View}
 use Rattle.ff_net.proofs.Flows.{due_meant}
 use Rattle.ff_net.proofs.Matters.{all_close}
 use Rattle.ff_net.proofs.Moments.{with_item_new}

@@ -3,12 +3,12 @@ use Rattle.std.proofs.Common.{◌≡◌, ◌≢◌, ℕ, zero, suc, ◌⊎◌, i
 use Rattle.std.proofs.lemmas.Bool.Decides.{nat_tests}
 use Rattle.ff_stream.specs.declared.item.Lane.{Lane}
 use Rattle.ff_stream.specs.Stream.{LiesBelow, opened}
-use Rattle.ff_stream.specs.Order.{below_self, below_trans, opened_below, opened_keeps, unbroken_below, all_trans, all_opened_keeps, all_opened_twice}
+use Rattle.ff_stream.specs.laws.Order.{below_self, below_trans, opened_below, opened_keeps, unbroken_below, all_trans, all_opened_keeps, all_opened_twice}
 use Rattle.ff_stream.specs.Ports.{nothing, stream_at, AllBelow, IsMonotone, IsCalm, IsUnbroken}
 use Rattle.ff_net.specs.Ways.{Flow, lane_at, IsValidOn, AreValid}
 use Rattle.ff_net.specs.Pasts.{IsIn}
 use Rattle.ff_net.specs.Nets.{Part, put_all, solve_from, solve, IsUpward}
-use Rattle.ff_net.specs.Worlds.{Wire}
+use Rattle.ff_net.specs.laws.Worlds.{Wire}
 use Rattle.ff_net.proofs.Flows.{valid_on_below}
 use Rattle.ff_net.proofs.Queues.{nothing_valid_on}
 

@@ -2,7 +2,7 @@
 use Rattle.std.proofs.Common.{◌≡◌, ◌⊎◌, ℕ, inl, inr, true, false, List, [], ◌∷◌, ◌++◌, length, refl, ap, sym, ◌∙◌, subst, Option, None, Some, IsSome, append-nil, append_assoc}
 use Rattle.std.proofs.lemmas.List.Elements.{All-append, All-cons, All-nil}
 use mathlib.Core.List.{IsPrefix}
-use Rattle.ff_stream.specs.Order.{prefix_self, prefix_trans}
+use Rattle.ff_stream.specs.laws.Order.{prefix_self, prefix_trans}
 use Rattle.ff_stream.specs.declared.item.Item.{Item}
 use Rattle.ff_stream.specs.declared.item.Lane.{Lane}
 use Rattle.ff_stream.specs.Ports.{stream_at}
@@ -13,16 +13,16 @@ use Rattle.ff_frame.specs.declared.event.Event.TheVariants.{Grant, Sent, Finishe
 use Rattle.ff_sched.specs.declared.logged.Logged.{Logged}
 use Rattle.ff_sched.specs.Events.{IsTold, fold}
 use Rattle.ff_sched.specs.Histories.{StartsWith, logged}
-use Rattle.ff_sched.specs.Passing.{IsChoked, Passing, Scheduler}
+use Rattle.ff_sched.specs.laws.Passing.{IsChoked, Passing, Scheduler}
 use Rattle.ff_sched.specs.State.{State}
 use Rattle.ff_sched.specs.Unchoked.{Unchokes}
 use Rattle.ff_net.specs.declared.fault.Fault.{Fault}
 use Rattle.ff_net.specs.declared.node.Node.{Node}
-use Rattle.ff_net.specs.Laws.{IsPending, IsReading}
-use Rattle.ff_net.specs.Logs.{AreTicketsOf, GrantsFirst, WasChoked, hand_of, ticket_of, tickets_in, telling_of, told_in}
-use Rattle.ff_net.specs.Nodes.{LogStands}
+use Rattle.ff_net.specs.laws.Laws.{IsPending, IsReading}
+use Rattle.ff_net.specs.laws.Logs.{AreTicketsOf, GrantsFirst, WasChoked, hand_of, ticket_of, tickets_in, telling_of, told_in}
+use Rattle.ff_net.specs.laws.Nodes.{LogStands}
 use Rattle.ff_net.specs.Pasts.{Past, IsIn, gave_item, was_stopped, was_told}
-use Rattle.ff_net.specs.Views.{View, IsSameShape}
+use Rattle.ff_net.specs.laws.Views.{View, IsSameShape}
 use Rattle.ff_net.proofs.Flows.{same_or_not, stream_at-with_item_other}
 
 pub fault_back : (a b : Option Fault) → ((c : Fault) → a ≡ Some c → b ≡ Some c) → b ≡ None → a ≡ None

@@ -4,10 +4,10 @@ use Rattle.ff_stream.specs.declared.item.Item.{Item}
 use Rattle.ff_stream.specs.declared.item.Lane.{Lane}
 use Rattle.ff_stream.specs.Stream.{Mark, still_open, whole, broken, LiesBelow}
 use Rattle.ff_stream.specs.Ports.{nothing, stream_at, AllBelow, IsClosed, IsMonotone}
-use Rattle.ff_stream.specs.Order.{all_trans, prefix_self, below_both, below_self, closed_below}
+use Rattle.ff_stream.specs.laws.Order.{all_trans, prefix_self, below_both, below_self, closed_below}
 use Rattle.ff_net.specs.Ways.{Flow, lane_at, IsValidOn, AreValid}
 use Rattle.ff_net.specs.Pasts.{Task, Past, IsIn}
-use Rattle.ff_net.specs.Laws.{OutputsClose, NoMatter, MaySpend, Settles}
+use Rattle.ff_net.specs.laws.Laws.{OutputsClose, NoMatter, MaySpend, Settles}
 use Rattle.ff_net.proofs.Flows.{broken_valid_on, same_or_not}
 
 -- where each output that wasn't stopped is closed, nothing more of any input matters

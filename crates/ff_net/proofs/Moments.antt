@@ -7,22 +7,22 @@ use Rattle.ff_stream.specs.declared.item.Item.TheVariants.{Audio, Video, Packet,
 use Rattle.ff_frame.specs.declared.event.Ticket.{Ticket}
 use Rattle.ff_stream.specs.Stream.{still_open, whole, broken, LiesBelow}
 use Rattle.ff_stream.specs.Items.{with_item}
-use Rattle.ff_stream.specs.Order.{below_self, below_both, below_trans, prefix_self, prefix_trans, prefix_both}
+use Rattle.ff_stream.specs.laws.Order.{below_self, below_both, below_trans, prefix_self, prefix_trans, prefix_both}
 use Rattle.ff_net.specs.declared.fault.Fault.{Fault}
 use Rattle.ff_net.specs.declared.fault.Fault.TheVariants.{Device}
 use Rattle.ff_net.specs.declared.node.Node.{Node}
 use Rattle.ff_net.specs.declared.wires.Wires.{Wires}
 use Rattle.ff_net.specs.Ways.{Flow}
-use Rattle.ff_net.specs.Laws.{Rose, FaultStep}
+use Rattle.ff_net.specs.laws.Laws.{Rose, FaultStep}
 use Rattle.ff_net.specs.Pasts.{Past}
-use Rattle.ff_net.specs.Worlds.{Wire, with_wire}
-use Rattle.ff_net.specs.Nodes.{NodeStands, in_wires_of, out_wires_of}
-use Rattle.ff_net.specs.Logs.{PassStep}
+use Rattle.ff_net.specs.laws.Worlds.{Wire, with_wire}
+use Rattle.ff_net.specs.laws.Nodes.{NodeStands, in_wires_of, out_wires_of}
+use Rattle.ff_net.specs.laws.Logs.{PassStep}
 use Rattle.ff_sched.specs.declared.logged.Logged.{Logged}
-use Rattle.ff_sched.specs.Passing.{Passing}
+use Rattle.ff_sched.specs.laws.Passing.{Passing}
 use Rattle.ff_frame.specs.declared.event.Event.{Event}
-use Rattle.ff_net.specs.Steps.{Course, HasMoved, Moves, took, put, finished, granted, told, Stepped}
-use Rattle.ff_net.specs.Views.{View}
+use Rattle.ff_net.specs.laws.Steps.{Course, HasMoved, Moves, took, put, finished, granted, told, Stepped}
+use Rattle.ff_net.specs.laws.Views.{View}
 use Rattle.ff_net.proofs.Flows.{same_or_not}
 
 pub with_wire_same : (world : ℕ → Wire) (w : ℕ) (wire : Wire) (v : ℕ) → v ≡ w → with_wire world w wire v ≡ wire

@@ -8,18 +8,18 @@ use Rattle.ff_net.specs.declared.ports.OutPort.{OutPort}
 use Rattle.ff_net.specs.declared.node.Node.{Node}
 use Rattle.ff_net.specs.declared.wires.Wires.{Wires}
 use Rattle.ff_net.specs.Pasts.{Past, Task, IsIn}
-use Rattle.ff_net.specs.Ports.{in_at, out_at}
-use Rattle.ff_net.specs.Worlds.{Wire}
-use Rattle.ff_net.specs.Nodes.{NodeStands, IsOf, IsShaped, HaveLanes, IsSound, MayClose, in_wires_of, out_wires_of}
-use Rattle.ff_net.specs.Laws.{FaultStep}
-use Rattle.ff_net.specs.Steps.{Course, Stepped}
-use Rattle.ff_net.specs.Logs.{PassStep}
-use Rattle.ff_sched.specs.Passing.{Scheduler}
+use Rattle.ff_net.specs.laws.Ports.{in_at, out_at}
+use Rattle.ff_net.specs.laws.Worlds.{Wire}
+use Rattle.ff_net.specs.laws.Nodes.{NodeStands, IsOf, IsShaped, HaveLanes, IsSound, MayClose, in_wires_of, out_wires_of}
+use Rattle.ff_net.specs.laws.Laws.{FaultStep}
+use Rattle.ff_net.specs.laws.Steps.{Course, Stepped}
+use Rattle.ff_net.specs.laws.Logs.{PassStep}
+use Rattle.ff_sched.specs.laws.Passing.{Scheduler}
 use Rattle.ff_net.proofs.Granting.{of_later}
 use Rattle.ff_net.proofs.Moments.{fault_self, pass_self}
-use Rattle.ff_net.specs.Serial.{AreOf, AreShaped, NetStands, part_of, parts_of}
+use Rattle.ff_net.specs.laws.Serial.{AreOf, AreShaped, NetStands, part_of, parts_of}
 use Rattle.ff_net.specs.Nets.{Part}
-use Rattle.ff_net.specs.Views.{View}
+use Rattle.ff_net.specs.laws.Views.{View}
 use Rattle.ff_net.proofs.Flows.{same_or_not}
 use Rattle.ff_net.proofs.PortSteps.{in_keep, out_keep, out_wire_in, in_wire_in}
 use Rattle.ff_net.proofs.Rounds.{shaped_later}

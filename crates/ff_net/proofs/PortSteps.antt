@@ -9,10 +9,10 @@ use Rattle.ff_net.specs.declared.ports.OutPort.{OutPort}
 use Rattle.ff_net.specs.declared.node.Node.{Node}
 use Rattle.ff_net.specs.Ways.{Flow, lane_at}
 use Rattle.ff_net.specs.Pasts.{Past, IsIn}
-use Rattle.ff_net.specs.Ports.{in_at, out_at, in_wires, out_wires}
-use Rattle.ff_net.specs.Worlds.{Wire}
-use Rattle.ff_net.specs.Nodes.{LogStands, HeldIs, FedAllButOne, OutStands, InStands, IsSound, MayClose, NodeStands, HaveLanes}
-use Rattle.ff_net.specs.Views.{View}
+use Rattle.ff_net.specs.laws.Ports.{in_at, out_at, in_wires, out_wires}
+use Rattle.ff_net.specs.laws.Worlds.{Wire}
+use Rattle.ff_net.specs.laws.Nodes.{LogStands, HeldIs, FedAllButOne, OutStands, InStands, IsSound, MayClose, NodeStands, HaveLanes}
+use Rattle.ff_net.specs.laws.Views.{View}
 use Rattle.ff_net.proofs.Flows.{same_or_not, there_lane}
 
 pub in_wire_at : (ports : List InPort) (p : ℕ) → slice_index_or (in_wires ports) p 0 ≡ (in_at ports p).wire

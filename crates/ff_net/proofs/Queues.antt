@@ -6,12 +6,12 @@ use Rattle.ff_stream.specs.declared.item.Item.{Item}
 use Rattle.ff_stream.specs.declared.item.Lane.{Lane}
 use Rattle.ff_stream.specs.Stream.{still_open, LiesBelow}
 use Rattle.ff_stream.specs.Items.{with_item, Leads}
-use Rattle.ff_stream.specs.Order.{leads_below, leads_push, below_self}
+use Rattle.ff_stream.specs.laws.Order.{leads_below, leads_push, below_self}
 use Rattle.ff_stream.specs.Ports.{nothing}
-use Rattle.ff_stream.specs.LaneLaws.{nothing_valid}
+use Rattle.ff_stream.specs.laws.LaneLaws.{nothing_valid}
 use Rattle.ff_net.specs.declared.wires.Queue.{Queue}
 use Rattle.ff_net.specs.Ways.{lane_at, IsValidOn}
-use Rattle.ff_net.specs.Worlds.{Wire, fresh, sizes_in, QueueStands, QueuesStand, lanes_in, with_wire, put_on, take_on, finish_on}
+use Rattle.ff_net.specs.laws.Worlds.{Wire, fresh, sizes_in, QueueStands, QueuesStand, lanes_in, with_wire, put_on, take_on, finish_on}
 
 -- a queue that changes and keeps its lane
 pub lanes_set : (queues : List Queue) (w : ℕ) (d new : Queue) → w < length queues → new.lane ≡ (slice_index_or queues w d).lane → lanes_in (slice_set queues w new) ≡ lanes_in queues

@@ -1,21 +1,21 @@
 -- What a node is ready for.
 use Rattle.std.proofs.Common.{◌≡◌, ℕ, ◌<◌, ◌⊎◌, inl, inr, Bool, true, false, List, length, refl, ap, sym, ◌∙◌, subst, Option, None, Some, is_some, IsSome, slice_index_or}
 use Rattle.ff_stream.specs.declared.item.Item.{Item}
-use Rattle.ff_stream.specs.Order.{closed_below}
+use Rattle.ff_stream.specs.laws.Order.{closed_below}
 use Rattle.ff_stream.specs.Ports.{stream_at}
 use Rattle.ff_net.specs.declared.ports.OutPort.{OutPort}
 use Rattle.ff_net.specs.declared.node.Node.{Node}
 use Rattle.ff_net.specs.Ways.{Flow}
 use Rattle.ff_net.specs.Pasts.{Past, due}
-use Rattle.ff_net.specs.Laws.{IsPending, Laws}
-use Rattle.ff_net.specs.Ports.{out_at, out_wires, SomeHeld, NoneHeld}
-use Rattle.ff_net.specs.Worlds.{Wire}
-use Rattle.ff_net.specs.Nodes.{HeldIs, IsSound, IsSame, NodeStands, out_wires_of}
-use Rattle.ff_net.specs.Logs.{WasChoked}
-use Rattle.ff_net.specs.Steps.{Readies, IsDue, Rests, Tells}
-use Rattle.ff_sched.specs.Passing.{Passing}
+use Rattle.ff_net.specs.laws.Laws.{IsPending, Laws}
+use Rattle.ff_net.specs.laws.Ports.{out_at, out_wires, SomeHeld, NoneHeld}
+use Rattle.ff_net.specs.laws.Worlds.{Wire}
+use Rattle.ff_net.specs.laws.Nodes.{HeldIs, IsSound, IsSame, NodeStands, out_wires_of}
+use Rattle.ff_net.specs.laws.Logs.{WasChoked}
+use Rattle.ff_net.specs.laws.Steps.{Readies, IsDue, Rests, Tells}
+use Rattle.ff_sched.specs.laws.Passing.{Passing}
 use Rattle.ff_net.proofs.Flows.{due_same}
-use Rattle.ff_net.specs.Views.{View}
+use Rattle.ff_net.specs.laws.Views.{View}
 use Rattle.ff_net.proofs.PortSteps.{out_wire_at}
 use Rattle.ff_net.proofs.Changes.{true_not_false, busy_goes_on}
 

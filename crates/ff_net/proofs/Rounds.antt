@@ -7,11 +7,11 @@ use Rattle.ff_net.specs.declared.node.Node.{Node}
 use Rattle.ff_net.specs.declared.wires.Wires.{Wires}
 use Rattle.ff_net.specs.Ways.{Flow}
 use Rattle.ff_net.specs.Pasts.{Past, due}
-use Rattle.ff_net.specs.Ports.{out_at}
-use Rattle.ff_net.specs.Worlds.{Wire, lanes_of}
-use Rattle.ff_net.specs.Nodes.{IsSound, IsSame, IsShaped, HaveLanes, in_wires_of, out_wires_of}
-use Rattle.ff_net.specs.Steps.{Course, Acts, Readies, Stepped}
-use Rattle.ff_net.specs.Views.{View}
+use Rattle.ff_net.specs.laws.Ports.{out_at}
+use Rattle.ff_net.specs.laws.Worlds.{Wire, lanes_of}
+use Rattle.ff_net.specs.laws.Nodes.{IsSound, IsSame, IsShaped, HaveLanes, in_wires_of, out_wires_of}
+use Rattle.ff_net.specs.laws.Steps.{Course, Acts, Readies, Stepped}
+use Rattle.ff_net.specs.laws.Views.{View}
 use Rattle.ff_net.proofs.Flows.{same_or_not, due_same}
 use Rattle.ff_net.proofs.Moments.{moves_then, then_moves}
 use Rattle.ff_net.proofs.PortSteps.{in_count, out_count}

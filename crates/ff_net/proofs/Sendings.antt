@@ -9,10 +9,10 @@ use Rattle.ff_net.specs.declared.node.Node.{Node}
 use Rattle.ff_net.specs.declared.wires.Wires.{Wires}
 use Rattle.ff_net.specs.Ways.{Flow, lane_at, IsValidOn, AreValid}
 use Rattle.ff_net.specs.Pasts.{Past, due, fed}
-use Rattle.ff_net.specs.Ports.{in_at, out_at}
-use Rattle.ff_net.specs.Worlds.{Wire, Stand, lanes_of, take_on}
-use Rattle.ff_net.specs.Nodes.{HeldIs, NodeStands, HaveLanes, in_wires_of, out_wires_of}
-use Rattle.ff_net.specs.Views.{View}
+use Rattle.ff_net.specs.laws.Ports.{in_at, out_at}
+use Rattle.ff_net.specs.laws.Worlds.{Wire, Stand, lanes_of, take_on}
+use Rattle.ff_net.specs.laws.Nodes.{HeldIs, NodeStands, HaveLanes, in_wires_of, out_wires_of}
+use Rattle.ff_net.specs.laws.Views.{View}
 use Rattle.ff_net.proofs.Flows.{valid_on_below, broken_valid_on, given_below, fed_valid}
 use Rattle.ff_net.proofs.PortSteps.{out_lane, in_lane, out_wire_there}
 use Rattle.ff_net.proofs.Moments.{with_wire_same}

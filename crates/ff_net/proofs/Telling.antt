@@ -1,11 +1,11 @@
 -- What a node that is done has told.
 use Rattle.std.proofs.Common.{◌≡◌, ℕ, false, inl, inr, length, sym, ◌∙◌}
 use Rattle.ff_net.specs.declared.node.Node.{Node}
-use Rattle.ff_net.specs.Logs.{told_in}
-use Rattle.ff_net.specs.Nodes.{IsDone, NodeStands}
+use Rattle.ff_net.specs.laws.Logs.{told_in}
+use Rattle.ff_net.specs.laws.Nodes.{IsDone, NodeStands}
 use Rattle.ff_net.specs.Pasts.{Past}
-use Rattle.ff_net.specs.Views.{View}
-use Rattle.ff_net.specs.Worlds.{Wire}
+use Rattle.ff_net.specs.laws.Views.{View}
+use Rattle.ff_net.specs.laws.Worlds.{Wire}
 use Rattle.ff_net.proofs.Changes.{true_not_false}
 use Rattle.ff_net.proofs.Readying.{pending_busy}
 

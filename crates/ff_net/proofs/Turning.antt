@@ -5,12 +5,12 @@ use Rattle.ff_net.specs.declared.node.Turn.{Turn}
 use Rattle.ff_net.specs.declared.node.Turn.TheVariants.{Moved, NotYet}
 use Rattle.ff_net.specs.declared.wires.Wires.{Wires}
 use Rattle.ff_net.specs.Pasts.{Past}
-use Rattle.ff_net.specs.Worlds.{Wire}
-use Rattle.ff_net.specs.Logs.{tickets_in}
-use Rattle.ff_net.specs.Nodes.{IsSound, NodeStands}
-use Rattle.ff_net.specs.Steps.{Rests, Tells, Turns, Stepped}
-use Rattle.ff_net.specs.Turns.{IsIdle, Answers}
-use Rattle.ff_net.specs.Views.{View}
+use Rattle.ff_net.specs.laws.Worlds.{Wire}
+use Rattle.ff_net.specs.laws.Logs.{tickets_in}
+use Rattle.ff_net.specs.laws.Nodes.{IsSound, NodeStands}
+use Rattle.ff_net.specs.laws.Steps.{Rests, Tells, Turns, Stepped}
+use Rattle.ff_net.specs.laws.Turns.{IsIdle, Answers}
+use Rattle.ff_net.specs.laws.Views.{View}
 use Rattle.ff_net.proofs.Moments.{has_moved_then, then_has_moved, stepped_then, stepped_with}
 use Rattle.ff_net.proofs.Rounds.{or_true, or_false}
 use Rattle.ff_net.proofs.Readying.{rests_told}

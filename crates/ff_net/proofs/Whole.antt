@@ -2,7 +2,7 @@
 use Rattle.std.proofs.Common.{◌≡◌, ℕ, zero, suc, ◌<◌, ◌≤◌, ◌⊎◌, inl, inr, Bool, true, false, ◌||◌, List, [], ◌∷◌, map, length, slice_index_or, refl, ap, sym, ◌∙◌, subst, arith, Option, None, Some, is_some}
 use Rattle.ff_stream.specs.declared.item.Lane.{Lane}
 use Rattle.ff_stream.specs.Stream.{LiesBelow, opened}
-use Rattle.ff_stream.specs.Order.{below_self, below_trans, nothing_below, unbroken_below, closed_below, whole_if_closed, all_trans, stream_at-opened, with_item_above}
+use Rattle.ff_stream.specs.laws.Order.{below_self, below_trans, nothing_below, unbroken_below, closed_below, whole_if_closed, all_trans, stream_at-opened, with_item_above}
 use Rattle.ff_stream.specs.Ports.{nothing, stream_at, AllBelow, AllUnbroken, IsCalm, IsClosed, IsMonotone, IsWhole, IsUnbroken}
 use Rattle.ff_net.specs.declared.fault.Fault.{Fault}
 use Rattle.ff_net.specs.declared.ports.InPort.{InPort}
@@ -11,14 +11,14 @@ use Rattle.ff_net.specs.declared.node.Node.{Node}
 use Rattle.ff_net.specs.declared.wires.Wires.{Wires}
 use Rattle.ff_net.specs.Ways.{Flow, lane_at, IsValidOn, AreValid}
 use Rattle.ff_net.specs.Pasts.{Past, Task, IsIn}
-use Rattle.ff_net.specs.Laws.{Laws}
-use Rattle.ff_net.specs.Ports.{in_at, out_at, in_wires, out_wires}
-use Rattle.ff_net.specs.Worlds.{Wire, lanes_of}
-use Rattle.ff_net.specs.Nodes.{FedAllButOne, NodeStands, IsSound, IsDone, HaveLanes, in_wires_of, out_wires_of}
+use Rattle.ff_net.specs.laws.Laws.{Laws}
+use Rattle.ff_net.specs.laws.Ports.{in_at, out_at, in_wires, out_wires}
+use Rattle.ff_net.specs.laws.Worlds.{Wire, lanes_of}
+use Rattle.ff_net.specs.laws.Nodes.{FedAllButOne, NodeStands, IsSound, IsDone, HaveLanes, in_wires_of, out_wires_of}
 use Rattle.ff_net.specs.Nets.{Part, IsUpward, solve}
-use Rattle.ff_net.specs.Serial.{AreShaped, NetStands, Moment, part_of, parts_of}
-use Rattle.ff_net.specs.Theorem.{Settled}
-use Rattle.ff_net.specs.Views.{View}
+use Rattle.ff_net.specs.laws.Serial.{AreShaped, NetStands, Moment, part_of, parts_of}
+use Rattle.ff_net.specs.laws.Theorem.{Settled}
+use Rattle.ff_net.specs.laws.Views.{View}
 use Rattle.ff_net.proofs.Flows.{given_below, valid_on_below}
 use Rattle.ff_net.proofs.PortSteps.{in_wire_in}
 use Rattle.ff_net.proofs.Changes.{true_not_false}

@@ -1,14 +1,4 @@
-pub mod Laws
-pub mod Logs
 pub mod Nets
-pub mod Nodes
 pub mod Pasts
-pub mod Ports
-pub mod Serial
-pub mod Silence
-pub mod Steps
-pub mod Theorem
-pub mod Turns
-pub mod Views
 pub mod Ways
-pub mod Worlds
+pub mod laws

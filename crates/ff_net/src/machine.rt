@@ -8,8 +8,8 @@ ghost use Rattle.ff_net.specs.declared.fault.Fault.{Fault};
 ghost use Rattle.ff_net.specs.declared.fault.Fault.TheVariants.{Device};
 ghost use Rattle.ff_net.specs.Ways.{AreValid};
 ghost use Rattle.ff_net.specs.Pasts.{Past, IsIn, fed, gave_item, was_asked, was_allowed, was_stopped, was_told, due};
-ghost use Rattle.ff_net.specs.Laws.{FaultStep, GoesOn, IsReading, Laws};
-ghost use Rattle.ff_net.specs.Views.{View, IsSameShape};
+ghost use Rattle.ff_net.specs.laws.Laws.{FaultStep, GoesOn, IsReading, Laws};
+ghost use Rattle.ff_net.specs.laws.Views.{View, IsSameShape};
 
 use crate::fault::Fault;
 use ff_frame::{Event, Ticket};

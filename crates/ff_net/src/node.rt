@@ -65,8 +65,8 @@ pub fn turn_of(done: bool, moved: bool) -> Turn
 impl<M: Machine> Node<M> {
     ghost use Rattle.std.specs.Prelude.{◌≡◌, ◌<◌, ◌↔◌, ℕ, length, [], Option, None, Some, IfOk, IfErr, IsTrue, true};
     ghost use Rattle.ff_net.specs.Pasts.{Task, start};
-    ghost use Rattle.ff_net.specs.Worlds.{Wire, fresh};
-    ghost use Rattle.ff_net.specs.Nodes.{IsSound, IsDone, NodeStands, machine_of, pass_of, in_wires_of, out_wires_of};
+    ghost use Rattle.ff_net.specs.laws.Worlds.{Wire, fresh};
+    ghost use Rattle.ff_net.specs.laws.Nodes.{IsSound, IsDone, NodeStands, machine_of, pass_of, in_wires_of, out_wires_of};
 
     /// A machine on these wires, with a pass that has added nothing. Machine and pass come back where memory is refused.
     pub fn new(

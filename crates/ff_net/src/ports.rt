@@ -1,6 +1,6 @@
 //! The ports of a node.
 ghost use Rattle.std.specs.Prelude.{◌≡◌, ◌<◌, ◌↔◌, length, slice_set, true, false, None, Some, is_some, map, IfOk, IsTrue};
-ghost use Rattle.ff_net.specs.Ports.{in_at, out_at, AreDone};
+ghost use Rattle.ff_net.specs.laws.Ports.{in_at, out_at, AreDone};
 
 use ff_stream::Item;
 use std::alloc::{AllocError, Global};

@@ -2,9 +2,9 @@
 ghost use Rattle.std.specs.Prelude.{◌≡◌, ℕ, ◌<◌, length, slice_index_or, []};
 ghost use Rattle.ff_net.specs.Nets.{IsUpward};
 ghost use Rattle.ff_net.specs.Pasts.{Task};
-ghost use Rattle.ff_net.specs.Serial.{AllPass, AreOf, AreShaped, NetStands, parts_of};
-ghost use Rattle.ff_net.specs.Theorem.{AllFare, MeetsSolution};
-ghost use Rattle.ff_net.specs.Worlds.{lanes_of};
+ghost use Rattle.ff_net.specs.laws.Serial.{AllPass, AreOf, AreShaped, NetStands, parts_of};
+ghost use Rattle.ff_net.specs.laws.Theorem.{AllFare, MeetsSolution};
+ghost use Rattle.ff_net.specs.laws.Worlds.{lanes_of};
 
 use crate::machine::Machine;
 use crate::node::Node;

@@ -49,7 +49,7 @@ impl Wires {
     ghost use Rattle.ff_stream.specs.Stream.{still_open};
     ghost use Rattle.ff_stream.specs.Items.{with_item};
     ghost use Rattle.ff_net.specs.Ways.{lane_at, IsValidOn};
-    ghost use Rattle.ff_net.specs.Worlds.{Wire, Stand, fresh, put_on, take_on, finish_on, lanes_of, sizes_of, IsFull, HasRoom, IsEmpty, IsFinished};
+    ghost use Rattle.ff_net.specs.laws.Worlds.{Wire, Stand, fresh, put_on, take_on, finish_on, lanes_of, sizes_of, IsFull, HasRoom, IsEmpty, IsFinished};
 
     /// One wire for each lane, with room for so many items. Nothing was put, taken or finished.
     pub fn new(alloc: Global, lanes: Vec<Lane>, size: usize) -> Result<Wires, AllocError>

@@ -1,2 +1,2 @@
-pub mod links
 pub mod network
+pub mod laws

@@ -1,6 +1,1 @@
 pub mod Fits
-pub mod Networks
-pub mod Nodes
-pub mod Runs
-pub mod Scheduling
-pub mod Tables

@@ -22,9 +22,9 @@
 //!
 //! The edges have to fit the machines (`specs/network/Fits`). At each port stands an edge of its lane, and the edge
 //! at each input leaves an earlier machine. Then the solution of the network tells what each machine was fed
-//! (`specs/network/Runs`), whatever the sizes of the links and the order of the threads. All nodes share the cell of
+//! (`specs/laws/network/Runs`), whatever the sizes of the links and the order of the threads. All nodes share the cell of
 //! one scheduler, at which each has a pass. Once they have ended, their passes give the one history of what was
-//! granted and told (`specs/network/Scheduling`). Each grant came where the history before it unchokes the source.
+//! granted and told (`specs/laws/network/Scheduling`). Each grant came where the history before it unchokes the source.
 //! That a run ends is not promised.
 
 mod laws;

@@ -20,16 +20,16 @@ use Rattle.ff_filter.specs.Made.{made_of}
 use Rattle.ff_filter.specs.Views.{closes}
 use Rattle.ff_net.specs.Ways.{Flow}
 use Rattle.ff_trim.specs.declared.cut.Cut.{Cut}
-use Rattle.ff_trim.specs.CutLaws.{runs-waits}
-use Rattle.ff_trim.specs.Taps.{runs_of}
+use Rattle.ff_trim.specs.laws.CutLaws.{runs-waits}
+use Rattle.ff_trim.specs.laws.Taps.{runs_of}
 use Rattle.ff_trim.specs.Cuts.{is_empty, is_uncut, range_in, from_range, kept, cut}
 use Rattle.ff_node_codec.specs.declared.step.Step.{Step}
 use Rattle.ff_node_codec.specs.declared.step.Step.TheVariants.{Puts, Passes}
-use Rattle.ff_node_codec.specs.CutFrames.{kept_bare, cut_kept, none_left}
+use Rattle.ff_node_codec.specs.laws.CutFrames.{kept_bare, cut_kept, none_left}
 use Rattle.ff_node_codec.specs.Decoding.{decoded_item, decoded, if_broken, cut_frames}
 use Rattle.ff_node_codec.specs.Making.{passes, damage_in, made_stream}
 use Rattle.ff_node_codec.specs.Spreads.{Carries}
-use Rattle.ff_node_codec.specs.Steps.{damage_of, IsStepFor, FollowsFrom, IsLeft, IsCutTo, GivesBack, HasSpare}
+use Rattle.ff_node_codec.specs.laws.Steps.{damage_of, IsStepFor, FollowsFrom, IsLeft, IsCutTo, GivesBack, HasSpare}
 use Rattle.ff_node_codec.proofs.SpreadSteps.{put_one, PutsFor, puts_for, Putting, closing, going, breaking, one_made, one_damage}
 
 -- the two ways to say that nothing comes behind an item

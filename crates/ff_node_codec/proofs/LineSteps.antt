@@ -5,8 +5,8 @@ use Rattle.ff_stream.specs.declared.item.Item.{Item}
 use Rattle.ff_filter.specs.declared.after.After.{After}
 use Rattle.ff_net.proofs.Flows.{same_or_not}
 use Rattle.ff_node_codec.specs.declared.ready.Ready.{Ready}
-use Rattle.ff_node_codec.specs.Lines.{line_of, line_at, next_at, HasRoom, HaveRoom, closing_items, AreSame}
-use Rattle.ff_node_codec.specs.Puts.{IsLast, AreNext}
+use Rattle.ff_node_codec.specs.laws.Lines.{line_of, line_at, next_at, HasRoom, HaveRoom, closing_items, AreSame}
+use Rattle.ff_node_codec.specs.laws.Puts.{IsLast, AreNext}
 use Rattle.ff_node_codec.specs.Spreads.{Line}
 
 pub line_is : (rs : List Ready) (q : ℕ) (r : Ready) → q < length rs → r ≡ slice_index_or rs q r → line_at rs q ≡ line_of r

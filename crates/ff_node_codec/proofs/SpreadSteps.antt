@@ -8,11 +8,11 @@ use Rattle.ff_stream.specs.declared.item.Item.TheVariants.{Audio, Video, Packet,
 use Rattle.ff_stream.specs.declared.item.Lane.{Lane}
 use Rattle.ff_stream.specs.Stream.{Mark, still_open, whole, broken, LiesBelow}
 use Rattle.ff_stream.specs.Items.{Closes, with_item, Leads}
-use Rattle.ff_stream.specs.Order.{below_trans, closed_below, leads_below, leads_push, with_item_above, with_item_open, with_item_closed, nothing_below}
+use Rattle.ff_stream.specs.laws.Order.{below_trans, closed_below, leads_below, leads_push, with_item_above, with_item_open, with_item_closed, nothing_below}
 use Rattle.ff_stream.specs.Ports.{nothing, stream_at, IsClosed, IsUnbroken}
 use Rattle.ff_stream.specs.Lanes.{FitsLane, IsItemFor, IsValid}
 use Rattle.ff_stream.specs.Times.{HasTime}
-use Rattle.ff_stream.specs.LaneLaws.{nothing_valid}
+use Rattle.ff_stream.specs.laws.LaneLaws.{nothing_valid}
 use Rattle.ff_filter.specs.declared.after.After.{After}
 use Rattle.ff_filter.specs.declared.after.After.TheVariants.{More, Whole, Broke}
 use Rattle.ff_filter.specs.Joins.{joined, joined_at, one, joined_assoc, joined_nothing, joined_above, joined_closed}
@@ -23,13 +23,13 @@ use Rattle.ff_net.specs.Ways.{Flow, AreValid}
 use Rattle.ff_net.specs.Pasts.{Task, Past, IsIn, due, fed, gave_item, was_asked, was_stopped, start}
 use Rattle.ff_net.proofs.Flows.{same_or_not, stream_at-with_item_same, stream_at-with_item_other}
 use Rattle.ff_node_codec.specs.Making.{Outcome, gives, passes, breaks, Making, by_items, and_items, or_damage, damage_in, mark_by, made_stream}
-use Rattle.ff_node_codec.specs.MakingLaws.{some_or_none}
+use Rattle.ff_node_codec.specs.laws.MakingLaws.{some_or_none}
 use Rattle.ff_node_codec.specs.Spreads.{IsOutcomeOf, Carries, Makes, Line, spread, Spreads}
-use Rattle.ff_node_codec.specs.SpreadLaws.{at_replicate, spreads_due}
+use Rattle.ff_node_codec.specs.laws.SpreadLaws.{at_replicate, spreads_due}
 use Rattle.ff_node_codec.specs.declared.spread.Spread.{Spread}
-use Rattle.ff_node_codec.specs.Lines.{line_at, closing_items, first_items}
-use Rattle.ff_node_codec.specs.Standing.{at_first, IsSpreadTask, IsSameSpread, SpreadStands, first_damage}
-use Rattle.ff_node_codec.specs.Steps.{IsStepFor, FollowsFrom, IsPut, IsPutFor}
+use Rattle.ff_node_codec.specs.laws.Lines.{line_at, closing_items, first_items}
+use Rattle.ff_node_codec.specs.laws.Standing.{at_first, IsSpreadTask, IsSameSpread, SpreadStands, first_damage}
+use Rattle.ff_node_codec.specs.laws.Steps.{IsStepFor, FollowsFrom, IsPut, IsPutFor}
 
 pub only_port : (p : ℕ) → p < 1 → p ≡ 0
 only_port p lt = omega arith

@@ -8,11 +8,11 @@ use Rattle.ff_stream.specs.Lanes.{base_of, head_of, FitsLane, StartsAfter, IsVal
 use Rattle.ff_stream.specs.Ports.{nothing, stream_at, IsClosed, IsUnbroken}
 use Rattle.ff_stream.specs.Times.{HasTime}
 use Rattle.ff_filter.specs.Joins.{joined}
-use Rattle.ff_node_codec.specs.codecs.Made.{IsMadeOf}
+use Rattle.ff_node_codec.specs.laws.codecs.Made.{IsMadeOf}
 use Rattle.ff_net.specs.declared.fault.Fault.{Fault}
 use Rattle.ff_net.specs.Ways.{Flow}
 use Rattle.ff_net.specs.Pasts.{Task, Past, IsIn, no_events}
-use Rattle.ff_net.specs.Laws.{IsSilent}
+use Rattle.ff_net.specs.laws.Laws.{IsSilent}
 use Rattle.ff_node_codec.specs.Making.{Outcome, gives, passes, breaks, Making, fault_by}
 
 -- each of n outputs has the stream that is made of the one input

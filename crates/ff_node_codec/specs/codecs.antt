@@ -1,11 +1,3 @@
-pub mod Made
 pub mod Decoding
 pub mod Encoding
-pub mod Props
-pub mod FlacLaws
-pub mod PcmLaws
-pub mod RawLaws
-pub mod Coders
-pub mod AnyCoders
 pub mod Choices
-pub mod ChoiceLaws

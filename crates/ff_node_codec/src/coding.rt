@@ -6,7 +6,7 @@ ghost use Rattle.ff_frame.specs.declared.head.StreamHead.{StreamHead};
 ghost use Rattle.ff_stream.specs.declared.item.Item.{Item};
 ghost use Rattle.ff_stream.specs.declared.item.Item.TheVariants.{Packet};
 ghost use Rattle.ff_stream.specs.declared.item.Lane.TheVariants.{Frames, Packets};
-ghost use Rattle.ff_stream.specs.Breaks.{KeepsBrokenRule};
+ghost use Rattle.ff_stream.specs.laws.Breaks.{KeepsBrokenRule};
 ghost use Rattle.ff_stream.specs.Lanes.{IsValid};
 ghost use Rattle.ff_stream.specs.Ports.{stream_at};
 ghost use Rattle.ff_stream.specs.Stream.{Mark, LiesBelow, broken};
@@ -16,7 +16,7 @@ ghost use Rattle.ff_trim.specs.Cuts.{cut};
 ghost use Rattle.ff_node_codec.specs.codecs.Choices.{CanDecode, CanEncode, frame_made, packet_made};
 ghost use Rattle.ff_node_codec.specs.codecs.Decoding.{pcm_frame, raw_frame, IsPictureHead};
 ghost use Rattle.ff_node_codec.specs.Making.{damage_in, fault_by};
-ghost use Rattle.ff_node_codec.specs.CodingLaws.{IsUndamaged, packets_in};
+ghost use Rattle.ff_node_codec.specs.laws.CodingLaws.{IsUndamaged, packets_in};
 ghost use Rattle.ff_node_codec.specs.Decoding.{decoded_item, decoded, dec_task};
 ghost use Rattle.ff_node_codec.specs.Encoding.{encoded, enc_task};
 

@@ -6,7 +6,7 @@ ghost use Rattle.ff_filter.specs.Joins.{one};
 ghost use Rattle.ff_filter.specs.Made.{made_of};
 ghost use Rattle.ff_filter.specs.Views.{closes};
 ghost use Rattle.ff_trim.specs.Cuts.{is_uncut as uncut, is_empty, kept};
-ghost use Rattle.ff_node_codec.specs.Steps.{puts_of, damage_of, ClosesOnce, IsLeft, IsCutTo, GivesBack, HasSpare};
+ghost use Rattle.ff_node_codec.specs.laws.Steps.{puts_of, damage_of, ClosesOnce, IsLeft, IsCutTo, GivesBack, HasSpare};
 
 use crate::step::Step;
 use ff_filter::{After, Given, Step as _};

@@ -4,8 +4,8 @@ ghost use Rattle.ff_frame.specs.declared.packet.Pkt.{Pkt};
 ghost use Rattle.ff_stream.specs.declared.item.Item.{Item};
 ghost use Rattle.ff_stream.specs.declared.item.Item.TheVariants.{Packet};
 ghost use Rattle.ff_node_codec.specs.Decoding.{decoded_item};
-ghost use Rattle.ff_node_codec.specs.Steps.{FollowsFrom, GivesBack};
-ghost use Rattle.ff_node_codec.specs.Taken.{IsTakenPacket};
+ghost use Rattle.ff_node_codec.specs.laws.Steps.{FollowsFrom, GivesBack};
+ghost use Rattle.ff_node_codec.specs.laws.Taken.{IsTakenPacket};
 
 use crate::codecs::{AnyDecoder, Decoder};
 use crate::cut::{cut_step, is_uncut, starts_over};
@@ -36,7 +36,7 @@ impl<D: Decoder + Drop> Dec<D> {
     ghost use Rattle.ff_stream.specs.declared.item.Lane.TheVariants.{Frames, Packets};
     ghost use Rattle.ff_net.specs.Pasts.{start};
     ghost use Rattle.ff_node_codec.specs.Decoding.{dec_task};
-    ghost use Rattle.ff_node_codec.specs.Coders.{dec_in_lanes, dec_out_lanes, dec_fault, dec_stands};
+    ghost use Rattle.ff_node_codec.specs.laws.Coders.{dec_in_lanes, dec_out_lanes, dec_fault, dec_stands};
 
     /// A decoder of this head's packets to which nothing was fed, with a cut of its frames, the same on each of so many outputs.
     pub fn new(
@@ -161,7 +161,7 @@ fn step<D: Decoder>(
 }
 
 impl<D: Decoder + Drop> Machine for Dec<D> {
-    ghost use Rattle.ff_node_codec.specs.Kinds.{dec_view, dec_laws};
+    ghost use Rattle.ff_node_codec.specs.laws.Kinds.{dec_view, dec_laws};
 
     ghost view = { dec_view D.head D.made };
 

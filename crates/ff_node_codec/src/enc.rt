@@ -3,8 +3,8 @@ ghost use Rattle.std.specs.Prelude.{◌≡◌, ◌↔◌, [], ◌∷◌, true, N
 ghost use Rattle.ff_stream.specs.declared.item.Item.{Item};
 ghost use Rattle.ff_stream.specs.Items.{Closes};
 ghost use Rattle.ff_node_codec.specs.Encoding.{encoded_item};
-ghost use Rattle.ff_node_codec.specs.Steps.{FollowsFrom, GivesBack};
-ghost use Rattle.ff_node_codec.specs.Taken.{IsTakenFrame};
+ghost use Rattle.ff_node_codec.specs.laws.Steps.{FollowsFrom, GivesBack};
+ghost use Rattle.ff_node_codec.specs.laws.Taken.{IsTakenFrame};
 
 use crate::codecs::Encoder;
 use crate::spread::Spread;
@@ -28,7 +28,7 @@ impl<E: Encoder + Drop> Enc<E> {
     ghost use Rattle.ff_stream.specs.declared.item.Lane.TheVariants.{Frames, Packets};
     ghost use Rattle.ff_net.specs.Pasts.{start};
     ghost use Rattle.ff_node_codec.specs.Encoding.{enc_task};
-    ghost use Rattle.ff_node_codec.specs.Coders.{enc_in_lanes, enc_out_lanes, enc_fault, enc_stands};
+    ghost use Rattle.ff_node_codec.specs.laws.Coders.{enc_in_lanes, enc_out_lanes, enc_fault, enc_stands};
 
     /// An encoder of this head's frames, to which nothing was fed.
     pub fn new(alloc: Global, encoder: E, head: StreamHead) -> Result<Enc<E>, AllocError>
@@ -104,7 +104,7 @@ fn step<E: Encoder>(alloc: Global, encoder: &E, item: Item, shared: bool) -> Res
 }
 
 impl<E: Encoder + Drop> Machine for Enc<E> {
-    ghost use Rattle.ff_node_codec.specs.Kinds.{enc_view, enc_laws};
+    ghost use Rattle.ff_node_codec.specs.laws.Kinds.{enc_view, enc_laws};
 
     ghost view = { enc_view E.serves E.coded E.made };
 

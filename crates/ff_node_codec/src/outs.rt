@@ -1,8 +1,8 @@
 //! All outputs of a machine.
 ghost use Rattle.std.specs.Prelude.{◌≡◌, ◌<◌, ◌≤◌, ℕ, length, true, Some, None, OnOk, OnErr, IfErr, IfOk};
 ghost use Rattle.ff_stream.specs.declared.item.Item.{Item};
-ghost use Rattle.ff_node_codec.specs.Lines.{line_at, next_at, HaveRoom, AreSame};
-ghost use Rattle.ff_node_codec.specs.Puts.{IsLast, AreNext, ArePut};
+ghost use Rattle.ff_node_codec.specs.laws.Lines.{line_at, next_at, HaveRoom, AreSame};
+ghost use Rattle.ff_node_codec.specs.laws.Puts.{IsLast, AreNext, ArePut};
 ghost use Rattle.ff_node_codec.specs.Spreads.{AllStopped};
 
 use crate::ready::Ready;

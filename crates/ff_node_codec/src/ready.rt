@@ -2,7 +2,7 @@
 ghost use Rattle.std.specs.Prelude.{◌≡◌, ◌<◌, ◌∷◌, ◌++◌, false, Some, None, IfOk, OnOk};
 ghost use Rattle.std.specs.VecDeque.{deque_len, deque_capacity};
 ghost use Rattle.ff_stream.specs.declared.item.Item.{Item};
-ghost use Rattle.ff_node_codec.specs.Lines.{line_of, HasRoom, first_items, closing_items};
+ghost use Rattle.ff_node_codec.specs.laws.Lines.{line_of, HasRoom, first_items, closing_items};
 
 use ff_filter::After;
 use ff_stream::{Item, discard};

@@ -9,8 +9,8 @@ ghost use Rattle.ff_net.specs.Ways.{AreValid};
 ghost use Rattle.ff_net.specs.Pasts.{Task, Past, IsIn, fed, gave_item, was_asked, was_stopped, due, start};
 ghost use Rattle.ff_node_codec.specs.Making.{Making, fault_by};
 ghost use Rattle.ff_node_codec.specs.Spreads.{Makes, AllStopped};
-ghost use Rattle.ff_node_codec.specs.Steps.{GivesBack, HasSpare};
-ghost use Rattle.ff_node_codec.specs.Lines.{line_at, HaveRoom};
+ghost use Rattle.ff_node_codec.specs.laws.Steps.{GivesBack, HasSpare};
+ghost use Rattle.ff_node_codec.specs.laws.Lines.{line_at, HaveRoom};
 
 use crate::outs::{last_wanted, put_on_all, reserve_all};
 use crate::ready::Ready;
@@ -32,8 +32,8 @@ pub struct Spread {
 }
 
 impl Spread {
-    ghost use Rattle.ff_node_codec.specs.Standing.{SpreadStands, IsSameSpread, GoesOnSpread, IsSpreadTask, at_first};
-    ghost use Rattle.ff_node_codec.specs.Feeding.{IsFedPut, IsFollowed};
+    ghost use Rattle.ff_node_codec.specs.laws.Standing.{SpreadStands, IsSameSpread, GoesOnSpread, IsSpreadTask, at_first};
+    ghost use Rattle.ff_node_codec.specs.laws.Feeding.{IsFedPut, IsFollowed};
 
     /// Nothing was made yet, for so many outputs; all is over, where that is so before anything comes.
     pub fn new(alloc: Global, outputs: usize, over: bool) -> Result<Spread, AllocError>

@@ -3,7 +3,7 @@ ghost use Rattle.std.specs.Prelude.{◌≡◌, ℕ};
 ghost use Rattle.ff_stream.specs.declared.item.Item.{Item};
 ghost use Rattle.ff_stream.specs.Items.{Closes};
 ghost use Rattle.ff_node_codec.specs.Making.{Outcome};
-ghost use Rattle.ff_node_codec.specs.Steps.{FollowsFrom, GivesBack};
+ghost use Rattle.ff_node_codec.specs.laws.Steps.{FollowsFrom, GivesBack};
 
 use ff_filter::After;
 use ff_stream::Item;

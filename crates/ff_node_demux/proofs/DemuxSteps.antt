@@ -17,13 +17,14 @@ use Rattle.ff_stream.specs.Ports.{stream_at}
 use Rattle.ff_stream.specs.Within.{before_pass}
 use Rattle.ff_net.specs.declared.fault.Fault.{Fault}
 use Rattle.ff_net.specs.declared.fault.Fault.TheVariants.{Device, Damaged, TooLong}
-use Rattle.ff_net.specs.Laws.{IsOfInputs}
+use Rattle.ff_net.specs.laws.Laws.{IsOfInputs}
 use Rattle.ff_net.specs.Ways.{Flow}
 use Rattle.ff_net.specs.Pasts.{Past, start, due, gave_item, was_asked, was_allowed, was_stopped, was_told}
 use Rattle.ff_reader.specs.Cutters.{Cutter, IsRest, Feeds, KeepsCut, GivesPacket, GaveAll}
 use Rattle.ff_node_demux.specs.Demuxing.{mark_at, damage_at, items_of, break_of, demux_of, is_too_long, fault_in, demux_cause, demux_task, passes_in_demux, Demuxes, DemuxStands}
-use Rattle.ff_node_demux.specs.DemuxLaws.{demux_mark, demux_items, demux_closed}
-use Rattle.ff_node_demux.specs.Sources.{Sources, source_gives, source_ends, source_waits, source_over}
+use Rattle.ff_node_demux.specs.laws.DemuxLaws.{demux_mark, demux_items, demux_closed}
+use Rattle.ff_node_demux.specs.Sources.{Sources}
+use Rattle.ff_node_demux.specs.laws.SourceLaws.{source_gives, source_ends, source_waits, source_over}
 use Rattle.ff_node_demux.proofs.LimitSteps.{before_get, before_stop, before_all}
 
 pub drop-append : (k : ℕ) (xs ys : List ℕ) → drop k (xs ++ ys) ≡ drop k xs ++ drop (k - length xs) ys

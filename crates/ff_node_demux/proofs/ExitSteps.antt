@@ -6,12 +6,12 @@ use Rattle.ff_frame.specs.declared.event.Event.TheVariants.{Exited}
 use Rattle.ff_stream.specs.Stream.{still_open}
 use Rattle.ff_stream.specs.Ports.{stream_at}
 use Rattle.ff_net.specs.declared.fault.Fault.{Fault}
-use Rattle.ff_net.specs.Laws.{IsPending}
+use Rattle.ff_net.specs.laws.Laws.{IsPending}
 use Rattle.ff_net.specs.Ways.{Flow}
 use Rattle.ff_net.specs.Pasts.{Past, Feed, was_told, was_stopped}
 use Rattle.ff_reader.specs.Cutters.{Cutter}
 use Rattle.ff_node_demux.specs.Demuxing.{demux_of, DemuxStands}
-use Rattle.ff_node_demux.specs.DemuxLaws.{demux_closed}
+use Rattle.ff_node_demux.specs.laws.DemuxLaws.{demux_closed}
 use Rattle.ff_node_demux.specs.Exiting.{Exits, IsOver}
 
 -- it gives nothing more where it isn't without a fault and neither ended nor stopped

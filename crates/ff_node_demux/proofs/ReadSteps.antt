@@ -3,8 +3,8 @@ use Rattle.std.proofs.Common.{◌≡◌, ℕ, ◌+◌, ◌-◌, ◌≤◌, inl, 
 use Rattle.std.specs.Io.KnownBytes.{Consumes, Keeps}
 use Rattle.ff_frame.specs.declared.packet.Pkt.{Pkt}
 use Rattle.ff_reader.specs.Cutters.{Cutter, Feeds, KeepsCut, GivesPacket}
-use Rattle.ff_input.specs.Reading.{IsUndecided, LeavesOpen}
-use Rattle.ff_node_demux.specs.Reading.{IsFed, IsNear, HasRead, FeedsOn, Reads}
+use Rattle.ff_input.specs.laws.Reading.{IsUndecided, LeavesOpen}
+use Rattle.ff_node_demux.specs.laws.Reading.{IsFed, IsNear, HasRead, FeedsOn, Reads}
 use Rattle.ff_node_demux.proofs.DemuxSteps.{drop-append}
 
 consumes_none : (left : Option (List ℕ)) → Consumes left left []

@@ -9,7 +9,7 @@ use Rattle.ff_stream.specs.Within.{some_pass, within, passes_limits}
 use Rattle.ff_reader.specs.Cutters.{Cutter}
 use Rattle.ff_net.specs.declared.fault.Fault.{Fault}
 use Rattle.ff_net.specs.declared.fault.Fault.TheVariants.{Device, Damaged, TooLong}
-use Rattle.ff_net.specs.Laws.{IsOfInputs}
+use Rattle.ff_net.specs.laws.Laws.{IsOfInputs}
 use Rattle.ff_net.specs.Pasts.{Past, Task, IsIn}
 use Rattle.ff_net.specs.Ways.{Flow}
 use Rattle.ff_node_demux.specs.Exiting.{exits}

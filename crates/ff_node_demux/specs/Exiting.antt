@@ -2,7 +2,7 @@
 use Rattle.std.specs.Prelude.{◌≡◌, ◌↔◌, ◌⊎◌, ℕ, Bool, true, false, cond, List, [], ◌∷◌, Option, IsSome, refl}
 use Rattle.std.proofs.Common.{sym, subst, ap}
 use mathlib.Core.List.{IsPrefix}
-use Rattle.ff_stream.specs.Order.{prefix_self}
+use Rattle.ff_stream.specs.laws.Order.{prefix_self}
 use Rattle.ff_stream.specs.Ports.{stream_at, IsClosed}
 use Rattle.ff_frame.specs.declared.event.Event.{Event}
 use Rattle.ff_frame.specs.declared.event.Event.TheVariants.{Exited}

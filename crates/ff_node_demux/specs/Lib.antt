@@ -1,10 +1,5 @@
-pub mod DemuxClaims
-pub mod DemuxLaws
-pub mod DemuxShapes
-pub mod DemuxViews
-pub mod Demuxers
 pub mod Demuxing
 pub mod Exiting
-pub mod Reading
 pub mod Sources
 pub mod gens
+pub mod laws

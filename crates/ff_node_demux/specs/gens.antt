@@ -1,4 +1,1 @@
-pub mod GenLaws
-pub mod GenViews
 pub mod Generating
-pub mod Generators

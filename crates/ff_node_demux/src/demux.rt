@@ -67,7 +67,7 @@ impl<S: Source + Drop, C: Demuxable + Drop> Demux<S, C> {
     ghost use Rattle.ff_net.specs.Pasts.{Past, start};
     ghost use Rattle.ff_node_demux.specs.Demuxing.{demux_task};
     ghost use Rattle.ff_node_demux.specs.Exiting.{IsOver};
-    ghost use Rattle.ff_node_demux.specs.Demuxers.{demux_out_lanes, demux_source, demux_fault, demux_failures, demux_device, demux_reads, demux_stands, demux_has_read};
+    ghost use Rattle.ff_node_demux.specs.laws.Demuxers.{demux_out_lanes, demux_source, demux_fault, demux_failures, demux_device, demux_reads, demux_stands, demux_has_read};
 
     /// Over a source that gives the input from its first byte on, whose head this is. The source comes back where there
     /// was no memory.
@@ -156,11 +156,11 @@ impl<S: Source + Drop, C: Demuxable + Drop> Machine for Demux<S, C> {
     ghost use Rattle.ff_stream.specs.Items.{with_item};
     ghost use Rattle.ff_stream.specs.Ports.{stream_at};
     ghost use Rattle.ff_net.specs.declared.fault.Fault.TheVariants.{Device};
-    ghost use Rattle.ff_net.specs.Laws.{FaultStep, GoesOn, IsReading};
+    ghost use Rattle.ff_net.specs.laws.Laws.{FaultStep, GoesOn, IsReading};
     ghost use Rattle.ff_net.specs.Pasts.{Past, IsIn, gave_item, was_allowed, was_asked, was_stopped, was_told, due};
-    ghost use Rattle.ff_net.specs.Views.{IsSameShape};
-    ghost use Rattle.ff_node_demux.specs.Demuxers.{demux_source, demux_fault, demux_holds, demux_stands, demux_reads_nothing, demux_reads_on};
-    ghost use Rattle.ff_node_demux.specs.DemuxViews.{demux_view, demux_laws};
+    ghost use Rattle.ff_net.specs.laws.Views.{IsSameShape};
+    ghost use Rattle.ff_node_demux.specs.laws.Demuxers.{demux_source, demux_fault, demux_holds, demux_stands, demux_reads_nothing, demux_reads_on};
+    ghost use Rattle.ff_node_demux.specs.laws.DemuxViews.{demux_view, demux_laws};
 
     ghost view = { demux_view S.left S.name S.faults };
 

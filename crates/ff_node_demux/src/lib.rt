@@ -9,8 +9,8 @@
 //!
 //! It gives one packet for each ticket, and reads only where the cut wants more. `specs/Demuxing` says what it means:
 //! the packets of the whole input as one stream, up to the limits, and the fault of an input. `specs/Sources` has the
-//! laws of any machine that gives one such stream. `specs/DemuxShapes` says that what is in shape is valid up to the
-//! limits. `specs/DemuxViews` has the demuxer as the laws of machines see it. `specs/Reading` says which bytes of an
+//! laws of any machine that gives one such stream. `specs/laws/DemuxShapes` says that what is in shape is valid up to the
+//! limits. `specs/laws/DemuxViews` has the demuxer as the laws of machines see it. `specs/laws/Reading` says which bytes of an
 //! input are read. What a format owes is a law of `Demuxable` of ff_input.
 //!
 //! `gens` has the other source of a run, which reads no input: the machine of a source filter. `specs/gens/Generating`

@@ -6,7 +6,7 @@ ghost use Rattle.ff_net.specs.declared.fault.Fault.{Fault};
 ghost use Rattle.ff_net.specs.Pasts.{Past};
 ghost use Rattle.ff_reader.specs.Cutters.{Feeds, KeepsCut, SameElsewhere};
 ghost use Rattle.ff_node_demux.specs.Demuxing.{DemuxStands};
-ghost use Rattle.ff_node_demux.specs.Reading.{FeedsOn};
+ghost use Rattle.ff_node_demux.specs.laws.Reading.{FeedsOn};
 ghost use Rattle.ff_node_demux.specs.declared.reading.ReadEnd.TheVariants.{Failed, NoMemory};
 
 use ff_host::Source;

@@ -5,7 +5,7 @@ ghost use Rattle.ff_stream.specs.declared.item.Lane.TheVariants.{Packets};
 ghost use Rattle.ff_frame.specs.declared.packet.Pkt.{Pkt};
 ghost use Rattle.ff_reader.specs.Cutters.{GivesPacket, GaveAll};
 ghost use Rattle.ff_node_demux.specs.Demuxing.{passes_in_demux};
-ghost use Rattle.ff_input.specs.Reading.{LeavesOpen};
+ghost use Rattle.ff_input.specs.laws.Reading.{LeavesOpen};
 
 use crate::limits::is_long;
 use ff_frame::{Cut, Pkt, StreamHead};

@@ -9,21 +9,21 @@ use Rattle.ff_stream.specs.declared.item.Lane.{Lane}
 use Rattle.ff_stream.specs.declared.item.Lane.TheVariants.{Frames}
 use Rattle.ff_stream.specs.Stream.{LiesBelow, opened, map_stream}
 use Rattle.ff_stream.specs.Ports.{nothing, stream_at}
-use Rattle.ff_stream.specs.Order.{below_self}
-use Rattle.ff_stream.specs.BreakLaws.{map_stream_monotone}
+use Rattle.ff_stream.specs.laws.Order.{below_self}
+use Rattle.ff_stream.specs.laws.BreakLaws.{map_stream_monotone}
 use Rattle.ff_stream.specs.Lanes.{IsValid}
-use Rattle.ff_stream.specs.LaneLaws.{nothing_valid}
+use Rattle.ff_stream.specs.laws.LaneLaws.{nothing_valid}
 use Rattle.ff_stream.specs.Within.{some_pass, passes_limits, within}
 use Rattle.ff_net.specs.Ways.{lane_at, IsValidOn, AreValid}
 use Rattle.ff_filter.specs.declared.after.After.TheVariants.{More, Whole}
 use Rattle.ff_filter.specs.Joins.{Flow, Ports, one}
-use Rattle.ff_filter.specs.Limits.{limited, limited_is}
+use Rattle.ff_filter.specs.laws.Limits.{limited, limited_is}
 use Rattle.ff_filter.specs.Singles.{single_view}
-use Rattle.ff_filter.specs.Sound.{IsSound}
+use Rattle.ff_filter.specs.laws.Sound.{IsSound}
 use Rattle.ff_filter.specs.spread.Spreads.{spread_start}
-use Rattle.ff_filter.specs.spread.Valid.{GivesValid}
+use Rattle.ff_filter.specs.laws.spread.Valid.{GivesValid}
 use Rattle.ff_node_filter.specs.Tasks.{ported}
-use Rattle.ff_node_filter.specs.StandLaws.{stream_at-listed, stream_at-beyond}
+use Rattle.ff_node_filter.specs.laws.StandLaws.{stream_at-listed, stream_at-beyond}
 use Rattle.ff_node_filter.specs.Limiting.{IsLimited, step_limited}
 
 pub single_limited : (lane_in : Lane) (head : StreamHead) (f : Flow → Flow)

@@ -5,16 +5,16 @@ use Rattle.ff_stream.specs.declared.item.Item.{Item}
 use Rattle.ff_stream.specs.declared.item.Lane.{Lane}
 use Rattle.ff_stream.specs.Stream.{Mark, still_open, whole, broken, LiesBelow, opened}
 use Rattle.ff_stream.specs.Ports.{stream_at, AllBelow, AllUnbroken, IsUnbroken}
-use Rattle.ff_stream.specs.Order.{below_items, closed_below}
+use Rattle.ff_stream.specs.laws.Order.{below_items, closed_below}
 use Rattle.ff_stream.specs.Lanes.{AreInShape, IsValid}
 use Rattle.ff_stream.specs.Within.{some_pass, passes_limits}
-use Rattle.ff_stream.specs.WithinLaws.{within_valid}
+use Rattle.ff_stream.specs.laws.WithinLaws.{within_valid}
 use Rattle.ff_net.specs.declared.fault.Fault.{Fault}
 use Rattle.ff_net.specs.declared.fault.Fault.TheVariants.{TooLong}
 use Rattle.ff_net.specs.Ways.{AreValid}
 use Rattle.ff_filter.specs.Joins.{Flow, Ports, EachBelow, Grows, HidesBreaks}
-use Rattle.ff_filter.specs.Limits.{limited, limited_is}
-use Rattle.ff_filter.specs.LimitLaws.{limited-below, limited-calm}
+use Rattle.ff_filter.specs.laws.Limits.{limited, limited_is}
+use Rattle.ff_filter.specs.laws.LimitLaws.{limited-below, limited-calm}
 use Rattle.ff_node_filter.specs.Tasks.{ported, IsLawful}
 
 abbrev pub is_broken : Mark → Bool

@@ -7,7 +7,7 @@ use Rattle.ff_net.specs.declared.fault.Fault.{Fault}
 use Rattle.ff_net.specs.declared.fault.Fault.TheVariants.{TooLong}
 use Rattle.ff_net.specs.Ways.{AreValid}
 use Rattle.ff_net.specs.Pasts.{Task, Past, IsIn, no_events}
-use Rattle.ff_net.specs.Laws.{CauseStays, IsSilent}
+use Rattle.ff_net.specs.laws.Laws.{CauseStays, IsSilent}
 use Rattle.ff_filter.specs.Joins.{Flow, Ports, silence, joined, all_joined, Grows, HidesBreaks}
 use Rattle.ff_filter.specs.Views.{View}
 

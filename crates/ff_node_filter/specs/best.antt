@@ -1,9 +1,2 @@
 pub mod Bests
-pub mod Ends
-pub mod Examples
 pub mod Inputs
-pub mod Laws
-pub mod LeadLaws
-pub mod Leaders
-pub mod Leads
-pub mod Views

@@ -5,8 +5,8 @@ ghost use Rattle.ff_net.specs.declared.fault.Fault.{Fault};
 ghost use Rattle.ff_net.specs.Pasts.{start};
 ghost use Rattle.ff_filter.specs.Views.{IsNew, breaks};
 ghost use Rattle.ff_node_filter.specs.Tasks.{IsLawful, Stands, filter_task};
-ghost use Rattle.ff_node_filter.specs.Alones.{alone_view};
-ghost use Rattle.ff_node_filter.specs.AloneLaws.{alone_laws};
+ghost use Rattle.ff_node_filter.specs.laws.Alones.{alone_view};
+ghost use Rattle.ff_node_filter.specs.laws.AloneLaws.{alone_laws};
 ghost use Rattle.ff_node_filter.specs.Limiting.{IsLimited, limit_cause};
 
 use ff_filter::Filter;

@@ -10,9 +10,9 @@ ghost use Rattle.ff_stream.specs.Within.{some_pass, passes_limits};
 ghost use Rattle.ff_filter.specs.declared.after.After.TheVariants.{More, Whole};
 ghost use Rattle.ff_filter.specs.Joins.{Flow};
 ghost use Rattle.ff_filter.specs.Singles.{single_view};
-ghost use Rattle.ff_filter.specs.Sound.{IsSound};
+ghost use Rattle.ff_filter.specs.laws.Sound.{IsSound};
 ghost use Rattle.ff_filter.specs.spread.Spreads.{spread_start};
-ghost use Rattle.ff_filter.specs.spread.Valid.{GivesValid};
+ghost use Rattle.ff_filter.specs.laws.spread.Valid.{GivesValid};
 ghost use Rattle.ff_node_filter.specs.Limiting.{IsLimited};
 
 /// A filter of one input and one output whose function is monotone and calm is a function within limits. Of valid

@@ -5,7 +5,7 @@ use Rattle.std.proofs.Math.Seq.{get_or-append_seam}
 use Rattle.std.proofs.lemmas.Bool.{cases_lt}
 use Rattle.std.proofs.lemmas.List.{get_or_append_left}
 use Rattle.ff_frame.specs.declared.audio.AFrame.{AFrame}
-use Rattle.ff_flac_enc.specs.Blocks.{IsCoded}
+use Rattle.ff_flac_enc.specs.laws.Blocks.{IsCoded}
 
 -- a place that is there has its block, whatever stands in for one that isn't
 pub at_any : (blocks : List AFrame) (k : ℕ) (d e : AFrame) → k < length blocks → slice_index_or blocks k d ≡ slice_index_or blocks k e

@@ -7,10 +7,10 @@ use Rattle.ff_bits.specs.Bits.{value_of, bits_of, bits}
 use Rattle.ff_bits.proofs.BitsLemmas.{length-bits_of, length-bits}
 use Rattle.ff_bits.proofs.Words.{value_of-bits_of}
 use Rattle.ff_frame.specs.declared.audio.AFrame.{AFrame}
-use Rattle.ff_flac_enc.specs.Blocks.{IsCoded, AreCoded}
+use Rattle.ff_flac_enc.specs.laws.Blocks.{IsCoded, AreCoded}
 use Rattle.ff_flac_enc.specs.Totals.{Added, added}
 use Rattle.ff_node_flac.specs.Packets.{octets, whole_bytes, spelled_bytes, block_bytes, added_from}
-use Rattle.ff_node_flac.specs.Gathering.{AreCodes}
+use Rattle.ff_node_flac.specs.laws.Gathering.{AreCodes}
 
 bytes_back : (bytes : List ℕ) → ((i : ℕ) → get_or bytes i 0 < 256) → octets (length bytes) (bits bytes) ≡ bytes
 unfolding octets bits

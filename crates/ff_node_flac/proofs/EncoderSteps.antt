@@ -12,11 +12,11 @@ use Rattle.ff_stream.specs.declared.item.Item.TheVariants.{Audio, Video, Packet,
 use Rattle.ff_stream.specs.declared.item.Lane.TheVariants.{Frames}
 use Rattle.ff_stream.specs.Items.{with_item}
 use Rattle.ff_stream.specs.Lanes.{FitsFrames, IsItemFor, IsValid}
-use Rattle.ff_stream.specs.Order.{same_stream, below_trans, with_item_above, prefix_self}
+use Rattle.ff_stream.specs.laws.Order.{same_stream, below_trans, with_item_above, prefix_self}
 use Rattle.ff_stream.specs.Ports.{stream_at, IsClosed, IsUnbroken}
 use Rattle.ff_stream.specs.Stream.{Mark, still_open, whole, broken, LiesBelow, is_whole}
 use Rattle.ff_stream.specs.Within.{some_pass, before_pass}
-use Rattle.ff_stream.specs.WithinLaws.{within_same}
+use Rattle.ff_stream.specs.laws.WithinLaws.{within_same}
 use Rattle.ff_flac_enc.specs.declared.format.Format.{Format}
 use Rattle.ff_flac_enc.specs.Gathered.{EndInTime, blocks_due}
 use Rattle.ff_flac_enc.specs.Totals.{totals_of}
@@ -28,11 +28,11 @@ use Rattle.ff_node_flac.specs.declared.shut.Shut.{Shut}
 use Rattle.ff_node_flac.specs.declared.shut.Shut.TheVariants as shut
 use Rattle.ff_node_flac.specs.Packets.{coded_bits, at_coded, packet_of, packets_from, trailer_of, items_of, added_from}
 use Rattle.ff_node_flac.specs.Coding.{CanCode, sounds, blocks_in, all_coded, passes_in_flac, flac_coded, is_long}
-use Rattle.ff_node_flac.specs.CodingLaws.{sounds_more, packets_more, items_above, coded_above, long_stays, coded_in_time}
-use Rattle.ff_node_flac.specs.Encoders.{mark_of, IsFormatOf, StandsAt, Encodes}
-use Rattle.ff_node_flac.specs.EncoderLaws.{due_is}
-use Rattle.ff_node_flac.specs.Kept.{IsTaken}
-use Rattle.ff_node_flac.specs.Queues.{format_of_queue, queue_ended, Queues, HasGivenAll, GivesNext, IsTooLong}
+use Rattle.ff_node_flac.specs.laws.CodingLaws.{sounds_more, packets_more, items_above, coded_above, long_stays, coded_in_time}
+use Rattle.ff_node_flac.specs.laws.Encoders.{mark_of, IsFormatOf, StandsAt, Encodes}
+use Rattle.ff_node_flac.specs.laws.EncoderLaws.{due_is}
+use Rattle.ff_node_flac.specs.laws.Kept.{IsTaken}
+use Rattle.ff_node_flac.specs.laws.Queues.{format_of_queue, queue_ended, Queues, HasGivenAll, GivesNext, IsTooLong}
 use Rattle.ff_node_flac.proofs.Gathers.{prefix_first}
 
 -- ---- limits

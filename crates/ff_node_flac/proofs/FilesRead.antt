@@ -22,13 +22,13 @@ use Rattle.ff_stream.specs.declared.item.Item.TheVariants.{Audio, Video, Packet,
 use Rattle.ff_stream.specs.declared.item.Lane.TheVariants.{Frames}
 use Rattle.ff_stream.specs.Lanes.{IsItemFor}
 use Rattle.ff_stream.specs.Within.{some_pass}
-use Rattle.ff_stream.specs.WithinLaws.{within_same}
+use Rattle.ff_stream.specs.laws.WithinLaws.{within_same}
 use Rattle.ff_stream.specs.Stream.{is_whole}
 use Rattle.ff_pcm.proofs.DepthLaws.{shifted_audio}
 use Rattle.ff_flac_subframe.specs.Subframe.{Spelling, candidates as spellings}
 use Rattle.ff_flac_subframe.specs.rice.Least.{least}
 use Rattle.ff_flac_subframe.proofs.RiceLemmas.LeastLemmas.{least-nil, least_exists}
-use Rattle.ff_flac_subframe.specs.Plan.{size}
+use Rattle.ff_flac_subframe.specs.laws.Plan.{size}
 use Rattle.ff_flac_enc.specs.Frame.{IsLeast, candidates, head_of, spelled, subframe_bits_of}
 use Rattle.ff_flac_enc.specs.Head.{closed, opened}
 use Rattle.ff_flac_enc.specs.Channels.{channels_in}
@@ -37,11 +37,11 @@ use Rattle.ff_flac_enc.specs.Layout.{Layout, Signal, body, forms, layouts, layou
 use Rattle.ff_flac_enc.specs.Totals.{totals_of}
 use Rattle.ff_flac_enc.proofs.Apart.{best_is}
 use Rattle.ff_mux.specs.FlacHead.{CanHold}
-use Rattle.ff_mux.specs.writers.FlacWritten.{AreFramesOf, HoldBlocks}
+use Rattle.ff_mux.specs.laws.writers.FlacWritten.{AreFramesOf, HoldBlocks}
 use Rattle.ff_mux.proofs.FlacFiles.{files}
 use Rattle.ff_node_flac.specs.Packets.{added_from, at_coded, block_bytes, coded_bits, octets, packet_of, packets_from, spelled_bytes, trailer_of, whole_bytes}
 use Rattle.ff_node_flac.specs.Coding.{all_coded, blocks_in, coded_head, passes_in_flac, sounds}
-use Rattle.ff_node_flac.specs.FilesRead.{numbered, StreamsAreRead}
+use Rattle.ff_node_flac.specs.laws.FilesRead.{numbered, StreamsAreRead}
 
 -- ---- each block has a frame
 

@@ -15,19 +15,19 @@ use Rattle.ff_pcm.specs.Depth.{at_depth}
 use Rattle.ff_pcm.proofs.DepthLaws.{all_same}
 use Rattle.ff_flac_enc.specs.Frame.{IsBlock}
 use Rattle.ff_stream.specs.declared.item.Item.TheVariants.{Packet}
-use Rattle.ff_stream.specs.Order.{prefix_trans}
+use Rattle.ff_stream.specs.laws.Order.{prefix_trans}
 use Rattle.ff_flac_enc.specs.declared.blocks.Blocks.{Blocks}
 use Rattle.ff_flac_enc.specs.declared.counter.Counter.{Counter}
 use Rattle.ff_flac_enc.specs.declared.format.Format.{Format}
-use Rattle.ff_flac_enc.specs.Blocks.{IsCoded}
-use Rattle.ff_flac_enc.specs.Cuts.{Cuts, has_ended, format_in}
+use Rattle.ff_flac_enc.specs.laws.Blocks.{IsCoded}
+use Rattle.ff_flac_enc.specs.laws.Cuts.{Cuts, has_ended, format_in}
 use Rattle.ff_flac_enc.specs.Gathered.{Holds, IsKept, blocks_due, format_of, full_size}
 use Rattle.ff_flac_enc.specs.Totals.{Added, added, Counts}
 use Rattle.ff_flac_enc.proofs.GatherLaws.{stays}
 use Rattle.ff_node_flac.specs.Packets.{coded_bits, at_coded, added_from, block_bytes, packet_of}
 use Rattle.ff_node_flac.specs.Coding.{passes_in_flac}
-use Rattle.ff_node_flac.specs.Gathering.{AreCodes, Gathers}
-use Rattle.ff_node_flac.specs.Kept.{IsCut, IsFormat}
+use Rattle.ff_node_flac.specs.laws.Gathering.{AreCodes, Gathers}
+use Rattle.ff_node_flac.specs.laws.Kept.{IsCut, IsFormat}
 use Rattle.ff_node_flac.proofs.Codes.{coded_is, codes_more, added_more}
 
 -- ---- the first of what is due

@@ -1,11 +1,3 @@
 pub mod Packets
 pub mod Coding
-pub mod FilesRead
-pub mod Kept
-pub mod Gathering
-pub mod Queues
-pub mod CodingLaws
-pub mod Encoders
-pub mod EncoderLaws
-pub mod Machines
-pub mod Steps
+pub mod laws

@@ -1,7 +1,7 @@
 //! The trait of what codes the blocks that wait.
 ghost use Rattle.std.specs.Prelude.{◌+◌, ◌<◌, ◌≤◌, ◌^◌, length, IfOk, All};
 ghost use Rattle.ff_flac_enc.specs.Frame.{IsBlock};
-ghost use Rattle.ff_flac_enc.specs.Blocks.{AreCoded};
+ghost use Rattle.ff_flac_enc.specs.laws.Blocks.{AreCoded};
 
 use ff_frame::{AFrame, Bytes};
 use std::alloc::{AllocError, Global};

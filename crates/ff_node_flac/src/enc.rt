@@ -6,7 +6,7 @@ ghost use Rattle.ff_stream.specs.declared.item.Item.TheVariants.{Audio};
 ghost use Rattle.ff_stream.specs.Items.{Closes};
 ghost use Rattle.ff_flac_enc.specs.declared.format.Format.{Format};
 ghost use Rattle.ff_node_flac.specs.Coding.{CanCode};
-ghost use Rattle.ff_node_flac.specs.Encoders.{IsFormatOf, goes_on};
+ghost use Rattle.ff_node_flac.specs.laws.Encoders.{IsFormatOf, goes_on};
 
 use crate::coder::Coder;
 use crate::queue::{Given, Queue, coded};
@@ -61,7 +61,7 @@ fn format_of(head: &StreamHead) -> Format
 impl<C: Coder + Drop> FlacEnc<C> {
     ghost use Rattle.ff_net.specs.Pasts.{start};
     ghost use Rattle.ff_node_flac.specs.Coding.{flac_task};
-    ghost use Rattle.ff_node_flac.specs.Machines.{enc_view, KeepsHead};
+    ghost use Rattle.ff_node_flac.specs.laws.Machines.{enc_view, KeepsHead};
 
     /// An encoder of this head's frames, to which nothing was fed.
     pub fn new(alloc: Global, coder: C, head: StreamHead) -> FlacEnc<C>
@@ -84,7 +84,7 @@ impl<C: Coder + Drop> FlacEnc<C> {
 }
 
 impl<C> FlacEnc<C> {
-    ghost use Rattle.ff_node_flac.specs.Steps.{IsFed, IsKeptOn};
+    ghost use Rattle.ff_node_flac.specs.laws.Steps.{IsFed, IsKeptOn};
 
     // Takes a frame, where one is wanted.
     fn take(&mut self, frame: AFrame) -> Result<(), Refused>
@@ -108,7 +108,7 @@ impl<C> FlacEnc<C> {
 }
 
 impl<C: Coder + Drop> Machine for FlacEnc<C> {
-    ghost use Rattle.ff_node_flac.specs.Machines.{enc_view, enc_laws};
+    ghost use Rattle.ff_node_flac.specs.laws.Machines.{enc_view, enc_laws};
 
     ghost view = { enc_view };
 

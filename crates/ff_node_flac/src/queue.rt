@@ -5,11 +5,11 @@ ghost use Rattle.ff_frame.specs.declared.packet.Pkt.{Pkt};
 ghost use Rattle.ff_frame.specs.Audio.{IsAudio};
 ghost use Rattle.ff_frame.specs.Packet.{packet_at};
 ghost use Rattle.ff_stream.specs.declared.item.Item.{Item};
-ghost use Rattle.ff_flac_enc.specs.Cuts.{format_in};
+ghost use Rattle.ff_flac_enc.specs.laws.Cuts.{format_in};
 ghost use Rattle.ff_flac_enc.specs.Gathered.{EndInTime};
 ghost use Rattle.ff_flac_enc.specs.Totals.{counted, sample_frames};
 ghost use Rattle.ff_node_flac.specs.Packets.{at_coded, coded_bits};
-ghost use Rattle.ff_node_flac.specs.Kept.{IsCut, AllCut-prop, IsFormat, IsFormat-prop, IsTaken};
+ghost use Rattle.ff_node_flac.specs.laws.Kept.{IsCut, AllCut-prop, IsFormat, IsFormat-prop, IsTaken};
 
 use crate::coder::Coder;
 use ff_bits::know_bytes;
@@ -116,7 +116,7 @@ fn sample_frames_of(block: &AFrame) -> i64
 }
 
 impl Queue {
-    ghost use Rattle.ff_node_flac.specs.Queues.{format_of_queue, queue_ended, Queues, StillQueues, AllCut, AllCutSince, HasGivenAll, GivesNext, IsTooLong};
+    ghost use Rattle.ff_node_flac.specs.laws.Queues.{format_of_queue, queue_ended, Queues, StillQueues, AllCut, AllCutSince, HasGivenAll, GivesNext, IsTooLong};
     ghost use Rattle.ff_flac_enc.specs.Totals.{totals_of};
     ghost use Rattle.ff_node_flac.specs.Packets.{added_from};
 

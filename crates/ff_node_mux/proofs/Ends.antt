@@ -6,8 +6,8 @@ use Rattle.std.proofs.lemmas.Bool.Decides.{nat_tests}
 use Rattle.ff_lists.specs.Appends.{AppendsPrefix}
 use Rattle.ff_frame.specs.declared.totals.Totals.{Totals}
 use Rattle.ff_format.specs.Layouts.{Layout, body}
-use Rattle.ff_format.specs.Patches.{StandsIn, IsInside}
-use Rattle.ff_node_mux.specs.Writing.{text_before}
+use Rattle.ff_format.specs.laws.Patches.{StandsIn, IsInside}
+use Rattle.ff_node_mux.specs.laws.Writing.{text_before}
 use Rattle.ff_node_mux.specs.merge.Merges.{Placed}
 
 -- they gained all, and stay so

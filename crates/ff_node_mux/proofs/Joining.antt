@@ -13,7 +13,7 @@ use Rattle.ff_node_mux.specs.merge.Merges.{Placed, packets_in, decided, merge_to
 use Rattle.ff_node_mux.specs.merge.Queues.{base_at}
 use Rattle.ff_net.specs.Ways.{Flow, with_item_at}
 use Rattle.ff_net.proofs.Flows.{stream_at-with_item_same, stream_at-with_item_other}
-use Rattle.ff_node_mux.specs.Mixing.{mixed_alike}
+use Rattle.ff_node_mux.specs.laws.Mixing.{mixed_alike}
 use Rattle.ff_node_mux.specs.Muxing.{packets_at, are_whole, count_open, one_if_not, left_with, mixed, and_then, NothingCame}
 
 -- an item more on an open stream

@@ -9,9 +9,9 @@ use Rattle.ff_frame.specs.declared.event.Event.{Event}
 use Rattle.ff_frame.specs.declared.totals.Totals.{Totals}
 use Rattle.ff_stream.specs.declared.item.Item.{Item}
 use Rattle.ff_stream.specs.Stream.{still_open, whole, Stream, LiesBelow}
-use Rattle.ff_stream.specs.Order.{with_item_above, below_self, below_trans}
+use Rattle.ff_stream.specs.laws.Order.{with_item_above, below_self, below_trans}
 use Rattle.ff_stream.specs.declared.item.Lane.TheVariants.{Packets}
-use Rattle.ff_stream.specs.LaneLaws.{nothing_valid}
+use Rattle.ff_stream.specs.laws.LaneLaws.{nothing_valid}
 use Rattle.ff_stream.specs.Ports.{nothing, stream_at, AllBelow, IsClosed}
 use Rattle.ff_filter.specs.Views.{closes}
 use Rattle.ff_filter.specs.Joins.{Ports, silence, before_at, joined}
@@ -21,14 +21,14 @@ use Rattle.ff_net.specs.declared.fault.Fault.{Fault}
 use Rattle.ff_net.specs.declared.fault.Fault.TheVariants.{TooLarge}
 use Rattle.ff_net.specs.Ways.{Flow, lane_at, IsValidOn, AreValid, with_item_at}
 use Rattle.ff_net.specs.Pasts.{Past, Feed, fed, start, was_told}
-use Rattle.ff_net.specs.Laws.{IsOfInputs}
+use Rattle.ff_net.specs.laws.Laws.{IsOfInputs}
 use Rattle.ff_net.proofs.Flows.{stream_at-with_item_same, stream_at-with_item_other}
 use Rattle.ff_format.specs.Layouts.{Layout, body, written, text_of, fits, with_last}
-use Rattle.ff_node_mux.specs.Feeding.{feed_of, is_feed_of, feeds_of, feeds_at}
-use Rattle.ff_node_mux.specs.Growing.{causes_grow, held_open, open_text, written_more}
-use Rattle.ff_node_mux.specs.Mixing.{bases_long, lanes_long, mixed_grows, whole_to}
+use Rattle.ff_node_mux.specs.laws.Feeding.{feed_of, is_feed_of, feeds_of, feeds_at}
+use Rattle.ff_node_mux.specs.laws.Growing.{causes_grow, held_open, open_text, written_more}
+use Rattle.ff_node_mux.specs.laws.Mixing.{bases_long, lanes_long, mixed_grows, whole_to}
 use Rattle.ff_node_mux.specs.Muxing.{head_bases, head_lanes, are_whole, count_open, whole_if, mixed, totals_of, totals_in, totals_on, left_with, text_for, file_for, size_for, cause_for, mux_task, unpatched, file, and_then, HoldsOf, HoldsSmall, MuxStands}
-use Rattle.ff_node_mux.specs.Writing.{text_before, WroteOn, StuckOn}
+use Rattle.ff_node_mux.specs.laws.Writing.{text_before, WroteOn, StuckOn}
 use Rattle.ff_node_mux.proofs.Joining.{all_or_open, count_fed, mixed_nothing, open_none, then_on, then_silence}
 use Rattle.ff_node_mux.proofs.StreamTells.{feeds_more}
 use Rattle.ff_node_mux.proofs.Texts.{prefixed, ended, totals_more, something, closes_iff, closed_then, small_cause, large_cause, fits_none}

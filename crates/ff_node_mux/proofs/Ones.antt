@@ -5,24 +5,24 @@ use Rattle.ff_time.specs.Fraction.{Fraction}
 use Rattle.ff_stream.specs.declared.item.Item.{Item}
 use Rattle.ff_stream.specs.declared.item.Item.TheVariants.{Audio, Video, Packet, Trailer, End, Broken}
 use Rattle.ff_stream.specs.Stream.{still_open, Stream, LiesBelow, is_whole}
-use Rattle.ff_stream.specs.Order.{same_stream, below_self}
+use Rattle.ff_stream.specs.laws.Order.{same_stream, below_self}
 use Rattle.ff_stream.specs.Ports.{stream_at}
 use Rattle.ff_host.specs.declared.sink.Sink.{Ghosts as SinkGhosts}
 use Rattle.ff_node_mux.specs.merge.Merges.{Placed, packets_of, placed}
 use Rattle.ff_node_mux.specs.merge.Queues.{base_at}
-use Rattle.ff_node_mux.specs.merge.Alike.{interleaved_one}
+use Rattle.ff_node_mux.specs.laws.merge.Alike.{interleaved_one}
 use Rattle.ff_net.specs.Pasts.{Past}
 use Rattle.ff_net.specs.Ways.{Flow}
 use Rattle.ff_format.specs.Layouts.{Layout}
 use Rattle.ff_format.specs.declared.writer.Writer.{Ghosts as WriterGhosts}
 use Rattle.ff_node_mux.specs.declared.mux.Mux.{Mux}
-use Rattle.ff_node_mux.specs.Growing.{held_open}
-use Rattle.ff_node_mux.specs.Held.{HoldsPart, part_of, part_by}
-use Rattle.ff_node_mux.specs.Mixing.{mixed_alike}
-use Rattle.ff_node_mux.specs.Muxers.{mux_sink, mux_layout, mux_bases, mux_writes}
+use Rattle.ff_node_mux.specs.laws.Growing.{held_open}
+use Rattle.ff_node_mux.specs.laws.Held.{HoldsPart, part_of, part_by}
+use Rattle.ff_node_mux.specs.laws.Mixing.{mixed_alike}
+use Rattle.ff_node_mux.specs.laws.Muxers.{mux_sink, mux_layout, mux_bases, mux_writes}
 use Rattle.ff_node_mux.specs.Muxing.{packets_at, whole_if, mixed, totals_in, totals_of, text_for, file_for, cause_for, mux_cause, mux_task, mux_task_of, unpatched, file, HoldsOf, HoldsSmall, MixedOne}
-use Rattle.ff_node_mux.specs.MuxLaws.{its_count}
-use Rattle.ff_node_mux.specs.TaskLaws.{same_text, same_file, same_cause}
+use Rattle.ff_node_mux.specs.laws.MuxLaws.{its_count}
+use Rattle.ff_node_mux.specs.laws.TaskLaws.{same_text, same_file, same_cause}
 use Rattle.ff_node_mux.specs.Telling.{mux_tells}
 
 pub mixed_one : MixedOne

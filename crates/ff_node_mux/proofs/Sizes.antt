@@ -20,9 +20,9 @@ use Rattle.ff_stream.specs.declared.item.Item.TheVariants.{Audio, Video, Packet,
 use Rattle.ff_stream.specs.declared.item.Lane.{Lane}
 use Rattle.ff_stream.specs.declared.item.Lane.TheVariants.{Packets}
 use Rattle.ff_time.specs.Fraction.{Fraction}
-use Rattle.ff_node_mux.specs.Growing.{fits_less}
+use Rattle.ff_node_mux.specs.laws.Growing.{fits_less}
 use Rattle.ff_node_mux.specs.Muxing.{mixed, size_for}
-use Rattle.ff_node_mux.specs.Sizes.{PcmFits, PcmIsShort, WritesBodies}
+use Rattle.ff_node_mux.specs.laws.Sizes.{PcmFits, PcmIsShort, WritesBodies}
 use Rattle.ff_node_mux.specs.merge.Merges.{Placed, packets_of, placed}
 use Rattle.ff_node_mux.proofs.Ones.{mixed_one}
 use Rattle.ff_node_mux.proofs.Texts.{small_cause}

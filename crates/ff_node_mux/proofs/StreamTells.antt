@@ -21,7 +21,7 @@ use Rattle.ff_node_mux.specs.merge.Merges.{packets_of}
 use Rattle.ff_node_mux.specs.merge.Queues.{base_at}
 use Rattle.ff_net.specs.Pasts.{Feed}
 use Rattle.ff_net.specs.Ways.{Flow}
-use Rattle.ff_node_mux.specs.Feeding.{feed_of, closing_feeds, feeds_of, feeds_at}
+use Rattle.ff_node_mux.specs.laws.Feeding.{feed_of, closing_feeds, feeds_of, feeds_at}
 use Rattle.ff_node_mux.specs.Muxing.{head_bases}
 use Rattle.ff_node_mux.specs.StreamEvents.{sent, stream_events, events_of, is_event_of, ToldOfStreams, ToldOfOne}
 use Rattle.ff_node_mux.specs.Telling.{micros_of, told_by, told_at, mux_tells}

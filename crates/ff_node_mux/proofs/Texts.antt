@@ -10,7 +10,7 @@ use Rattle.ff_stream.specs.declared.item.Item.{Item}
 use Rattle.ff_stream.specs.declared.item.Item.TheVariants.{Audio, Video, Packet, Trailer, End, Broken}
 use Rattle.ff_stream.specs.Stream.{still_open, Stream}
 use Rattle.ff_stream.specs.Items.{Closes, with_item}
-use Rattle.ff_stream.specs.Order.{with_item_open, with_item_closed}
+use Rattle.ff_stream.specs.laws.Order.{with_item_open, with_item_closed}
 use Rattle.ff_stream.specs.Ports.{nothing, IsClosed}
 use Rattle.ff_filter.specs.Views.{closes}
 use Rattle.ff_node_mux.specs.merge.Merges.{Placed}
@@ -18,9 +18,9 @@ use Rattle.ff_net.specs.declared.fault.Fault.{Fault}
 use Rattle.ff_net.specs.declared.fault.Fault.TheVariants.{TooLarge}
 use Rattle.ff_net.specs.Ways.{Flow}
 use Rattle.ff_format.specs.Layouts.{Layout, body, fits, with_last, IsBeyond}
-use Rattle.ff_node_mux.specs.Growing.{body_more}
+use Rattle.ff_node_mux.specs.laws.Growing.{body_more}
 use Rattle.ff_node_mux.specs.Muxing.{totals_with, totals_after, totals_of, size_for, cause_for}
-use Rattle.ff_node_mux.specs.Writing.{Replaces, EndsAs}
+use Rattle.ff_node_mux.specs.laws.Writing.{Replaces, EndsAs}
 
 -- ---- bytes that are told
 

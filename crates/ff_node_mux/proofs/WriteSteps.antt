@@ -9,11 +9,11 @@ use Rattle.ff_lists.specs.Appends.{AppendsPrefix}
 use Rattle.ff_lists.proofs.Written.{grows, front_of, front_after}
 use Rattle.ff_net.specs.declared.fault.Fault.{Fault}
 use Rattle.ff_net.specs.declared.fault.Fault.TheVariants.{TooLarge, NoMemory}
-use Rattle.ff_net.specs.Laws.{IsOfInputs}
+use Rattle.ff_net.specs.laws.Laws.{IsOfInputs}
 use Rattle.ff_frame.specs.declared.totals.Totals.{Totals}
 use Rattle.ff_format.specs.Layouts.{Layout, body, fits, IsBeyond}
-use Rattle.ff_node_mux.specs.Growing.{body_more, size_less}
-use Rattle.ff_node_mux.specs.Writing.{text_before, EndsAs, StaysWithin, Wrote, WroteAll, Stuck, WroteOn, StuckOn}
+use Rattle.ff_node_mux.specs.laws.Growing.{body_more, size_less}
+use Rattle.ff_node_mux.specs.laws.Writing.{text_before, EndsAs, StaysWithin, Wrote, WroteAll, Stuck, WroteOn, StuckOn}
 use Rattle.ff_node_mux.proofs.Texts.{adds_none, front_none, within_fits, beyond_fits, still_beyond}
 
 module _ (layout : Layout) where

@@ -1,14 +1,5 @@
-pub mod Feeding
-pub mod Growing
-pub mod Held
-pub mod Kinds
-pub mod Mixing
-pub mod Muxers
 pub mod Muxing
-pub mod MuxLaws
 pub mod StreamEvents
-pub mod TaskLaws
 pub mod Telling
-pub mod Writing
 pub mod merge
-pub mod Sizes
+pub mod laws

@@ -23,9 +23,9 @@ use Rattle.ff_net.specs.declared.fault.Fault.{Fault}
 use Rattle.ff_net.specs.declared.fault.Fault.TheVariants.{TooLarge}
 use Rattle.ff_net.specs.Ways.{Flow, AreValid}
 use Rattle.ff_net.specs.Pasts.{Past, Task, Feed}
-use Rattle.ff_net.specs.Laws.{IsOfInputs}
+use Rattle.ff_net.specs.laws.Laws.{IsOfInputs}
 use Rattle.ff_format.specs.Layouts.{Layout, body, written, text_of, fits, finished}
-use Rattle.ff_node_mux.specs.Feeding.{feeds_of, feeds_at}
+use Rattle.ff_node_mux.specs.laws.Feeding.{feeds_of, feeds_at}
 use Rattle.ff_node_mux.specs.Telling.{mux_tells}
 
 -- the bases of the times of streams with these heads

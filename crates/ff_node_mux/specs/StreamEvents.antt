@@ -12,7 +12,7 @@ use Rattle.ff_node_mux.specs.merge.Merges.{packets_of}
 use Rattle.ff_node_mux.specs.merge.Queues.{base_at}
 use Rattle.ff_net.specs.Pasts.{Feed}
 use Rattle.ff_net.specs.Ways.{Flow}
-use Rattle.ff_node_mux.specs.Feeding.{feeds_of, feeds_at}
+use Rattle.ff_node_mux.specs.laws.Feeding.{feeds_of, feeds_at}
 use Rattle.ff_node_mux.specs.Telling.{micros_of, mux_tells}
 
 -- that a packet was sent to the output stream of this number: when it is decoded, in microseconds

@@ -1,7 +1,7 @@
 //! Laws of what a muxer writes and tells. Each is a function that does nothing: its clauses hold of all values.
-ghost use Rattle.ff_node_mux.specs.Held.{HeldPartsStay};
+ghost use Rattle.ff_node_mux.specs.laws.Held.{HeldPartsStay};
 ghost use Rattle.ff_node_mux.specs.Muxing.{MixedOne};
-ghost use Rattle.ff_node_mux.specs.Sizes.{PcmIsShort, PcmFits};
+ghost use Rattle.ff_node_mux.specs.laws.Sizes.{PcmIsShort, PcmFits};
 ghost use Rattle.ff_node_mux.specs.StreamEvents.{ToldOfStreams, ToldOfOne};
 ghost use Rattle.ff_node_mux.specs.Telling.{AllOfStreams, SentTimes};
 

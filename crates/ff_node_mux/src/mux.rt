@@ -9,7 +9,7 @@ ghost use Rattle.ff_net.specs.Pasts.{Past, start};
 ghost use Rattle.ff_net.specs.Ways.{Flow};
 ghost use Rattle.ff_format.specs.Layouts.{Layout};
 ghost use Rattle.ff_node_mux.specs.Muxing.{head_bases, head_lanes, mux_cause, mux_task, unpatched, file, NothingCame};
-ghost use Rattle.ff_node_mux.specs.Held.{HoldsPart};
+ghost use Rattle.ff_node_mux.specs.laws.Held.{HoldsPart};
 ghost use Rattle.ff_node_mux.specs.StreamEvents.{events_of, stream_events};
 
 use crate::merge::Interleave;
@@ -85,7 +85,7 @@ fn merge_of(alloc: Global, heads: &[StreamHead]) -> Result<Interleave, AllocErro
 }
 
 impl<K: Sink + Drop, W: Writer + Drop> Mux<K, W> {
-    ghost use Rattle.ff_node_mux.specs.Muxers.{mux_sink, mux_stands, mux_in_lanes, mux_fault};
+    ghost use Rattle.ff_node_mux.specs.laws.Muxers.{mux_sink, mux_stands, mux_in_lanes, mux_fault};
 
     /// Over a sink that holds nothing and a writer that counted nothing, for the packets of output streams of these
     /// heads. Their numbers go from this one on. The sink comes back where memory is refused.
@@ -160,7 +160,7 @@ impl<K: Sink + Drop, W: Writer + Drop> Mux<K, W> {
 }
 
 impl<K: Sink + Drop, W: Writer + Drop> Machine for Mux<K, W> {
-    ghost use Rattle.ff_node_mux.specs.Kinds.{mux_view, mux_laws};
+    ghost use Rattle.ff_node_mux.specs.laws.Kinds.{mux_view, mux_laws};
 
     ghost view = { mux_view };
 

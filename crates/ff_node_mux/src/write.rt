@@ -3,10 +3,10 @@ ghost use Rattle.std.specs.Prelude.{◌≡◌, ◌≢◌, ◌+◌, ◌≤◌, �
 ghost use Rattle.std.specs.Io.KnownBytes.{Appends, Keeps};
 ghost use Rattle.ff_lists.specs.Appends.{AppendsPrefix};
 ghost use Rattle.ff_net.specs.declared.fault.Fault.TheVariants.{TooLarge};
-ghost use Rattle.ff_net.specs.Laws.{Rose, IsOfInputs};
+ghost use Rattle.ff_net.specs.laws.Laws.{Rose, IsOfInputs};
 ghost use Rattle.ff_format.specs.Layouts.{IsBeyond, body};
-ghost use Rattle.ff_format.specs.Patches.{replacing, StandsIn};
-ghost use Rattle.ff_node_mux.specs.Writing.{text_before, Replaces, EndsAs};
+ghost use Rattle.ff_format.specs.laws.Patches.{replacing, StandsIn};
+ghost use Rattle.ff_node_mux.specs.laws.Writing.{text_before, Replaces, EndsAs};
 ghost use Rattle.ff_node_mux.specs.merge.Merges.{Placed};
 
 use ff_format::{Patch, Writer};

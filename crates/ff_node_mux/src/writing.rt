@@ -4,8 +4,8 @@ ghost use Rattle.ff_filter.specs.Joins.{silence};
 ghost use Rattle.ff_node_mux.specs.merge.Merges.{Placed};
 ghost use Rattle.ff_node_mux.specs.merge.Queues.{merging, Same};
 ghost use Rattle.ff_net.specs.declared.fault.Fault.TheVariants.{TooLarge};
-ghost use Rattle.ff_net.specs.Laws.{Rose, IsOfInputs};
-ghost use Rattle.ff_node_mux.specs.Writing.{Alike, Took, Wrote, WroteAll, Stuck, WroteOn, StuckOn};
+ghost use Rattle.ff_net.specs.laws.Laws.{Rose, IsOfInputs};
+ghost use Rattle.ff_node_mux.specs.laws.Writing.{Alike, Took, Wrote, WroteAll, Stuck, WroteOn, StuckOn};
 
 use crate::merge::Interleave;
 use crate::write::{text_before, write, write_end, write_packet};

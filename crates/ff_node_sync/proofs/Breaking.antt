@@ -7,13 +7,13 @@ use Rattle.ff_time.specs.Fraction.{Fraction}
 use Rattle.ff_stream.specs.declared.item.Item.{Item}
 use Rattle.ff_stream.specs.Stream.{Mark, still_open, whole, broken, LiesBelow, opened, opened_mark, whole_stream}
 use Rattle.ff_stream.specs.Ports.{nothing, stream_at, AllBelow}
-use Rattle.ff_stream.specs.Order.{below_self, closed_below, prefix_self, stream_at-opened}
-use Rattle.ff_stream.specs.Breaks.{IsBrokenOff, KeepsBrokenRule}
+use Rattle.ff_stream.specs.laws.Order.{below_self, closed_below, prefix_self, stream_at-opened}
+use Rattle.ff_stream.specs.laws.Breaks.{IsBrokenOff, KeepsBrokenRule}
 use Rattle.ff_filter.specs.Joins.{Flow, Ports}
 use Rattle.ff_filter.specs.Shifts.{start_ticks}
-use Rattle.ff_node_sync.specs.Outlasting.{AreOutlasted, EndsBy, Outlasts}
+use Rattle.ff_node_sync.specs.laws.Outlasting.{AreOutlasted, EndsBy, Outlasts}
 use Rattle.ff_node_sync.specs.Shortened.{Fate, Kept, Held, held_by, both, put_kept, kept_by, fate_by, fate_to, furthest, is_before, shortened}
-use Rattle.ff_node_sync.specs.ShortLaws.{SofterMark, SofterFlow, fate_softer, fate_refines, flow_further, kept_below, kept_softer, whole_left, whole_right}
+use Rattle.ff_node_sync.specs.laws.ShortLaws.{SofterMark, SofterFlow, fate_softer, fate_refines, flow_further, kept_below, kept_softer, whole_left, whole_right}
 
 is_same : (q p : ℕ) → q ≡ p → (q == p) ≡ true
 is_same q p e = grind (arith, nat_tests)

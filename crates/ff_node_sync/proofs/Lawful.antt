@@ -8,9 +8,9 @@ use Rattle.ff_stream.specs.declared.item.Item.{Item}
 use Rattle.ff_stream.specs.declared.item.Lane.{Lane}
 use Rattle.ff_stream.specs.Stream.{Mark, still_open, whole, broken, opened}
 use Rattle.ff_stream.specs.Lanes.{IsValid}
-use Rattle.ff_stream.specs.LaneLaws.{valid_front}
+use Rattle.ff_stream.specs.laws.LaneLaws.{valid_front}
 use Rattle.ff_stream.specs.declared.item.Lane.TheVariants.{Frames}
-use Rattle.ff_stream.specs.Order.{below_self}
+use Rattle.ff_stream.specs.laws.Order.{below_self}
 use Rattle.ff_stream.specs.Ports.{nothing, stream_at, AllUnbroken}
 use Rattle.ff_filter.specs.Joins.{Flow, Ports, Grows, HidesBreaks}
 use Rattle.ff_filter.specs.Shifts.{start_ticks}
@@ -21,8 +21,8 @@ use Rattle.ff_net.specs.Ways.{lane_at, AreValid, IsValidOn}
 use Rattle.ff_node_filter.specs.Tasks.{IsLawful, Stands, listed, filter_task}
 use Rattle.ff_node_sync.specs.Shortened.{Fate, Kept, Held, held_by, both, put_kept, kept_by, fate_by, fate_to, furthest, is_before, shortened}
 use Rattle.ff_node_sync.specs.Lines.{Line, new_line, line_at, bases, ends_with, marks_with, came, end_with, mark_with, still_kept, shortest_view, head_base, IsShortest}
-use Rattle.ff_node_sync.specs.ShortLaws.{kept_alike, shortest-grows, shortest-hides}
-use Rattle.ff_node_sync.specs.Straights.{IsStraight}
+use Rattle.ff_node_sync.specs.laws.ShortLaws.{kept_alike, shortest-grows, shortest-hides}
+use Rattle.ff_node_sync.specs.laws.Straights.{IsStraight}
 use Rattle.ff_node_sync.specs.JointTask.{joint, joint_task, IsJointOf}
 
 -- streams of these heads of which nothing came

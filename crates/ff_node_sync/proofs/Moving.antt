@@ -24,8 +24,8 @@ use Rattle.ff_node_sync.specs.Shortened.{Fate, Kept, Held, both, put_kept, kept_
 use Rattle.ff_node_sync.specs.Lines.{Line, new_line, line_of, line_at, lines_of, lanes_of, came, bases, end_with, mark_with, ends_with, marks_with, still_kept}
 use Rattle.ff_node_sync.specs.Lines.{shortest_view, view_of, reaches, stands, fate_now, next_fate, fate_is, is_closed, is_done, done_to, shortest_spent, head_base}
 use Rattle.ff_node_sync.specs.Lines.{IsShortest, AreNew}
-use Rattle.ff_node_sync.specs.Moves.{Takes, IsTaken, IsEnded, IsStopped, IsClosedAt}
-use Rattle.ff_node_sync.specs.ShortLaws.{Refines, Further, fate_refines, kept_alike, still_silent, furthest-more, shortest-spent_only, spent_from, lanes_long}
+use Rattle.ff_node_sync.specs.laws.Moves.{Takes, IsTaken, IsEnded, IsStopped, IsClosedAt}
+use Rattle.ff_node_sync.specs.laws.ShortLaws.{Refines, Further, fate_refines, kept_alike, still_silent, furthest-more, shortest-spent_only, spent_from, lanes_long}
 
 pub before_goes_on : (x : Item) (t : Flow) → closes x ≡ false → before x t ≡ record { items = x ∷ t.items; mark = t.mark }
 before_goes_on (Audio f) t e = refl

@@ -10,9 +10,9 @@ use Rattle.ff_filter.specs.Made.{is_over}
 use Rattle.ff_filter.specs.Views.{Same, Fed, Gave, Waits, Stopped, IsSpent, closes}
 use Rattle.ff_node_sync.specs.declared.side.Side.{Side}
 use Rattle.ff_node_sync.specs.Lines.{Line, line_at, lines_of, came, AreNew}
-use Rattle.ff_node_sync.specs.Moves.{Takes, IsStopped}
-use Rattle.ff_node_sync.specs.Straights.{still_came, IsGiven, IsHeld, straight_view, straight_of, IsStraight, is_through, through_to, straight_spent}
-use Rattle.ff_node_sync.specs.StraightLaws.{straight-spent_only, straight-spent_from}
+use Rattle.ff_node_sync.specs.laws.Moves.{Takes, IsStopped}
+use Rattle.ff_node_sync.specs.laws.Straights.{still_came, IsGiven, IsHeld, straight_view, straight_of, IsStraight, is_through, through_to, straight_spent}
+use Rattle.ff_node_sync.specs.laws.StraightLaws.{straight-spent_only, straight-spent_from}
 use Rattle.ff_node_sync.proofs.Moving.{Replaced, cond_same, long_lanes}
 
 pub self_same : (lanes : List Lane) (ls : List Line) → Same (straight_view lanes ls) (straight_view lanes ls)

@@ -1,10 +1,4 @@
-pub mod Joints
 pub mod JointTask
 pub mod Lines
-pub mod Moves
-pub mod Outlasting
-pub mod ShortLaws
 pub mod Shortened
-pub mod ShortTask
-pub mod StraightLaws
-pub mod Straights
+pub mod laws

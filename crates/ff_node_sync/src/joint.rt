@@ -3,8 +3,8 @@ ghost use Rattle.std.specs.Prelude.{IfOk, ◌≡◌, map, None};
 ghost use Rattle.ff_stream.specs.declared.item.Lane.TheVariants.{Frames};
 ghost use Rattle.ff_net.specs.Pasts.{start};
 ghost use Rattle.ff_node_sync.specs.JointTask.{joint_task, IsJointOf};
-ghost use Rattle.ff_node_sync.specs.Joints.{joint_view, joint_spends, joint-grows, joint-hides, joint-settles, joint-quiet};
-ghost use Rattle.ff_node_sync.specs.Joints.{joint-spent_only, joint-shut_spent, joint-done_spent};
+ghost use Rattle.ff_node_sync.specs.laws.Joints.{joint_view, joint_spends, joint-grows, joint-hides, joint-settles, joint-quiet};
+ghost use Rattle.ff_node_sync.specs.laws.Joints.{joint-spent_only, joint-shut_spent, joint-done_spent};
 
 use crate::shortest::Shortest;
 use crate::straight::Straight;

@@ -3,7 +3,7 @@
 ghost use Rattle.std.specs.Prelude.{◌≡◌, ◌≢◌, ◌<◌, ℕ, List, ◌∷◌, ◌++◌, None};
 ghost use Rattle.ff_time.specs.Fraction.{Fraction};
 ghost use Rattle.ff_frame.specs.declared.head.StreamHead.{StreamHead};
-ghost use Rattle.ff_stream.specs.Breaks.{KeepsBrokenRule};
+ghost use Rattle.ff_stream.specs.laws.Breaks.{KeepsBrokenRule};
 ghost use Rattle.ff_stream.specs.declared.item.Item.{Item};
 ghost use Rattle.ff_stream.specs.Ports.{stream_at};
 ghost use Rattle.ff_stream.specs.Stream.{whole, whole_stream};
@@ -11,9 +11,9 @@ ghost use Rattle.ff_filter.specs.Joins.{Flow, Ports};
 ghost use Rattle.ff_filter.specs.Views.{View};
 ghost use Rattle.ff_node_filter.specs.Tasks.{IsLawful};
 ghost use Rattle.ff_node_sync.specs.Lines.{IsShortest};
-ghost use Rattle.ff_node_sync.specs.Outlasting.{AreOutlasted, EndsBy};
+ghost use Rattle.ff_node_sync.specs.laws.Outlasting.{AreOutlasted, EndsBy};
 ghost use Rattle.ff_node_sync.specs.Shortened.{shortened};
-ghost use Rattle.ff_node_sync.specs.Straights.{IsStraight};
+ghost use Rattle.ff_node_sync.specs.laws.Straights.{IsStraight};
 
 /// Streams further on are shortened to streams further on, and whoever isn't told of breaks gets no less. Valid
 /// streams are shortened to valid ones, and of unbroken streams none breaks. So a node of it has no fault.

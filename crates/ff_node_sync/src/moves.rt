@@ -5,9 +5,9 @@ ghost use Rattle.ff_stream.specs.declared.item.Item.{Item as AnItem};
 ghost use Rattle.ff_frame.specs.Heads.{base_of_head};
 ghost use Rattle.ff_filter.specs.Made.{is_over, closing};
 ghost use Rattle.ff_filter.specs.Views.{closes};
-ghost use Rattle.ff_node_sync.specs.Moves.{Takes, IsStart, IsTaken, IsEnded, IsStopped};
+ghost use Rattle.ff_node_sync.specs.laws.Moves.{Takes, IsStart, IsTaken, IsEnded, IsStopped};
 ghost use Rattle.ff_node_sync.specs.Lines.{line_of, new_line};
-ghost use Rattle.ff_node_sync.specs.Straights.{IsGiven, IsHeld};
+ghost use Rattle.ff_node_sync.specs.laws.Straights.{IsGiven, IsHeld};
 
 use crate::end::later;
 use crate::side::Side;

@@ -7,9 +7,9 @@ ghost use Rattle.ff_filter.specs.Views.{Gave, Waits, IsSpent};
 ghost use Rattle.ff_node_sync.specs.Shortened.{Kept, both as both_of, fate_by as fate_by_of};
 ghost use Rattle.ff_node_sync.specs.Lines.{lines_of, lanes_of, line_at, bases, reaches, stands, view_of, IsShortest, fate_is, fate_now, next_fate, AreNew};
 ghost use Rattle.ff_node_sync.specs.Lines.{mark_now, is_done as is_done_of, done_to, shortest_spent};
-ghost use Rattle.ff_node_sync.specs.Moves.{IsClosedAt};
-ghost use Rattle.ff_node_sync.specs.ShortLaws.{shortest-grows, shortest-hides, shortest-settles, shortest-quiet, shortest-spent_only};
-ghost use Rattle.ff_node_sync.specs.ShortLaws.{shortest-shut_spent, shortest-done_spent};
+ghost use Rattle.ff_node_sync.specs.laws.Moves.{IsClosedAt};
+ghost use Rattle.ff_node_sync.specs.laws.ShortLaws.{shortest-grows, shortest-hides, shortest-settles, shortest-quiet, shortest-spent_only};
+ghost use Rattle.ff_node_sync.specs.laws.ShortLaws.{shortest-shut_spent, shortest-done_spent};
 
 use crate::end::is_before;
 use crate::side::Side;

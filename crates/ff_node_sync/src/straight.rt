@@ -2,9 +2,9 @@
 ghost use Rattle.std.specs.Prelude.{◌≡◌, ◌↔◌, ◌<◌, length, IsTrue, IfOk};
 ghost use Rattle.ff_filter.specs.Views.{IsSpent};
 ghost use Rattle.ff_node_sync.specs.Lines.{lines_of, lanes_of};
-ghost use Rattle.ff_node_sync.specs.Straights.{straight_of, IsStraight, is_through as is_through_of, through_to, straight_spent};
-ghost use Rattle.ff_node_sync.specs.StraightLaws.{straight-grows, straight-hides, straight-settles, straight-quiet};
-ghost use Rattle.ff_node_sync.specs.StraightLaws.{straight-spent_only, straight-shut_spent, straight-done_spent};
+ghost use Rattle.ff_node_sync.specs.laws.Straights.{straight_of, IsStraight, is_through as is_through_of, through_to, straight_spent};
+ghost use Rattle.ff_node_sync.specs.laws.StraightLaws.{straight-grows, straight-hides, straight-settles, straight-quiet};
+ghost use Rattle.ff_node_sync.specs.laws.StraightLaws.{straight-spent_only, straight-shut_spent, straight-done_spent};
 
 use crate::shortest::new_sides;
 use crate::side::Side;

@@ -9,7 +9,7 @@ use Rattle.std.proofs.lemmas.Nat.{div_below}
 use Rattle.ff_frame.specs.Audio.{FitsBits, IsAudio}
 use Rattle.ff_frame.specs.Frame.{audio_frame}
 use Rattle.ff_frame.specs.Codecs.{IsPcmCodec, IsPcmCoding, coding_of, coding_bytes, depth_bytes, sample_bytes}
-use Rattle.ff_frame.specs.PcmLaws.{few_sample_bytes}
+use Rattle.ff_frame.specs.laws.PcmLaws.{few_sample_bytes}
 use Rattle.ff_frame.specs.declared.audio.AFrame.{AFrame}
 use Rattle.ff_frame.specs.declared.coding.ByteOrder.{ByteOrder}
 use Rattle.ff_frame.specs.declared.coding.Coding.{Coding}

@@ -1,6 +1,6 @@
 pub mod Bytes
 pub mod Depth
 pub mod Frames
-pub mod Raw
 pub mod Samples
 pub mod body
+pub mod laws

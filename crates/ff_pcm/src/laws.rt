@@ -8,7 +8,7 @@ ghost use Rattle.ff_frame.specs.declared.packet.Pkt.{Pkt};
 ghost use Rattle.ff_frame.specs.declared.video.VFrame.{VFrame};
 ghost use Rattle.ff_pcm.specs.Bytes.{bytes_of};
 ghost use Rattle.ff_pcm.specs.Depth.{at_depth};
-ghost use Rattle.ff_pcm.specs.Raw.{IsFrameIn};
+ghost use Rattle.ff_pcm.specs.laws.Raw.{IsFrameIn};
 ghost use Rattle.ff_pcm.specs.Samples.{samples_of, StandFor};
 
 /// The samples tell the bytes: no other bytes of the same PCM codec stand for them.

@@ -2,7 +2,7 @@
 //!
 //! Samples of 8, 16, 24 or 32 bits are signed or not, in either order of bytes, as the row of their codec says.
 //! `specs/Samples` says by place value which samples some bytes stand for; decoding and encoding are the two directions
-//! of that one relation. A packet of raw video is the planes of one frame as they stand (`specs/Raw`).
+//! of that one relation. A packet of raw video is the planes of one frame as they stand (`specs/laws/Raw`).
 //!
 //! `body`: The packets of a body of linear PCM, as several containers have it.
 #![tactic(auto)]

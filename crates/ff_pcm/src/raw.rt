@@ -1,7 +1,7 @@
 //! The decoder and the encoder of raw video.
 ghost use Rattle.std.specs.Prelude.{◌≡◌, IfOk};
 ghost use Rattle.ff_frame.specs.Heads.{IsPictureFor};
-ghost use Rattle.ff_pcm.specs.Raw.{HasFrame, IsFrameIn};
+ghost use Rattle.ff_pcm.specs.laws.Raw.{HasFrame, IsFrameIn};
 
 use ff_frame::{Pkt, StreamHead, VFrame};
 use std::alloc::{AllocError, Global};

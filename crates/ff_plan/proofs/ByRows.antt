@@ -19,9 +19,9 @@ use Rattle.ff_source.specs.declared.made.Made.{Made}
 use Rattle.ff_plan_layout.specs.Layout.{Layout, place_row, place_from, placed, shows, read, used, used_inputs}
 use Rattle.ff_plan_layout.specs.Sources.{source_streams}
 use Rattle.ff_plan.specs.Nodes.{plan_of, nodes_of, routes_of}
-use Rattle.ff_plan.specs.Numbering.{Firsts, firsts_at, all_sources, demux_wire_in, pad_wire_in, pad_wires_in, shortest_wire_in, enc_wire_in, mux_wire_in, frame_wires_in, wires_in, read_in, streams_in, inputs_in, routes_in, drawing_of, with_drawing, plan_in}
-use Rattle.ff_plan_layout.specs.Limits.{HasFewIns}
-use Rattle.ff_plan_layout.specs.Rows.{rows}
+use Rattle.ff_plan.specs.laws.Numbering.{Firsts, firsts_at, all_sources, demux_wire_in, pad_wire_in, pad_wires_in, shortest_wire_in, enc_wire_in, mux_wire_in, frame_wires_in, wires_in, read_in, streams_in, inputs_in, routes_in, drawing_of, with_drawing, plan_in}
+use Rattle.ff_plan_layout.specs.laws.Limits.{HasFewIns}
+use Rattle.ff_plan_layout.specs.laws.Rows.{rows}
 use Rattle.ff_plan.specs.Wires.{edges_of}
 use Rattle.ff_plan_layout.proofs.Sizes.{joined_length, map_length, range_length, row_length}
 use Rattle.ff_plan_layout.proofs.Bounds.{filter_few, streams_length}

@@ -19,7 +19,7 @@ use Rattle.ff_plan_layout.specs.declared.layout.Placed.{Placed}
 use Rattle.ff_plan.specs.declared.planned.Plan.{Plan}
 use Rattle.ff_plan.specs.declared.planned.PlanNode.{PlanNode}
 use Rattle.ff_plan.specs.declared.planned.PlanNode.TheVariants as node
-use Rattle.ff_plan.specs.EndFits.{FitsEnd, EndsFit}
+use Rattle.ff_plan.specs.laws.EndFits.{FitsEnd, EndsFit}
 use Rattle.ff_plan_layout.specs.Labels.{taken_labels}
 use Rattle.ff_plan_layout.specs.declared.layout.Laid.{Laid}
 use Rattle.ff_plan_layout.specs.Layout.{IsLaid, IsAmong, Layout, place_row, place_from, placed, used, used_inputs, read}

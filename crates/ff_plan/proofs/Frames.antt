@@ -13,7 +13,7 @@ use Rattle.ff_words.specs.declared.job.Job.{Job}
 use Rattle.ff_plan_layout.specs.declared.open_pads.OpenOut.{OpenOut}
 use Rattle.ff_plan.specs.declared.number.Wire.{Wire}
 use Rattle.ff_plan.specs.declared.planned.Plan.{Plan}
-use Rattle.ff_plan_layout.specs.Graphs.{AreRules}
+use Rattle.ff_plan_layout.specs.laws.Graphs.{AreRules}
 use Rattle.ff_plan_layout.specs.Layout.{IsAmong, Layout, placed, read}
 use Rattle.ff_plan.specs.Nodes.{demux_wire, pad_wire, pad_wires, shortest_wire, enc_wire, mux_wire, wires_of, plan_of}
 use Rattle.ff_plan_layout.specs.Pads.{all_wants, head_in, pad_in}
@@ -21,7 +21,7 @@ use Rattle.ff_plan_layout.specs.LaidOut.{layout_of, laid_out}
 use Rattle.ff_plan.specs.Planned.{planned}
 use Rattle.ff_plan_layout.specs.Rules.{Rules}
 use Rattle.ff_plan_layout.specs.Sources.{source_streams, sources_of}
-use Rattle.ff_plan.specs.Taken.{AreKeptBy, HasFrames, AllFrames}
+use Rattle.ff_plan.specs.laws.Taken.{AreKeptBy, HasFrames, AllFrames}
 use Rattle.ff_plan.specs.Wires.{edges_behind, edges_of}
 use Rattle.ff_plan_layout.proofs.Among.{all_among, all_joined, all_map, all_flat, among_left, each_of}
 use Rattle.ff_plan_layout.proofs.Graphed.{Stands, Walked, walked, inside_of, ins_from, place_left, place_right}

@@ -25,8 +25,8 @@ use Rattle.ff_plan_layout.specs.declared.layout.Origin.TheVariants as origin
 use Rattle.ff_plan_layout.specs.declared.layout.OutStream.{OutStream}
 use Rattle.ff_plan_layout.specs.declared.layout.Placed.{Placed}
 use Rattle.ff_plan_layout.specs.Choice.{kind_of}
-use Rattle.ff_plan_layout.specs.Graphs.{AreRules}
-use Rattle.ff_plan.specs.GraphFits.{FitsGraph, GraphsFit}
+use Rattle.ff_plan_layout.specs.laws.Graphs.{AreRules}
+use Rattle.ff_plan.specs.laws.GraphFits.{FitsGraph, GraphsFit}
 use Rattle.ff_plan_layout.specs.declared.layout.GraphText.{GraphText}
 use Rattle.ff_plan_layout.specs.declared.layout.GraphText.TheVariants.{Complex}
 use Rattle.ff_plan_layout.specs.Texts.{simple_in, graph_text, simple_or_null, texts_of_laid, texts_of_row, texts_from}

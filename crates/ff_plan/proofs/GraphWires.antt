@@ -11,7 +11,7 @@ use Rattle.ff_plan_layout.specs.declared.layout.Origin.TheVariants as origin
 use Rattle.ff_plan_layout.specs.declared.layout.Placed.{Placed}
 use Rattle.ff_plan_layout.specs.declared.layout.Laid.{Laid}
 use Rattle.ff_plan_layout.specs.Layout.{IsThere, IsLaid, EachOnce, IsAmong, Layout, placed, origins, read}
-use Rattle.ff_plan.specs.Laws.{IsNamedOf, named_at}
+use Rattle.ff_plan.specs.laws.Laws.{IsNamedOf, named_at}
 use Rattle.ff_plan.specs.Nodes.{before_graphs, before_shortests, dec_at, graph_at, origin_at, origin_port, demux_wire, pad_wire, pad_wires, shortest_wire, enc_wire, mux_wire, wires_of}
 use Rattle.ff_plan.specs.Wires.{Wire, edges_of}
 use Rattle.ff_plan_layout.proofs.Among.{all_joined, all_map, all_flat, among_left, among_right, among_map, among_flat}

@@ -6,7 +6,7 @@ use Rattle.ff_stream.specs.declared.item.Lane.{Lane}
 use Rattle.ff_stream.specs.declared.edges.edge.Edge.{Edge}
 use Rattle.ff_stream.specs.edges.Ports.{tally, at_ports, edge_to, edge_from, lane_of, lanes_into, lanes_out_of}
 use Rattle.ff_plan.specs.Wires.{Wire, leaves_node, enters_node, edge_behind, edges_behind, edges_of}
-use Rattle.ff_plan.specs.Laws.{IsNextOf}
+use Rattle.ff_plan.specs.laws.Laws.{IsNextOf}
 use Rattle.ff_plan.proofs.Numbered.{Numbered, both, other_port, other_key, ins_numbered, outs_numbered}
 use Rattle.ff_plan_layout.proofs.Tests.{hit, miss, tally_hit, tally_miss}
 

@@ -21,7 +21,7 @@ use Rattle.ff_plan_layout.specs.Layout.{IsAmong, Layout, same_ref, place_row, pl
 use Rattle.ff_plan_layout.specs.Sources.{source_streams}
 use Rattle.ff_plan.specs.Nodes.{start_node, before_decs, before_graphs, before_shortests, node_count, output_numbers, demux_at, dec_at, graph_at, origin_at, origin_port, nodes_of, demux_wire, pad_wire, pad_wires, shortest_wire, enc_wire, mux_wire, wires_of}
 use Rattle.ff_plan.specs.declared.planned.PlanNode.TheVariants as node
-use Rattle.ff_plan.specs.Laws.{IsUp, IsNextOf, IsNoGraph, GraphsHaveOuts}
+use Rattle.ff_plan.specs.laws.Laws.{IsUp, IsNextOf, IsNoGraph, GraphsHaveOuts}
 use Rattle.ff_stream.specs.edges.Ports.{HasOuts}
 use Rattle.ff_plan_layout.proofs.Among.{all_joined, all_map, all_flat, any_among, place_among, kept_among, was_among, among_left, among_right, among_map, among_flat, in_range}
 use Rattle.ff_plan_layout.proofs.Tests.{same_self, nat_self}

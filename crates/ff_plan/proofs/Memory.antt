@@ -41,7 +41,7 @@ use Rattle.ff_plan_layout.proofs.Among.{never}
 use Rattle.ff_plan_layout.proofs.Graphed.{inside_of, unlabelled_come}
 use Rattle.ff_plan_layout.proofs.Makings.{Comes}
 use Rattle.ff_plan_layout.proofs.Outs.{chosen_is, chosen_come}
-use Rattle.ff_plan.specs.Sound.{NeverWantsMemory}
+use Rattle.ff_plan.specs.laws.Sound.{NeverWantsMemory}
 use Rattle.ff_plan_layout.specs.declared.layout.InPad.{InPad}
 use Rattle.ff_plan_layout.specs.declared.layout.Made.{Made}
 use Rattle.ff_plan_layout.specs.declared.layout.Passed.{Passed}

@@ -6,7 +6,7 @@ use Rattle.ff_stream.specs.declared.edges.edge.Edge.{Edge}
 use Rattle.ff_plan_layout.specs.Layout.{IsAmong, EachOnce}
 use Rattle.ff_plan.specs.Wires.{Wire, port_or, leaves_node, edge_behind, edges_behind, edges_of}
 use Rattle.ff_stream.specs.edges.Ports.{tally}
-use Rattle.ff_plan.specs.Laws.{IsNamedOf, named_at}
+use Rattle.ff_plan.specs.laws.Laws.{IsNamedOf, named_at}
 use Rattle.ff_stream.specs.edges.Ports.{EachPort, HasOuts}
 use Rattle.ff_plan_layout.proofs.Tests.{hit, miss, tally_hit, tally_miss, not_same, is_same}
 use Rattle.ff_plan.proofs.Numbered.{both, other_key}

@@ -21,12 +21,12 @@ use Rattle.ff_plan_layout.specs.Labels.{taken_labels}
 use Rattle.ff_plan_layout.specs.declared.layout.Laid.{Laid}
 use Rattle.ff_plan_layout.specs.Layout.{IsAmong, Layout, placed, streams, is_shown, read, used, is_used, used_inputs}
 use Rattle.ff_plan_layout.specs.Sources.{source_streams}
-use Rattle.ff_plan.specs.NodeRows.{HasRows}
+use Rattle.ff_plan.specs.laws.NodeRows.{HasRows}
 use Rattle.ff_plan.specs.Nodes.{start_node, output_numbers, nodes_of, plan_of}
 use Rattle.ff_plan_layout.specs.Order.{numbers}
 use Rattle.ff_plan_layout.specs.declared.layout.Made.{Made}
 use Rattle.ff_plan_layout.specs.Pads.{all_wants, unlabelled}
-use Rattle.ff_plan_layout.specs.Limits.{IsWithinLimits}
+use Rattle.ff_plan_layout.specs.laws.Limits.{IsWithinLimits}
 use Rattle.ff_plan_layout.specs.LaidOut.{laid_out, layout_of}
 use Rattle.ff_plan.specs.Planned.{planned}
 use Rattle.ff_plan_layout.specs.Rules.{Rules}

@@ -5,7 +5,7 @@ use Rattle.std.proofs.lemmas.Bool.Decides.{nat_tests}
 use Rattle.ff_stream.specs.declared.edges.edge.Edge.{Edge}
 use Rattle.ff_plan.specs.Wires.{Wire, leaves_node, enters_node, port_or, edge_behind, edges_behind, edges_of}
 use Rattle.ff_stream.specs.edges.Ports.{tally}
-use Rattle.ff_plan.specs.Laws.{IsNextOf}
+use Rattle.ff_plan.specs.laws.Laws.{IsNextOf}
 use Rattle.ff_stream.specs.edges.Ports.{EachPort, HasIns, HasOuts}
 use Rattle.ff_plan_layout.proofs.Tests.{hit, miss, tally_hit, tally_miss, same_or_above, not_same, is_same}
 

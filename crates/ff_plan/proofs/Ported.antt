@@ -17,11 +17,11 @@ use Rattle.ff_plan_layout.specs.declared.layout.InPad.{InPad}
 use Rattle.ff_plan_layout.specs.declared.layout.Origin.{Origin}
 use Rattle.ff_plan_layout.specs.declared.layout.OutStream.{OutStream}
 use Rattle.ff_plan_layout.specs.declared.layout.Placed.{Placed}
-use Rattle.ff_plan_layout.specs.Graphs.{AreRules}
+use Rattle.ff_plan_layout.specs.laws.Graphs.{AreRules}
 use Rattle.ff_plan_layout.specs.Labels.{taken_labels}
 use Rattle.ff_plan_layout.specs.declared.layout.Laid.{Laid}
 use Rattle.ff_plan_layout.specs.Layout.{IsLaid, IsAmong, Layout, placed, origins}
-use Rattle.ff_plan.specs.Laws.{GraphsHaveOuts}
+use Rattle.ff_plan.specs.laws.Laws.{GraphsHaveOuts}
 use Rattle.ff_plan.specs.Nodes.{before_graphs, before_shortests, plan_of, wires_of}
 use Rattle.ff_plan.specs.Wires.{edges_of}
 use Rattle.ff_plan.specs.declared.planned.Plan.{Plan}

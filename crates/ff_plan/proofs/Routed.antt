@@ -8,7 +8,7 @@ use Rattle.ff_sched.specs.declared.routes.Way.{Way}
 use Rattle.ff_frame.specs.declared.head.StreamHead.{StreamHead}
 use Rattle.ff_words.specs.declared.job.Job.{Job}
 use Rattle.ff_plan.specs.declared.planned.Plan.{Plan}
-use Rattle.ff_plan_layout.specs.Graphs.{AreRules}
+use Rattle.ff_plan_layout.specs.laws.Graphs.{AreRules}
 use Rattle.ff_plan_layout.specs.Layout.{Layout}
 use Rattle.ff_plan.specs.Nodes.{way_to, ways_in, routes_of, plan_of}
 use Rattle.ff_plan_layout.specs.LaidOut.{layout_of, laid_out}
@@ -23,7 +23,7 @@ use Rattle.ff_plan.proofs.Ported.{numbered_once}
 use Rattle.ff_plan_layout.proofs.Results.{same_ok, behind_ok}
 use Rattle.ff_plan_layout.proofs.Tests.{same_test}
 use Rattle.ff_plan_layout.proofs.Uses.{only_place}
-use Rattle.ff_plan.specs.Sound.{AreRouted}
+use Rattle.ff_plan.specs.laws.Sound.{AreRouted}
 use Rattle.ff_plan.proofs.Sound.{texts_count, laid_whole}
 use Rattle.ff_plan_layout.specs.declared.layout.InPad.{InPad}
 use Rattle.ff_plan_layout.specs.declared.layout.Laid.{Laid}

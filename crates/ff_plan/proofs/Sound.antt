@@ -8,26 +8,26 @@ use Rattle.ff_stream.specs.edges.Ports.{tally, lanes_into}
 use Rattle.ff_stream.specs.declared.item.Lane.{Lane}
 use Rattle.ff_stream.specs.declared.item.Lane.TheVariants.{Packets}
 use Rattle.ff_plan.specs.declared.planned.PlanNode.TheVariants as node
-use Rattle.ff_plan.specs.EndFits.{EndsFit}
+use Rattle.ff_plan.specs.laws.EndFits.{EndsFit}
 use Rattle.ff_plan_layout.specs.Streams.{packed_as, Inside, graph_of}
 use Rattle.ff_graph_links.specs.labels.Order.{ComeInOrder, HasNoLoop, graph_order, feeds, is_in}
 use Rattle.ff_sched.specs.declared.routes.Way.{Way}
-use Rattle.ff_sched.specs.Routes.{AreRoutes}
+use Rattle.ff_sched.specs.laws.Routes.{AreRoutes}
 use Rattle.ff_frame.specs.declared.head.StreamHead.{StreamHead}
 use Rattle.ff_words.specs.declared.job.Job.{Job}
 use Rattle.ff_words.specs.declared.job.OutputJob.{OutputJob}
 use Rattle.ff_plan.specs.declared.number.Wire.{Wire}
 use Rattle.ff_plan.specs.declared.planned.Plan.{Plan}
 use Rattle.ff_plan_layout.specs.declared.layout.GraphText.TheVariants.{Complex}
-use Rattle.ff_plan_layout.specs.Graphs.{AreRules}
+use Rattle.ff_plan_layout.specs.laws.Graphs.{AreRules}
 use Rattle.ff_plan_layout.specs.Labels.{taken_labels}
 use Rattle.ff_plan_layout.specs.Layout.{IsLaid, IsAmong, Layout, placed, used, read}
-use Rattle.ff_plan.specs.Laws.{GoUpward, GraphsHaveOuts}
+use Rattle.ff_plan.specs.laws.Laws.{GoUpward, GraphsHaveOuts}
 use Rattle.ff_plan.specs.Nodes.{before_muxes, node_count, output_numbers, demux_wire, pad_wire, pad_wires, shortest_wire, enc_wire, mux_wire, nodes_of, wires_of, way_to, ways_in, routes_of, plan_of}
 use Rattle.ff_plan.specs.Numbers.{leads_between, streams_between, HasFewStreams}
 use Rattle.ff_plan_layout.specs.Order.{numbers}
 use Rattle.ff_plan_layout.specs.Pads.{all_wants, pad_in, head_in, unlabelled}
-use Rattle.ff_plan_layout.specs.Limits.{IsWithinLimits}
+use Rattle.ff_plan_layout.specs.laws.Limits.{IsWithinLimits}
 use Rattle.ff_plan_layout.specs.LaidOut.{labels_of, graphs_of, layout_of, laid_out}
 use Rattle.ff_plan.specs.Planned.{planned}
 use Rattle.ff_plan_layout.specs.Rules.{Rules}
@@ -51,7 +51,7 @@ use Rattle.ff_plan_layout.proofs.Results.{same_ok, behind_ok}
 use Rattle.ff_plan_layout.proofs.Small.{few}
 use Rattle.ff_plan.proofs.StartFits.{starts_fit}
 use Rattle.ff_plan.proofs.Upward.{go_upward}
-use Rattle.ff_plan.specs.Sound.{HasFewIns, KeepsTaken, IsSoundPlan}
+use Rattle.ff_plan.specs.laws.Sound.{HasFewIns, KeepsTaken, IsSoundPlan}
 use Rattle.ff_plan.proofs.Taken.{outputs_fit}
 use Rattle.ff_plan_layout.specs.declared.layout.InPad.{InPad}
 use Rattle.ff_plan_layout.specs.declared.layout.Laid.{Laid}

@@ -23,7 +23,7 @@ use Rattle.ff_plan_layout.specs.declared.layout.Placed.{Placed}
 use Rattle.ff_plan.specs.declared.planned.Plan.{Plan}
 use Rattle.ff_plan.specs.declared.planned.PlanNode.{PlanNode}
 use Rattle.ff_plan.specs.declared.planned.PlanNode.TheVariants as node
-use Rattle.ff_plan_layout.specs.Graphs.{AreRules}
+use Rattle.ff_plan_layout.specs.laws.Graphs.{AreRules}
 use Rattle.ff_plan_layout.specs.LaidOut.{layout_of, laid_out}
 use Rattle.ff_plan.specs.Planned.{planned}
 use Rattle.ff_plan_layout.specs.Rules.{Rules}
@@ -32,7 +32,7 @@ use Rattle.ff_plan_layout.specs.declared.layout.Laid.{Laid}
 use Rattle.ff_plan_layout.specs.Layout.{IsAmong, Layout, same_ref, placed, origins, shows, streams, is_shown, used, read, is_used, used_inputs, IsLaid}
 use Rattle.ff_plan_layout.specs.Sources.{source_streams}
 use Rattle.ff_plan.specs.Nodes.{before_decs, before_graphs, demux_at, dec_at, graph_at, origin_at, demux_wire, pad_wire, pad_wires, shortest_wire, enc_wire, mux_wire, wires_of, plan_of}
-use Rattle.ff_plan.specs.StartFits.{FitsCutter, FitsStart, StartsFit, FitsGen, FitsDec}
+use Rattle.ff_plan.specs.laws.StartFits.{FitsCutter, FitsStart, StartsFit, FitsGen, FitsDec}
 use Rattle.ff_plan.specs.Wires.{Wire, enters_node, leaves_node, edges_of}
 use Rattle.ff_plan_layout.proofs.Among.{never, all_joined, all_map, all_flat, was_among, among_either, among_map, among_flat, of_flat}
 use Rattle.ff_plan_layout.proofs.Counts.{total_same, tally_any, tally_joined, tally_none, tally_among, tally_filter_few, tally_map, tally_flat}

@@ -19,14 +19,14 @@ use Rattle.ff_plan.specs.Planned.{planned}
 use Rattle.ff_plan_layout.specs.Rules.{Rules, Planned, behind}
 use Rattle.ff_plan_layout.specs.Streams.{Inside, graph_of, some_or, asked, chosen, is_pad, is_graph, simple_of, takes, takes_head, most_streams, passed, passed_from, as_asked, all_passed, front_with}
 use Rattle.ff_plan_layout.specs.Choice.{kind_of}
-use Rattle.ff_plan.specs.Taken.{AreTaken, OutputsFit}
+use Rattle.ff_plan.specs.laws.Taken.{AreTaken, OutputsFit}
 use Rattle.ff_plan.proofs.EndFits.{at_fit, is_at, rows_count, stream_coded}
 use Rattle.ff_plan_layout.proofs.Graphed.{Walked, walked, inside_of}
 use Rattle.ff_plan_layout.proofs.Kept.{nothing, same_some, at_below}
 use Rattle.ff_plan_layout.proofs.Sizes.{map_length}
 use Rattle.ff_plan_layout.proofs.Outs.{was_false, not_false, IsPassed, all_passed_is}
 use Rattle.ff_plan_layout.proofs.Results.{not_ok, same_ok, behind_ok}
-use Rattle.ff_plan.specs.Sound.{KeepsTaken}
+use Rattle.ff_plan.specs.laws.Sound.{KeepsTaken}
 use Rattle.ff_plan_layout.specs.declared.layout.InPad.{InPad}
 use Rattle.ff_plan_layout.specs.declared.layout.OutStream.{OutStream}
 use Rattle.ff_plan_layout.specs.declared.layout.Passed.{Passed}

@@ -5,7 +5,7 @@ use Rattle.std.proofs.lemmas.Bool.Decides.{nat_tests}
 use Rattle.ff_stream.specs.declared.edges.edge.Edge.{Edge}
 use Rattle.ff_plan.specs.Wires.{Wire, edges_behind, edges_of}
 use Rattle.ff_stream.specs.edges.Ports.{leads_to, edge_to, shape_of, IsFed}
-use Rattle.ff_plan.specs.Laws.{GoUpward, IsUp}
+use Rattle.ff_plan.specs.laws.Laws.{GoUpward, IsUp}
 use Rattle.ff_stream.specs.edges.Ports.{HasIns, HasOuts}
 use Rattle.ff_plan_layout.proofs.Tests.{hit, miss}
 

@@ -34,7 +34,7 @@ use Rattle.ff_plan_layout.proofs.Makings.{Comes}
 use Rattle.ff_plan_layout.proofs.Once.{has_no_loop, in_tally, low_in, numbers_are, once_in}
 use Rattle.ff_plan_layout.proofs.Outs.{IsPassed, Passes}
 use Rattle.ff_plan_layout.proofs.Sizes.{joined_length, place_holds}
-use Rattle.ff_plan_layout.specs.Graphs.{AreRules}
+use Rattle.ff_plan_layout.specs.laws.Graphs.{AreRules}
 use Rattle.ff_plan.proofs.Ported.{passing}
 use Rattle.ff_plan.proofs.Spots.{known_in, number_of_source}
 use Rattle.ff_plan.proofs.Wanted.{Own, all_few, ins_shown, shown}

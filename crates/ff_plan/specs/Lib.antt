@@ -1,13 +1,5 @@
-pub mod EndFits
-pub mod Examples
-pub mod GraphFits
-pub mod Laws
-pub mod NodeRows
 pub mod Nodes
-pub mod Numbering
 pub mod Numbers
 pub mod Planned
-pub mod Sound
-pub mod StartFits
-pub mod Taken
 pub mod Wires
+pub mod laws

@@ -4,9 +4,9 @@ ghost use Rattle.ff_time.specs.Fraction.{Fraction};
 ghost use Rattle.ff_format.specs.declared.format.FileFormat.TheVariants as format;
 ghost use Rattle.ff_words.specs.declared.maps.map.Kind.TheVariants as kind;
 ghost use Rattle.ff_plan_layout.specs.declared.error.PlanError.TheVariants as fault;
-ghost use Rattle.ff_plan.specs.Examples.{example_rules, example_job, sound, pictures, map_in, map_nth, map_label, pictures_plan, two_plan};
-ghost use Rattle.ff_plan.specs.Examples.{trim_graph, trimmed_plan, turned_graph, turned_plan, null_between, labelled_rules, turned_graphs, turned_graphs_plan};
-ghost use Rattle.ff_plan.specs.Examples.{unlabelled_plan, automatic_plan, twice_plan, color_made, color_rules, color_graph, color_plan, sounded_plan};
+ghost use Rattle.ff_plan.specs.laws.Examples.{example_rules, example_job, sound, pictures, map_in, map_nth, map_label, pictures_plan, two_plan};
+ghost use Rattle.ff_plan.specs.laws.Examples.{trim_graph, trimmed_plan, turned_graph, turned_plan, null_between, labelled_rules, turned_graphs, turned_graphs_plan};
+ghost use Rattle.ff_plan.specs.laws.Examples.{unlabelled_plan, automatic_plan, twice_plan, color_made, color_rules, color_graph, color_plan, sounded_plan};
 ghost use Rattle.ff_plan.specs.Planned.{planned};
 ghost use Rattle.ff_time.specs.declared.cut.TimeCut.{TimeCut};
 

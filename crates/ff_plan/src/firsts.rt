@@ -5,7 +5,7 @@ ghost use Rattle.ff_words.specs.declared.maps.streams.Stream.{Stream};
 ghost use Rattle.ff_plan_layout.specs.declared.layout.Laid.{Laid};
 ghost use Rattle.ff_plan_layout.specs.Layout.{same_ref as are_same};
 ghost use Rattle.ff_plan.specs.Nodes.{origin_port as port_of_origin};
-ghost use Rattle.ff_plan.specs.Numbering.{dec_in, graph_in, origin_in, IsLow, demux_number as number_of_demux};
+ghost use Rattle.ff_plan.specs.laws.Numbering.{dec_in, graph_in, origin_in, IsLow, demux_number as number_of_demux};
 
 use ff_plan_layout::{Laid, Origin, same_ref};
 use ff_words::maps::{Stream, StreamRef};

@@ -1,18 +1,18 @@
 //! Laws of plans with graphs. Each is a function that does nothing: its clauses hold of all values.
 ghost use Rattle.std.specs.Prelude.{◌≡◌, ◌≤◌, List, length, Ok};
 ghost use Rattle.ff_stream.specs.edges.Ports.{shape_of, IsFed};
-ghost use Rattle.ff_plan.specs.EndFits.{EndsFit};
-ghost use Rattle.ff_plan.specs.GraphFits.{GraphsFit};
-ghost use Rattle.ff_plan_layout.specs.Graphs.{AreRules};
+ghost use Rattle.ff_plan.specs.laws.EndFits.{EndsFit};
+ghost use Rattle.ff_plan.specs.laws.GraphFits.{GraphsFit};
+ghost use Rattle.ff_plan_layout.specs.laws.Graphs.{AreRules};
 ghost use Rattle.ff_plan_layout.specs.Layout.{IsLaid};
-ghost use Rattle.ff_plan.specs.Laws.{GraphsHaveOuts};
+ghost use Rattle.ff_plan.specs.laws.Laws.{GraphsHaveOuts};
 ghost use Rattle.ff_plan_layout.specs.Layout.{Layout};
-ghost use Rattle.ff_plan.specs.NodeRows.{HasRows};
-ghost use Rattle.ff_plan_layout.specs.Limits.{IsWithinLimits};
+ghost use Rattle.ff_plan.specs.laws.NodeRows.{HasRows};
+ghost use Rattle.ff_plan_layout.specs.laws.Limits.{IsWithinLimits};
 ghost use Rattle.ff_plan_layout.specs.LaidOut.{laid_out};
 ghost use Rattle.ff_plan.specs.Planned.{planned};
 ghost use Rattle.ff_plan_layout.specs.Rules.{Rules};
-ghost use Rattle.ff_plan.specs.StartFits.{StartsFit};
+ghost use Rattle.ff_plan.specs.laws.StartFits.{StartsFit};
 ghost use Rattle.ff_plan.specs.declared.planned.Plan.{Plan};
 ghost use Rattle.ff_frame.specs.declared.head.StreamHead.{StreamHead};
 ghost use Rattle.ff_words.specs.declared.job.Job.{Job};

@@ -14,7 +14,7 @@ ghost use Rattle.ff_plan_layout.specs.Rules.{Rules};
 ghost use Rattle.ff_plan_layout.specs.LaidOut.{laid_out};
 ghost use Rattle.ff_plan.specs.Nodes.{mux_at, node_count, nodes_of, wires_of};
 ghost use Rattle.ff_plan_layout.specs.Layout.{IsLaid, EachOnce};
-ghost use Rattle.ff_plan.specs.Laws.{GoUpward, IsNextOf, IsUp, IsNamedOf, named_at, IsNoGraph, GraphsHaveOuts};
+ghost use Rattle.ff_plan.specs.laws.Laws.{GoUpward, IsNextOf, IsUp, IsNamedOf, named_at, IsNoGraph, GraphsHaveOuts};
 
 /// Every input of every node has one edge.
 pub fn wires_have_ins()

@@ -10,10 +10,10 @@
 //!
 //! `planned` of `specs/Planned` says which plan a job has with the heads of its inputs, or which refusal. To the
 //! layout of ff_plan_layout come the numbers of the nodes and the wires between them (`Nodes`). Then come the ports
-//! (`Wires`), of which each that isn't named is the next one of its node. `plan` makes that plan. `specs/Laws` says
-//! what holds of the edges of every plan, and `specs/NodeRows` in which order the nodes stand. `specs/StartFits`,
-//! `specs/GraphFits` and `specs/EndFits` say what stands at their ports. `specs/Numbers` numbers the streams of all
-//! outputs. `specs/Sound` is what the layer that runs a plan rests on. The law of a function that does nothing is its
+//! (`Wires`), of which each that isn't named is the next one of its node. `plan` makes that plan. `specs/laws/Laws` says
+//! what holds of the edges of every plan, and `specs/laws/NodeRows` in which order the nodes stand. `specs/laws/StartFits`,
+//! `specs/laws/GraphFits` and `specs/laws/EndFits` say what stands at their ports. `specs/Numbers` numbers the streams of all
+//! outputs. `specs/laws/Sound` is what the layer that runs a plan rests on. The law of a function that does nothing is its
 //! `ensures`.
 #![tactic(auto)]
 

@@ -7,8 +7,8 @@ ghost use Rattle.ff_plan_layout.specs.declared.layout.Placed.{Placed};
 ghost use Rattle.ff_plan.specs.declared.planned.PlanNode.TheVariants as node;
 ghost use Rattle.ff_plan_layout.specs.Layout.{place_row as row_placed, place_from};
 ghost use Rattle.ff_plan.specs.Nodes.{start_node as node_of_stream};
-ghost use Rattle.ff_plan.specs.Numbering.{nodes_in};
-ghost use Rattle.ff_plan_layout.specs.Rows.{rows};
+ghost use Rattle.ff_plan.specs.laws.Numbering.{nodes_in};
+ghost use Rattle.ff_plan_layout.specs.laws.Rows.{rows};
 
 use crate::planned::PlanNode;
 use ff_plan_layout::{Laid, OutStream, Placed};

@@ -4,10 +4,10 @@ ghost use Rattle.std.specs.List.{AllByRecursion};
 ghost use Rattle.ff_words.specs.maps.Choice.{lists};
 ghost use Rattle.ff_plan_layout.specs.Layout.{placed as placed_in};
 ghost use Rattle.ff_plan.specs.Nodes.{plan_of};
-ghost use Rattle.ff_plan.specs.Numbering.{drawing_of, firsts_at, outputs_wires, plan_in, routes_in};
-ghost use Rattle.ff_plan_layout.specs.Limits.{HasFewIns};
-ghost use Rattle.ff_plan_layout.specs.Limits.{IsSmall};
-ghost use Rattle.ff_plan_layout.specs.Rows.{layout_in};
+ghost use Rattle.ff_plan.specs.laws.Numbering.{drawing_of, firsts_at, outputs_wires, plan_in, routes_in};
+ghost use Rattle.ff_plan_layout.specs.laws.Limits.{HasFewIns};
+ghost use Rattle.ff_plan_layout.specs.laws.Limits.{IsSmall};
+ghost use Rattle.ff_plan_layout.specs.laws.Rows.{layout_in};
 ghost use Rattle.ff_plan.specs.Wires.{edges_of};
 
 use crate::firsts::Firsts;

@@ -8,7 +8,7 @@ ghost use Rattle.ff_plan_layout.specs.declared.layout.Placed.{Placed};
 ghost use Rattle.ff_plan_layout.specs.Layout.{shows as is_shown_by};
 ghost use Rattle.ff_plan_layout.specs.Sources.{source_streams};
 ghost use Rattle.ff_source.specs.declared.made.Made.{Made};
-ghost use Rattle.ff_plan.specs.Numbering.{sources_of, all_sources, has_stream as input_has};
+ghost use Rattle.ff_plan.specs.laws.Numbering.{sources_of, all_sources, has_stream as input_has};
 
 use ff_frame::StreamHead;
 use ff_plan_layout::{InPad, Laid, Origin, Placed, same_ref, stream_at};

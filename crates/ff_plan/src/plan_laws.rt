@@ -1,15 +1,15 @@
 //! Laws of every plan. Each is a function that does nothing: its clauses hold of all values.
 ghost use Rattle.std.specs.Prelude.{◌≡◌, ◌≤◌, ℕ, List, length, Ok, Err};
 ghost use Rattle.std.specs.List.{AllByRecursion};
-ghost use Rattle.ff_plan_layout.specs.Graphs.{AreRules};
-ghost use Rattle.ff_plan_layout.specs.Limits.{IsWithinLimits};
+ghost use Rattle.ff_plan_layout.specs.laws.Graphs.{AreRules};
+ghost use Rattle.ff_plan_layout.specs.laws.Limits.{IsWithinLimits};
 ghost use Rattle.ff_plan.specs.Planned.{planned};
 ghost use Rattle.ff_plan_layout.specs.Rules.{Rules};
 ghost use Rattle.ff_plan_layout.specs.Sources.{sources_of};
-ghost use Rattle.ff_plan.specs.Taken.{AllFrames, AreKeptBy, OutputsFit};
+ghost use Rattle.ff_plan.specs.laws.Taken.{AllFrames, AreKeptBy, OutputsFit};
 ghost use Rattle.ff_plan.specs.declared.planned.Plan.{Plan};
 ghost use Rattle.ff_plan_layout.specs.declared.error.PlanError.TheVariants as fault;
-ghost use Rattle.ff_plan.specs.Sound.{AreRouted, HasFewIns, IsSoundPlan, KeepsTaken, NeverWantsMemory};
+ghost use Rattle.ff_plan.specs.laws.Sound.{AreRouted, HasFewIns, IsSoundPlan, KeepsTaken, NeverWantsMemory};
 ghost use Rattle.ff_frame.specs.declared.config.ConfigError.TheVariants as config;
 ghost use Rattle.ff_frame.specs.declared.head.StreamHead.{StreamHead};
 ghost use Rattle.ff_source.specs.declared.made.Made.{Made};

@@ -1,9 +1,9 @@
 //! The planner of a job.
 ghost use Rattle.std.specs.Prelude.{◌≡◌, Ok, IfOk, IfErr};
 ghost use Rattle.ff_words.specs.maps.Choice.{lists};
-ghost use Rattle.ff_plan_layout.specs.Limits.{IsWithinLimits};
+ghost use Rattle.ff_plan_layout.specs.laws.Limits.{IsWithinLimits};
 ghost use Rattle.ff_plan.specs.Planned.{planned};
-ghost use Rattle.ff_plan_layout.specs.Refusals.{IsRefused};
+ghost use Rattle.ff_plan_layout.specs.laws.Refusals.{IsRefused};
 
 use crate::numbering::numbered_plan;
 use crate::planned::Plan;

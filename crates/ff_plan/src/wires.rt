@@ -1,9 +1,9 @@
 //! The wires between the nodes.
 ghost use Rattle.std.specs.Prelude.{◌≡◌, ◌^◌, ◌<◌, ◌≤◌, ◌++◌, ◌∷◌, [], IfOk, OnOk, length, map};
 ghost use Rattle.std.specs.List.{AllByRecursion, flat_map};
-ghost use Rattle.ff_plan.specs.Numbering.{wire_of, demux_wire_in, pad_wire_in, pad_wires_in, shortest_wire_in};
-ghost use Rattle.ff_plan.specs.Numbering.{enc_wire_in, frame_wires_in, mux_wire_in, wires_in, IsLow};
-ghost use Rattle.ff_plan_layout.specs.Limits.{IsSmall};
+ghost use Rattle.ff_plan.specs.laws.Numbering.{wire_of, demux_wire_in, pad_wire_in, pad_wires_in, shortest_wire_in};
+ghost use Rattle.ff_plan.specs.laws.Numbering.{enc_wire_in, frame_wires_in, mux_wire_in, wires_in, IsLow};
+ghost use Rattle.ff_plan_layout.specs.laws.Limits.{IsSmall};
 
 use crate::firsts::{Firsts, dec_number, demux_number, graph_number, origin_number, port_of};
 use crate::number::Wire;

@@ -7,8 +7,8 @@ use Rattle.ff_frame.specs.declared.head.StreamHead.{StreamHead}
 use Rattle.ff_words.specs.maps.Choice.{lists, numbered, streams_from}
 use Rattle.ff_plan_layout.specs.declared.layout.OutStream.{OutStream}
 use Rattle.ff_plan_layout.specs.Layout.{place_from}
-use Rattle.ff_plan_layout.specs.Rows.{rows}
-use Rattle.ff_plan_layout.specs.Limits.{IsSmall}
+use Rattle.ff_plan_layout.specs.laws.Rows.{rows}
+use Rattle.ff_plan_layout.specs.laws.Limits.{IsSmall}
 use Rattle.ff_plan_layout.proofs.Among.{all_among}
 use Rattle.ff_plan_layout.proofs.Sizes.{joined_length, map_length, place_in, range_length}
 

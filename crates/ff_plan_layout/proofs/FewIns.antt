@@ -13,7 +13,7 @@ use Rattle.ff_plan_layout.specs.declared.layout.Origin.TheVariants as origin
 use Rattle.ff_plan_layout.specs.declared.error.PlanError.TheVariants as fault
 use Rattle.ff_plan_layout.specs.Choice.{kind_of}
 use Rattle.ff_plan_layout.specs.Labels.{refused}
-use Rattle.ff_plan_layout.specs.Limits.{HasFewIns}
+use Rattle.ff_plan_layout.specs.laws.Limits.{HasFewIns}
 use Rattle.ff_plan_layout.specs.LaidOut.{outputs_from, labels_of, graphs_of}
 use Rattle.ff_plan_layout.specs.Rules.{Rules, OpenOut, behind, where_so}
 use Rattle.ff_plan_layout.specs.Sources.{source_pad}

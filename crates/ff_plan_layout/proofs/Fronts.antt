@@ -3,7 +3,7 @@ use Rattle.std.proofs.Common.{◌≡◌, inl, inr, ℕ, zero, suc, ◌+◌, ◌<
 use Rattle.std.specs.Prelude.{Ok, Err}
 use Rattle.std.specs.List.{AllByRecursion}
 use Rattle.ff_plan_layout.specs.declared.error.PlanError.{PlanError}
-use Rattle.ff_plan_layout.specs.Refusals.{IsRefused}
+use Rattle.ff_plan_layout.specs.laws.Refusals.{IsRefused}
 use Rattle.ff_plan_layout.specs.Rules.{Planned, behind}
 use Rattle.ff_plan_layout.specs.Streams.{front_with}
 

@@ -17,12 +17,12 @@ use Rattle.ff_plan_layout.specs.declared.error.PlanError.{PlanError}
 use Rattle.ff_plan_layout.specs.declared.error.PlanError.TheVariants as fault
 use Rattle.ff_plan_layout.specs.Labels.{labels_fault}
 use Rattle.ff_plan_layout.specs.Layout.{Laid, Layout}
-use Rattle.ff_plan_layout.specs.Mapping.{unused_among}
+use Rattle.ff_plan_layout.specs.laws.Mapping.{unused_among}
 use Rattle.ff_plan_layout.specs.Order.{numbers, loop_fault}
 use Rattle.ff_plan_layout.specs.Pads.{Made, make_all}
-use Rattle.ff_plan_layout.specs.Passing.{count_fault, source_count_fault, laid_by, streams_by, rows_behind}
-use Rattle.ff_plan_layout.specs.Rows.{rows, layout_in}
-use Rattle.ff_plan_layout.specs.Refusals.{IsRefused, IsFault}
+use Rattle.ff_plan_layout.specs.laws.Passing.{count_fault, source_count_fault, laid_by, streams_by, rows_behind}
+use Rattle.ff_plan_layout.specs.laws.Rows.{rows, layout_in}
+use Rattle.ff_plan_layout.specs.laws.Refusals.{IsRefused, IsFault}
 use Rattle.ff_plan_layout.specs.LaidOut.{layout_of, limited, laid_out, simple_graphs}
 use Rattle.ff_plan_layout.specs.Rules.{Rules, Planned, behind, unless, or_else, where_so}
 use Rattle.ff_plan_layout.specs.Sources.{sources_of, sources_fault}

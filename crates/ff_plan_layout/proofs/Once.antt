@@ -21,7 +21,7 @@ use Rattle.ff_plan_layout.specs.declared.layout.Origin.{Origin}
 use Rattle.ff_plan_layout.specs.declared.layout.OutStream.{OutStream}
 use Rattle.ff_plan_layout.specs.declared.layout.Placed.{Placed}
 use Rattle.ff_graph_links.specs.labels.Clear.{IsClear}
-use Rattle.ff_plan_layout.specs.Graphs.{AreRules, IsHad, open_taken, open_given, asks}
+use Rattle.ff_plan_layout.specs.laws.Graphs.{AreRules, IsHad, open_taken, open_given, asks}
 use Rattle.ff_plan_layout.specs.Labels.{giver, stream_of_label, taken_labels}
 use Rattle.ff_plan_layout.specs.Layout.{IsAmong, Laid, Layout, place_row, place_from}
 use Rattle.ff_plan_layout.specs.Order.{numbers, loop_of, loop_fault}

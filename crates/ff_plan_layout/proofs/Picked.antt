@@ -5,7 +5,7 @@ use Rattle.ff_lang.specs.declared.graph.Graph.{Graph}
 use Rattle.ff_words.specs.declared.maps.map.MapSpec.{MapSpec}
 use Rattle.ff_words.specs.declared.job.OutputJob.{OutputJob}
 use Rattle.ff_plan_layout.specs.declared.layout.InPad.{InPad}
-use Rattle.ff_plan_layout.specs.Picking.{labels_of_map, used_before, used_by}
+use Rattle.ff_plan_layout.specs.laws.Picking.{labels_of_map, used_before, used_by}
 use Rattle.ff_plan_layout.specs.Rules.{Planned, behind}
 use Rattle.ff_plan_layout.specs.Streams.{Inside, mapped, all_mapped, front_with}
 use Rattle.ff_plan_layout.proofs.Fronts.{drop_next, front_front}

@@ -5,7 +5,7 @@ use Rattle.ff_lang.specs.declared.graph.Graph.{Graph}
 use Rattle.ff_words.specs.declared.job.OutputJob.{OutputJob}
 use Rattle.ff_plan_layout.specs.declared.layout.InPad.{InPad}
 use Rattle.ff_plan_layout.specs.Labels.{taken_labels}
-use Rattle.ff_plan_layout.specs.Picking.{front_of, used_before}
+use Rattle.ff_plan_layout.specs.laws.Picking.{front_of, used_before}
 use Rattle.ff_plan_layout.specs.LaidOut.{labels_of, graphs_of, outputs_from}
 use Rattle.ff_plan_layout.specs.Rules.{Rules, Planned, behind}
 use Rattle.ff_plan_layout.specs.Streams.{Inside, Passed, chosen, all_passed, front_with}

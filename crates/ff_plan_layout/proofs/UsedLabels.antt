@@ -10,7 +10,7 @@ use Rattle.ff_words.specs.declared.maps.map.MapSpec.{MapSpec}
 use Rattle.ff_graph_links.specs.labels.Labels.{is_one_of}
 use Rattle.ff_plan_layout.specs.Labels.{taken_labels}
 use Rattle.ff_plan_layout.specs.LaidOut.{labels_of}
-use Rattle.ff_plan_layout.specs.Picking.{labels_before, labels_of_map, used_before, used_by}
+use Rattle.ff_plan_layout.specs.laws.Picking.{labels_before, labels_of_map, used_before, used_by}
 
 pub is_used_at_all : (l : List ℕ) (used : List (List ℕ)) (outs : List OutputJob) → is_one_of l (used ++ flat_map labels_of outs) ≡ (is_one_of l used || is_one_of l (flat_map labels_of outs))
 is_used_at_all l used outs = list_any-append (bytes_eq l) used (flat_map labels_of outs)

@@ -12,7 +12,7 @@ use Rattle.ff_words.specs.maps.Choice.{lists, streams_of, streams_from}
 use Rattle.ff_plan_layout.specs.Layout.{same_ref}
 use Rattle.ff_plan_layout.specs.Pads.{Want, is_taken}
 use Rattle.ff_plan_layout.specs.declared.layout.Want.TheVariants.{KnownStream, Labelled, Nothing}
-use Rattle.ff_plan_layout.specs.Rows.{flat}
+use Rattle.ff_plan_layout.specs.laws.Rows.{flat}
 use Rattle.ff_stream.specs.edges.Ports.{tally}
 use Rattle.ff_plan_layout.proofs.Counts.{tally_joined}
 use Rattle.ff_plan_layout.proofs.Fronts.{drop_next}

@@ -3,11 +3,11 @@ ghost use Rattle.std.specs.Prelude.{◌≡◌, ◌^◌, ◌<◌, ◌≤◌, ◌+
 ghost use Rattle.std.specs.List.{AllByRecursion, cons_option, flat_map, range_with_len};
 ghost use Rattle.ff_words.specs.maps.Choice.{lists};
 ghost use Rattle.ff_plan_layout.specs.Layout.{placed};
-ghost use Rattle.ff_plan_layout.specs.Limits.{HasFewIns};
-ghost use Rattle.ff_plan_layout.specs.Passing.{laid_by, rows_behind as passed_rows, streams_by};
-ghost use Rattle.ff_plan_layout.specs.Rows.{rows as rows_in, layout_in};
-ghost use Rattle.ff_plan_layout.specs.Limits.{HasShortGraphs, IsWithinLimits, HasFewPads};
-ghost use Rattle.ff_plan_layout.specs.Refusals.{IsRefused};
+ghost use Rattle.ff_plan_layout.specs.laws.Limits.{HasFewIns};
+ghost use Rattle.ff_plan_layout.specs.laws.Passing.{laid_by, rows_behind as passed_rows, streams_by};
+ghost use Rattle.ff_plan_layout.specs.laws.Rows.{rows as rows_in, layout_in};
+ghost use Rattle.ff_plan_layout.specs.laws.Limits.{HasShortGraphs, IsWithinLimits, HasFewPads};
+ghost use Rattle.ff_plan_layout.specs.laws.Refusals.{IsRefused};
 ghost use Rattle.ff_plan_layout.specs.LaidOut.{laid_out};
 ghost use Rattle.ff_plan_layout.specs.Streams.{Passed as Through, graph_of, simple_of};
 ghost use Rattle.ff_plan_layout.specs.Texts.{simple_or_null, texts_of_laid, texts_of_row, texts_from};

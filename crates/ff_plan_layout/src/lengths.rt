@@ -1,7 +1,7 @@
 //! The check whether graphs are short.
 ghost use Rattle.std.specs.Prelude.{◌≡◌, true, false, List};
 ghost use Rattle.std.specs.List.{AllByRecursion};
-ghost use Rattle.ff_plan_layout.specs.Limits.{IsShortIfSome, HasShortGraphs};
+ghost use Rattle.ff_plan_layout.specs.laws.Limits.{IsShortIfSome, HasShortGraphs};
 
 use ff_graph_links::is_short;
 use ff_lang::Graph;

@@ -7,7 +7,7 @@
 //! `laid_out` of `specs/LaidOut` says which layout a job has with the heads of its inputs, or which refusal. First
 //! comes what the complex graphs take and give (`Pads`). Then comes which streams each output has, and what becomes
 //! of each (`Streams`). No number of a node and no port occurs in it. `lay_out` makes that layout, by rules of graphs
-//! that a `Filtering` has: what filters there are and what their graphs make of streams. `specs/Graphs` says what
+//! that a `Filtering` has: what filters there are and what their graphs make of streams. `specs/laws/Graphs` says what
 //! laws of plans need of such rules.
 #![tactic(auto)]
 

@@ -2,7 +2,7 @@
 ghost use Rattle.std.specs.Prelude.{◌≡◌, ◌≤◌, true, false, length};
 ghost use Rattle.std.specs.List.{AllByRecursion};
 ghost use Rattle.ff_words.specs.maps.Choice.{lists};
-ghost use Rattle.ff_plan_layout.specs.Limits.{IsWithinLimits};
+ghost use Rattle.ff_plan_layout.specs.laws.Limits.{IsWithinLimits};
 
 use crate::lengths::have_short_graphs;
 use ff_frame::StreamHead;

@@ -4,9 +4,9 @@ ghost use Rattle.std.specs.List.{AllByRecursion, filter_map, range_with_len};
 ghost use Rattle.ff_words.specs.maps.Choice.{lists};
 ghost use Rattle.ff_plan_layout.specs.Pads.{has_label as label_stands, labelled_out, made_at, pad_in as the_pad_in, head_in as the_head_in, made_of};
 ghost use Rattle.ff_plan_layout.specs.Pads.{configure as as_configured, make_from, make_all as all_made, unlabelled_from, outs_of_made, unlabelled as all_unlabelled};
-ghost use Rattle.ff_plan_layout.specs.Refusals.{IsRefused};
-ghost use Rattle.ff_plan_layout.specs.Limits.{HasFewIns, IsFewWants};
-ghost use Rattle.ff_plan_layout.specs.Limits.{HasFewPads};
+ghost use Rattle.ff_plan_layout.specs.laws.Refusals.{IsRefused};
+ghost use Rattle.ff_plan_layout.specs.laws.Limits.{HasFewIns, IsFewWants};
+ghost use Rattle.ff_plan_layout.specs.laws.Limits.{HasFewPads};
 ghost use Rattle.ff_plan_layout.specs.Sources.{sources_of};
 
 use crate::error::PlanError;

@@ -4,11 +4,11 @@ ghost use Rattle.std.specs.List.{find, flat_map};
 ghost use Rattle.ff_graph_links.specs.labels.Labels.{is_one_of};
 ghost use Rattle.ff_words.specs.declared.maps.map.MapSpec.{MapSpec};
 ghost use Rattle.ff_plan_layout.specs.Labels.{taken_labels};
-ghost use Rattle.ff_plan_layout.specs.Mapping.{is_unused, unused_among};
-ghost use Rattle.ff_plan_layout.specs.Picking.{used_by};
+ghost use Rattle.ff_plan_layout.specs.laws.Mapping.{is_unused, unused_among};
+ghost use Rattle.ff_plan_layout.specs.laws.Picking.{used_by};
 ghost use Rattle.ff_plan_layout.specs.LaidOut.{labels_of, unused_of};
 ghost use Rattle.ff_plan_layout.specs.Streams.{label_in};
-ghost use Rattle.ff_plan_layout.specs.Refusals.{IsFault};
+ghost use Rattle.ff_plan_layout.specs.laws.Refusals.{IsFault};
 
 use crate::error::PlanError;
 use ff_graph_links::{labels_given, takes};

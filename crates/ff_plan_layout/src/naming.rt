@@ -7,7 +7,7 @@ ghost use Rattle.ff_words.specs.maps.Choice.{lists};
 ghost use Rattle.ff_graph_links.specs.labels.Labels.{filters_of};
 ghost use Rattle.ff_plan_layout.specs.Labels.{stream_of_label as of_label, refusal_of, labels_fault};
 ghost use Rattle.ff_plan_layout.specs.Order.{loop_fault};
-ghost use Rattle.ff_plan_layout.specs.Refusals.{IsFault};
+ghost use Rattle.ff_plan_layout.specs.laws.Refusals.{IsFault};
 
 use crate::error::PlanError;
 use crate::filtering::Filtering;

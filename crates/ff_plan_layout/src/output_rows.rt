@@ -2,10 +2,10 @@
 ghost use Rattle.std.specs.Prelude.{◌≡◌, ◌+◌, ◌^◌, ◌<◌, ◌≤◌, ◌++◌, ◌∷◌, [], List, None, Ok, IfOk, IfErr, OnOk, vec_len, length};
 ghost use Rattle.std.specs.List.{AllByRecursion, flat_map};
 ghost use Rattle.ff_plan_layout.specs.Labels.{taken_labels};
-ghost use Rattle.ff_plan_layout.specs.Passing.{count_fault};
-ghost use Rattle.ff_plan_layout.specs.Picking.{inside_of, front_of};
-ghost use Rattle.ff_plan_layout.specs.Refusals.{IsRefused, IsFault};
-ghost use Rattle.ff_plan_layout.specs.Limits.{HasShortGraphs};
+ghost use Rattle.ff_plan_layout.specs.laws.Passing.{count_fault};
+ghost use Rattle.ff_plan_layout.specs.laws.Picking.{inside_of, front_of};
+ghost use Rattle.ff_plan_layout.specs.laws.Refusals.{IsRefused, IsFault};
+ghost use Rattle.ff_plan_layout.specs.laws.Limits.{HasShortGraphs};
 ghost use Rattle.ff_plan_layout.specs.LaidOut.{outputs_from, simple_graphs};
 ghost use Rattle.ff_plan_layout.specs.Streams.{Passed as Through};
 

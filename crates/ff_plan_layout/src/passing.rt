@@ -3,9 +3,9 @@ ghost use Rattle.std.specs.Prelude.{◌≡◌, ◌+◌, ◌^◌, ◌<◌, ◌≤
 ghost use Rattle.ff_graph_links.specs.labels.Labels.{filters_of};
 ghost use Rattle.ff_graph_links.specs.labels.Names.{twice_in, unknown_filter};
 ghost use Rattle.ff_plan_layout.specs.Labels.{refused};
-ghost use Rattle.ff_plan_layout.specs.Passing.{simple_fault};
-ghost use Rattle.ff_plan_layout.specs.Refusals.{IsRefused, IsFault};
-ghost use Rattle.ff_plan_layout.specs.Limits.{IsShort, HasShortGraphs};
+ghost use Rattle.ff_plan_layout.specs.laws.Passing.{simple_fault};
+ghost use Rattle.ff_plan_layout.specs.laws.Refusals.{IsRefused, IsFault};
+ghost use Rattle.ff_plan_layout.specs.laws.Limits.{IsShort, HasShortGraphs};
 ghost use Rattle.ff_plan_layout.specs.LaidOut.{graphs_of};
 ghost use Rattle.ff_plan_layout.specs.Rules.{where_so};
 ghost use Rattle.ff_plan_layout.specs.Sources.{source_pad, pads_of};

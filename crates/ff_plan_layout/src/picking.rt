@@ -1,10 +1,10 @@
 //! The streams of an output before its codecs, with the pads of complex graphs.
 ghost use Rattle.std.specs.Prelude.{◌≡◌, ◌⊎◌, ◌^◌, ◌<◌, [], IfOk, IfErr, Ok, length};
 ghost use Rattle.ff_plan_layout.specs.Labels.{giver as number_of_giver, is_given as seems_given};
-ghost use Rattle.ff_plan_layout.specs.Refusals.{IsRefused};
+ghost use Rattle.ff_plan_layout.specs.laws.Refusals.{IsRefused};
 ghost use Rattle.ff_plan_layout.specs.Streams.{mapped as pads_mapped, all_mapped as all_pads_mapped, automatic as chosen_by_itself};
 ghost use Rattle.ff_plan_layout.specs.Streams.{asked as pads_asked, chosen as pads_chosen};
-ghost use Rattle.ff_plan_layout.specs.Picking.{inside_of, label_mapped, pad_given as the_pad_given, used_before, used_by};
+ghost use Rattle.ff_plan_layout.specs.laws.Picking.{inside_of, label_mapped, pad_given as the_pad_given, used_before, used_by};
 
 use crate::choosing::{at_most_one, kept, shown, unknown};
 use crate::error::PlanError;

@@ -2,7 +2,7 @@
 ghost use Rattle.std.specs.Prelude.{◌^◌, ◌<◌, ◌≤◌, vec_len, length};
 ghost use Rattle.std.proofs.Props.{props};
 ghost use Rattle.std.specs.List.{AllByRecursion};
-ghost use Rattle.ff_plan_layout.specs.Limits.{HasFewPads};
+ghost use Rattle.ff_plan_layout.specs.laws.Limits.{HasFewPads};
 
 use crate::layout::Made;
 use ff_frame::StreamHead;

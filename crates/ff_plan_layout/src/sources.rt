@@ -1,8 +1,8 @@
 //! The streams that the source filters of complex graphs make.
 ghost use Rattle.std.specs.Prelude.{◌≡◌, ◌+◌, ◌^◌, ◌≤◌, ◌++◌, None, IfOk, IfErr, OnOk, vec_len, length};
 ghost use Rattle.std.specs.List.{filter_map};
-ghost use Rattle.ff_plan_layout.specs.Passing.{source_count_fault};
-ghost use Rattle.ff_plan_layout.specs.Refusals.{IsFault};
+ghost use Rattle.ff_plan_layout.specs.laws.Passing.{source_count_fault};
+ghost use Rattle.ff_plan_layout.specs.laws.Refusals.{IsFault};
 ghost use Rattle.ff_plan_layout.specs.Sources.{made_at_pad as made_in, sources_of as all_sources, source_streams as streams_behind, sources_fault};
 
 use crate::error::PlanError;

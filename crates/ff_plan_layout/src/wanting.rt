@@ -7,8 +7,8 @@ ghost use Rattle.ff_plan_layout.specs.Pads.{is_taken as was_taken, is_free as se
 ghost use Rattle.ff_plan_layout.specs.Pads.{want_of as the_want_of, want_at as the_want_at, wants_of as the_wants_of, wants_from};
 ghost use Rattle.ff_plan_layout.specs.Pads.{is_source as is_of_source};
 ghost use Rattle.ff_stream.specs.edges.Ports.{tally};
-ghost use Rattle.ff_plan_layout.specs.Limits.{IsFewWants};
-ghost use Rattle.ff_plan_layout.specs.Rows.{flat};
+ghost use Rattle.ff_plan_layout.specs.laws.Limits.{IsFewWants};
+ghost use Rattle.ff_plan_layout.specs.laws.Rows.{flat};
 
 use crate::filtering::Filtering;
 use crate::labelled::stream_of_label;

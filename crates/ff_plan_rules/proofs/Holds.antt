@@ -14,7 +14,7 @@ use Rattle.ff_graph.specs.Drawings.{seen_graph}
 use Rattle.ff_graph.specs.Opens.{sources_in}
 use Rattle.ff_graph.specs.Configured.{feeds_one, open_outs}
 use Rattle.ff_graph_links.specs.labels.Clear.{IsClear}
-use Rattle.ff_plan_layout.specs.Graphs.{IsHad, AreRules, asks, open_taken, open_given}
+use Rattle.ff_plan_layout.specs.laws.Graphs.{IsHad, AreRules, asks, open_taken, open_given}
 use Rattle.ff_plan_layout.specs.Pads.{has_label}
 use Rattle.ff_plan_layout.specs.declared.open_pads.OpenOut.{OpenOut}
 use Rattle.ff_plan_rules.specs.Rules.{output_as, open_ins, graph_rules}

@@ -11,7 +11,7 @@ use Rattle.ff_stream.specs.edges.Ports.{tally}
 use Rattle.ff_graph_links.specs.labels.Labels.{is_one_of}
 use Rattle.ff_graph.specs.Opens.{open_in, open_ins_at, open_pads}
 use Rattle.ff_graph.specs.Configured.{OpenOut, feeds_one, unless_fed, outs_at, outs_from}
-use Rattle.ff_plan_layout.specs.Graphs.{asks}
+use Rattle.ff_plan_layout.specs.laws.Graphs.{asks}
 use Rattle.ff_plan_layout.specs.Pads.{has_label, label_is}
 use Rattle.ff_plan_layout.specs.declared.open_pads.OpenIn.{OpenIn}
 use Rattle.ff_plan_layout.specs.declared.open_pads.SourcePad.{SourcePad}

@@ -8,7 +8,7 @@ use Rattle.ff_frame.specs.declared.head.StreamHead.TheVariants.{Audio, Video}
 use Rattle.ff_frame.specs.Heads.{base_of_head}
 use Rattle.ff_lang.specs.declared.graph.Graph.{Graph}
 use Rattle.ff_words.specs.declared.job.OutputJob.{OutputJob}
-use Rattle.ff_plan_layout.specs.Graphs.{IsHad}
+use Rattle.ff_plan_layout.specs.laws.Graphs.{IsHad}
 use Rattle.ff_plan_layout.specs.Streams.{takes_head}
 use Rattle.ff_plan_layout.specs.Rules.{Rules}
 use Rattle.ff_plan_layout.specs.declared.open_pads.OpenOut.{OpenOut}

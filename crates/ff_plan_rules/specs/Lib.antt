@@ -1,4 +1,4 @@
 pub mod Maps
 pub mod Rules
 pub mod Kept
-pub mod Examples
+pub mod laws

@@ -3,7 +3,7 @@ ghost use Rattle.std.specs.Prelude.{◌≡◌, true, false, [], ◌∷◌, codes
 ghost use Rattle.ff_frame.specs.declared.config.ConfigError.TheVariants.{BadOption, Pads};
 ghost use Rattle.ff_words.specs.declared.maps.map.Kind.TheVariants as kind;
 ghost use Rattle.ff_words.specs.declared.maps.map.Pick.TheVariants as pick;
-ghost use Rattle.ff_plan_rules.specs.Examples.{of_input, of_label, pictures, alone};
+ghost use Rattle.ff_plan_rules.specs.laws.Examples.{of_input, of_label, pictures, alone};
 ghost use Rattle.ff_plan_rules.specs.Rules.{graph_rules};
 
 /// Strings and the maps that they are.

@@ -1,6 +1,6 @@
 //! The open input pads of a graph, as plans have them.
 ghost use Rattle.std.specs.Prelude.{◌≡◌, ◌≤◌, ◌^◌, IfOk, length};
-ghost use Rattle.ff_graph.specs.Pads.{input_of};
+ghost use Rattle.ff_graph.specs.laws.Pads.{input_of};
 ghost use Rattle.ff_plan_rules.specs.Rules.{kind_by as kind_of, source_as, input_as, open_ins};
 
 use ff_graph::{OpenInput, SourceInput, open_inputs};

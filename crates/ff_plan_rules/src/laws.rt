@@ -5,7 +5,7 @@ ghost use Rattle.ff_lang.specs.declared.graph.Graph.{Graph as Text};
 ghost use Rattle.ff_graph_links.specs.labels.Labels.{filters_of};
 ghost use Rattle.ff_words.specs.maps.Grammar.{IsMap};
 ghost use Rattle.ff_words.specs.declared.maps.map.MapSpec.{MapSpec};
-ghost use Rattle.ff_plan_layout.specs.Graphs.{AreRules};
+ghost use Rattle.ff_plan_layout.specs.laws.Graphs.{AreRules};
 ghost use Rattle.ff_plan_layout.specs.declared.open_pads.OpenOut.{OpenOut};
 ghost use Rattle.ff_plan_layout.specs.declared.open_pads.Refused.{Refused};
 ghost use Rattle.ff_plan_rules.specs.Kept.{AreFitHeads, KeepHeads};

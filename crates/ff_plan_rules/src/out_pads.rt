@@ -1,6 +1,6 @@
 //! The open output pads of a graph, as plans have them.
 ghost use Rattle.std.specs.Prelude.{◌≡◌, ◌≤◌, ◌^◌, IfOk, length, map};
-ghost use Rattle.ff_graph.specs.Pads.{output_of};
+ghost use Rattle.ff_graph.specs.laws.Pads.{output_of};
 ghost use Rattle.ff_plan_rules.specs.Rules.{output_as, is_empty as has_none, configured as configured_as};
 
 use crate::in_pads::MOST_PADS;

@@ -2,4 +2,4 @@ pub mod Grid
 pub mod Flips
 pub mod Parts
 pub mod Stacks
-pub mod Examples
+pub mod laws

@@ -11,7 +11,7 @@ ghost use Rattle.ff_planes.specs.Grid.{columns, rows, pixel, picture_of};
 ghost use Rattle.ff_planes.specs.Flips.{hflipped, vflipped};
 ghost use Rattle.ff_planes.specs.Parts.{IsPart, cropped, padded};
 ghost use Rattle.ff_planes.specs.Stacks.{hstacked, vstacked, all_columns, all_rows, AreOnColumns, AreOnRows, FillColumns, FillRows};
-ghost use Rattle.ff_planes.specs.Examples.{three_by_two, right_column, in_the_middle, grey, two_by_one};
+ghost use Rattle.ff_planes.specs.laws.Examples.{three_by_two, right_column, in_the_middle, grey, two_by_one};
 
 /// The frame whose pixels a function gives has these pixels, and no more bytes than they are.
 pub fn a_picture_has_the_pixels_that_make_it()

@@ -4,7 +4,7 @@ use Rattle.ff_input.specs.Formats.{InputHead}
 use Rattle.ff_words.specs.declared.job.Job.{Job}
 use Rattle.ff_run.specs.build.Parts.{all_kinds}
 use Rattle.ff_command.specs.Steps.{AreAllHeads}
-use Rattle.ff_run_plan.specs.Accepting.{IsAccepted}
+use Rattle.ff_run_plan.specs.laws.Accepting.{IsAccepted}
 
 pub accepted : (job : Job) (heads : List InputHead) → AreAllHeads job heads → IsAccepted all_kinds job heads
 accepted job heads all = record {

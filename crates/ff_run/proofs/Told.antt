@@ -1,9 +1,9 @@
 -- A run that did all tells something of each output.
-use Rattle.ff_run.specs.build.Events.{some_events}
+use Rattle.ff_run.specs.laws.build.Events.{some_events}
 use Rattle.ff_run.specs.build.Parts.{all_kinds}
 use Rattle.ff_run_plan.specs.Asked.{asked_of}
 use Rattle.ff_run_plan.proofs.Histories.{tells_some}
-use Rattle.ff_run.specs.Telling.{NoneIsEmpty}
+use Rattle.ff_run.specs.laws.Telling.{NoneIsEmpty}
 
 pub none_is_empty : NoneIsEmpty
 none_is_empty words files outputs h =

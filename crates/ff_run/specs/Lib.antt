@@ -1,4 +1,3 @@
 pub mod Meaning
-pub mod Saying
-pub mod Telling
 pub mod build
+pub mod laws

@@ -11,7 +11,7 @@
 //! of its outputs. `Joint` has the streams of an output together, and ends them with the shortest where that is asked
 //! for. `FlacEnc` encodes FLAC, whose packets aren't one for each frame. [`Parts`] builds them (`Kinds` of
 //! `ff_run_plan`): `specs/build/Parts` has what each is there for, by the definitions of its format, codec or filters
-//! alone, and `specs/build/Events` which events each has to tell.
+//! alone, and `specs/laws/build/Events` which events each has to tell.
 
 mod laws;
 mod part;

@@ -19,5 +19,5 @@ mod run;
 mod worker;
 
 pub use build::{Part, Parts, Through, events_of_a_plan};
-pub use laws::{no_file_is_in_what_is_made, no_history_is_empty};
+pub use laws::{a_job_without_inputs_means_one_thing, no_history_is_empty};
 pub use run::ffmpeg;

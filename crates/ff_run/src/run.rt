@@ -10,7 +10,7 @@ ghost use Rattle.ff_reader.specs.declared.fault.HeadFault.TheVariants as head_fa
 ghost use Rattle.ff_words.specs.Words.{texts, fault};
 ghost use Rattle.ff_words.specs.declared.error.Fault.{Fault};
 ghost use Rattle.ff_run_plan.specs.declared.fault.RunFault.TheVariants as run_fault;
-ghost use Rattle.ff_files.specs.Targets.{target_holds, target_name, target_faults};
+ghost use Rattle.ff_files.specs.laws.Targets.{target_holds, target_name, target_faults};
 ghost use Rattle.ff_files.specs.Counts.{counted};
 ghost use Rattle.ff_files.specs.Ends.{IsPlanRefused, IsBroken};
 ghost use Rattle.ff_command.specs.Command.{AsksAlone, AsksText, AskGenerated, AsksGenerated, IsDue, IsOwnAnswer, ReportsOwn, ReportsOwnReads};
@@ -19,10 +19,10 @@ ghost use Rattle.ff_command.specs.Command.{refused_head, refused_plan, over, Hol
 ghost use Rattle.ff_command.specs.Command.{KeepsThere, HasFailed, GivesNoHead, GivesNoPlan, GivesAll, KeepsInputCounts, KeepsOutputCounts};
 ghost use Rattle.ff_command.specs.Steps.{CreatesAsked};
 ghost use Rattle.ff_run.specs.build.Parts.{all_kinds};
-ghost use Rattle.ff_run_plan.specs.Accepting.{IsAccepted, IsPlanFor};
+ghost use Rattle.ff_run_plan.specs.laws.Accepting.{IsAccepted, IsPlanFor};
 ghost use Rattle.ff_run.specs.Meaning.{job_means, IsJobHistory, AreJobReads};
 ghost use Rattle.ff_run_plan.specs.Reads.{places_in};
-ghost use Rattle.ff_run.specs.Saying.{BegunSays, JobSays, PlanSays, QuietSays};
+ghost use Rattle.ff_run.specs.laws.Saying.{BegunSays, JobSays, PlanSays, QuietSays};
 
 use crate::build::{Part, Parts};
 use crate::worker::Threaded;

@@ -3,10 +3,10 @@ ghost use Rattle.std.specs.Prelude.{◌≡◌, ℕ, List, length, Option, Some, 
 ghost use Rattle.ff_run.specs.build.Parts.{all_kinds};
 ghost use Rattle.ff_command.specs.Histories.{LogHas};
 ghost use Rattle.ff_command.specs.Steps.{AreAllHeads};
-ghost use Rattle.ff_files.specs.Runs.{RunSays};
-ghost use Rattle.ff_run_plan.specs.Accepting.{IsAccepted, IsPlanFor};
+ghost use Rattle.ff_files.specs.laws.Runs.{RunSays};
+ghost use Rattle.ff_run_plan.specs.laws.Accepting.{IsAccepted, IsPlanFor};
 ghost use Rattle.ff_run.specs.Meaning.{job_means, IsJobHistory, AreJobReads};
-ghost use Rattle.ff_run.specs.Saying.{JobSays, PlanSays};
+ghost use Rattle.ff_run.specs.laws.Saying.{JobSays, PlanSays};
 
 use ff_command::Worker;
 use ff_files::{Done, PlanEnd, WorkEnd};

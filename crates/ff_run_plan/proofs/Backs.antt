@@ -4,7 +4,7 @@ use Rattle.std.proofs.lemmas.Option.{slice_get_past}
 use Rattle.ff_plan.specs.declared.planned.PlanNode.{PlanNode}
 use Rattle.ff_plan.specs.declared.planned.PlanNode.TheVariants as node
 use Rattle.ff_stream.specs.declared.edges.edge.Edge.{Edge}
-use Rattle.ff_net.specs.Views.{View}
+use Rattle.ff_net.specs.laws.Views.{View}
 use Rattle.ff_run_plan.specs.Asked.{Asked}
 use Rattle.ff_run_plan.specs.Kinds.{KindsOf, IsEndOf, IsSinkOf}
 use Rattle.ff_run_plan.specs.Parts.{IsBefore, IsAside, AllAside, AreParts, AreBack}

@@ -7,7 +7,7 @@ use Rattle.ff_source.specs.declared.made.Made.{Made}
 use Rattle.ff_words.specs.declared.job.Job.{Job}
 use Rattle.ff_words.specs.declared.job.OutputJob.{OutputJob}
 use Rattle.ff_stream.specs.declared.edges.edge.Edge.{Edge}
-use Rattle.ff_net.specs.Views.{View}
+use Rattle.ff_net.specs.laws.Views.{View}
 use Rattle.ff_net.specs.Ways.{Flow}
 use Rattle.ff_plan.specs.declared.planned.Plan.{Plan}
 use Rattle.ff_plan.specs.declared.planned.PlanNode.{PlanNode}
@@ -20,11 +20,11 @@ use Rattle.ff_files.specs.Works.{AreTold, HoldFiles, HoldParts, HoldsPart, KeepE
 use Rattle.ff_run_plan.specs.Asked.{Asked, asked_of}
 use Rattle.ff_run_plan.specs.declared.fault.RunFault.{RunFault}
 use Rattle.ff_run_plan.specs.Kinds.{KindsOf}
-use Rattle.ff_run_plan.specs.Claims.{tell_all}
+use Rattle.ff_run_plan.specs.laws.Claims.{tell_all}
 use Rattle.ff_run_plan.specs.Meaning.{mux_node, BreaksBy, file_of, text_of, means}
-use Rattle.ff_run_plan.specs.Accepting.{IsPlanFor}
+use Rattle.ff_run_plan.specs.laws.Accepting.{IsPlanFor}
 use Rattle.ff_run_plan.specs.Parts.{AreOrdered}
-use Rattle.ff_run_plan.specs.Runs.{IsDone}
+use Rattle.ff_run_plan.specs.laws.Runs.{IsDone}
 use Rattle.ff_run_plan.proofs.Outcomes as outcome
 use Rattle.ff_run_plan.proofs.Telling.{tells_told}
 

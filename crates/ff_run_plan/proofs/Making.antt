@@ -10,7 +10,7 @@ use Rattle.ff_source.specs.declared.made.Made.{Made}
 use Rattle.ff_source.specs.Sources.{head_of}
 use Rattle.ff_words.specs.declared.job.OutputJob.{OutputJob}
 use Rattle.ff_net.specs.Pasts.{start}
-use Rattle.ff_net.specs.Views.{View}
+use Rattle.ff_net.specs.laws.Views.{View}
 use Rattle.ff_plan.specs.declared.planned.PlanNode.TheVariants as node
 use Rattle.ff_run_plan.specs.Asked.{Asked}
 use Rattle.ff_run_plan.specs.Kinds.{KindsOf, IsNew}

@@ -3,9 +3,9 @@ use Rattle.std.proofs.Common.{◌≡◌, ◌≢◌, ◌⊎◌, inl, inr, ℕ, �
 use Rattle.std.proofs.lemmas.Option.{slice_get_within, get_or_from_slice_get}
 use Rattle.ff_host.specs.Causes.{Rose}
 use Rattle.ff_net.specs.declared.fault.Fault.TheVariants.{Device}
-use Rattle.ff_net.specs.Laws.{FaultStep}
-use Rattle.ff_net.specs.Views.{View}
-use Rattle.ff_net_threads.specs.network.Runs.{AllKept}
+use Rattle.ff_net.specs.laws.Laws.{FaultStep}
+use Rattle.ff_net.specs.laws.Views.{View}
+use Rattle.ff_net_threads.specs.laws.network.Runs.{AllKept}
 use Rattle.ff_plan.specs.declared.planned.PlanNode.{PlanNode}
 use Rattle.ff_files.specs.Works.{KeepEnds}
 use Rattle.ff_run_plan.specs.Kinds.{IsEndOf}

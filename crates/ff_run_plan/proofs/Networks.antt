@@ -5,20 +5,20 @@ use Rattle.ff_stream.specs.declared.item.Lane.{Lane}
 use Rattle.ff_stream.specs.declared.edges.edge.Edge.{Edge}
 use Rattle.ff_stream.specs.edges.Ports.{edge_to, edge_from, at_ports}
 use Rattle.ff_net.specs.declared.fault.Fault.TheVariants.{NoMemory}
-use Rattle.ff_net.specs.Laws.{FaultStep, IsOfInputs}
+use Rattle.ff_net.specs.laws.Laws.{FaultStep, IsOfInputs}
 use Rattle.ff_net.specs.Nets.{Part, solve}
 use Rattle.ff_net.specs.Pasts.{Task, start}
-use Rattle.ff_net.specs.Views.{View}
+use Rattle.ff_net.specs.laws.Views.{View}
 use Rattle.ff_net.specs.Ways.{Flow, lane_at}
 use Rattle.ff_net_threads.specs.declared.network.run.NodeFault.{NodeFault}
 use Rattle.ff_net_threads.specs.network.Fits.{Ports, AreFit, edge_lanes, ins_at, outs_at, part_at, parts_from, network}
-use Rattle.ff_net_threads.specs.network.Networks.{AllStart, lanes_at, ports_of}
-use Rattle.ff_net_threads.specs.network.Runs.{AllKept, FedPart, FedAll, MeetsNetwork, TellsFault}
+use Rattle.ff_net_threads.specs.laws.network.Networks.{AllStart, lanes_at, ports_of}
+use Rattle.ff_net_threads.specs.laws.network.Runs.{AllKept, FedPart, FedAll, MeetsNetwork, TellsFault}
 use Rattle.ff_stream.specs.edges.Ports.{lanes_out_of}
 use Rattle.ff_net_threads.specs.network.Fits.{ports_by}
 use Rattle.ff_run_plan.specs.Meaning.{edges_into}
 use Rattle.ff_run_plan.specs.Openings.{unstarted, or_memory}
-use Rattle.ff_run_plan.specs.Runs.{TellsRun, MeetsStreams}
+use Rattle.ff_run_plan.specs.laws.Runs.{TellsRun, MeetsStreams}
 use Rattle.ff_run_plan.proofs.Numbers.{there, same_some}
 
 -- the lanes of the part of a number

@@ -9,8 +9,8 @@ use Rattle.ff_words.specs.declared.job.OutputJob.{OutputJob}
 use Rattle.ff_stream.specs.declared.edges.edge.Edge.{Edge}
 use Rattle.ff_net.specs.declared.fault.Fault.{Fault}
 use Rattle.ff_net.specs.declared.fault.Fault.TheVariants.{Device, Damaged, TooLong, TooLarge, NoMemory}
-use Rattle.ff_net.specs.Laws.{IsOfInputs}
-use Rattle.ff_net.specs.Views.{View}
+use Rattle.ff_net.specs.laws.Laws.{IsOfInputs}
+use Rattle.ff_net.specs.laws.Views.{View}
 use Rattle.ff_net.specs.Ways.{Flow}
 use Rattle.ff_net_threads.specs.declared.network.run.NodeFault.{NodeFault}
 use Rattle.ff_plan.specs.declared.planned.PlanNode.{PlanNode}
@@ -26,7 +26,7 @@ use Rattle.ff_stream.specs.edges.Ports.{lanes_into, lanes_out_of}
 use Rattle.ff_run_plan.specs.Tasks.{first_at, heads_on, mux_by}
 use Rattle.ff_run_plan.specs.Meaning.{edges_into, read_before, comes_after, task_by, task_at, solution, streams_into, mux_node, file_by, text_by, file_in, text_in, BreaksIn}
 use Rattle.ff_run_plan.specs.Parts.{FitsMux, AreFitting, AreOrdered, AreBack}
-use Rattle.ff_run_plan.specs.Runs.{AreRun, device_end, damaged_end, large_end, end_at, end_in, end_with}
+use Rattle.ff_run_plan.specs.laws.Runs.{AreRun, device_end, damaged_end, large_end, end_at, end_in, end_with}
 use Rattle.ff_run_plan.proofs.Gathering.{mux_once}
 use Rattle.ff_run_plan.proofs.Moves.{AreEnds, keep_ends, unfailed, has_risen}
 use Rattle.ff_run_plan.proofs.Numbers.{there, same_some, ordered, demux_before, mux_before}

@@ -25,12 +25,12 @@ use Rattle.ff_plan_layout.specs.declared.layout.GraphText.{GraphText}
 use Rattle.ff_plan.specs.declared.planned.Plan.{Plan}
 use Rattle.ff_plan.specs.declared.planned.PlanNode.{PlanNode}
 use Rattle.ff_plan.specs.declared.planned.PlanNode.TheVariants as node
-use Rattle.ff_plan.specs.EndFits as ends
-use Rattle.ff_plan.specs.GraphFits as graphs
+use Rattle.ff_plan.specs.laws.EndFits as ends
+use Rattle.ff_plan.specs.laws.GraphFits as graphs
 use Rattle.ff_plan.specs.Numbers.{streams_between}
-use Rattle.ff_plan.specs.StartFits as starts
+use Rattle.ff_plan.specs.laws.StartFits as starts
 use Rattle.ff_plan_layout.specs.Streams.{most_streams, packed_as, takes_head}
-use Rattle.ff_plan.specs.Taken.{AllFrames, HasFrames, OutputsFit}
+use Rattle.ff_plan.specs.laws.Taken.{AllFrames, HasFrames, OutputsFit}
 use Rattle.ff_run_plan.specs.Asked.{Asked, asked_of, text_there}
 use Rattle.ff_run_plan.specs.Kinds.{KindsOf, GraphsAreHad, SourcesAreHad}
 use Rattle.ff_run_plan.specs.Parts.{IsFitting, AreOrdered, HaveNumbers}

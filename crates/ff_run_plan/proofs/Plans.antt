@@ -14,25 +14,25 @@ use Rattle.ff_plan_layout.specs.declared.error.PlanError.{PlanError}
 use Rattle.ff_plan_layout.specs.declared.error.PlanError.TheVariants.{NoMemory}
 use Rattle.ff_plan.specs.declared.planned.PlanNode.{PlanNode}
 use Rattle.ff_plan.specs.declared.planned.PlanNode.TheVariants as node
-use Rattle.ff_plan.specs.EndFits.{FitsEnd}
-use Rattle.ff_plan.specs.GraphFits.{GraphsFit}
-use Rattle.ff_plan.specs.NodeRows.{HasRows}
-use Rattle.ff_plan_layout.specs.Limits.{IsWithinLimits}
-use Rattle.ff_plan_layout.specs.Refusals.{IsRefused}
+use Rattle.ff_plan.specs.laws.EndFits.{FitsEnd}
+use Rattle.ff_plan.specs.laws.GraphFits.{GraphsFit}
+use Rattle.ff_plan.specs.laws.NodeRows.{HasRows}
+use Rattle.ff_plan_layout.specs.laws.Limits.{IsWithinLimits}
+use Rattle.ff_plan_layout.specs.laws.Refusals.{IsRefused}
 use Rattle.ff_plan.specs.Planned.{planned}
 use Rattle.ff_plan_layout.specs.Rules.{Rules}
 use Rattle.ff_plan_layout.specs.Sources.{sources_of}
 use Rattle.ff_source.specs.declared.made.Made.{Made}
 use Rattle.ff_source.specs.Sources.{head_of}
-use Rattle.ff_plan.specs.StartFits.{FitsGen, FitsStart, StartsFit}
+use Rattle.ff_plan.specs.laws.StartFits.{FitsGen, FitsStart, StartsFit}
 use Rattle.ff_plan_layout.specs.Streams.{most_streams, packed_as, takes_head}
-use Rattle.ff_plan.specs.Taken.{AllFrames}
+use Rattle.ff_plan.specs.laws.Taken.{AllFrames}
 use Rattle.ff_run_plan.specs.Kinds.{KindsOf, GraphsAreHad, SourcesAreHad}
 use Rattle.ff_run_plan.specs.Meaning.{plan_for, refusal_of}
-use Rattle.ff_run_plan.specs.Accepting.{IsAccepted, IsPlanFor}
+use Rattle.ff_run_plan.specs.laws.Accepting.{IsAccepted, IsPlanFor}
 use Rattle.ff_run_plan.specs.Asked.{asked_of}
 use Rattle.ff_run_plan.specs.Parts.{AreBelow, AreFitting}
-use Rattle.ff_plan.specs.Sound.{IsSoundPlan}
+use Rattle.ff_plan.specs.laws.Sound.{IsSoundPlan}
 use Rattle.ff_run_plan.proofs.Gathering.{source_kind}
 use Rattle.ff_run_plan.proofs.Numbers.{there}
 use Rattle.ff_run_plan.proofs.Planning as fits

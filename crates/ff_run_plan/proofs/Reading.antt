@@ -14,17 +14,17 @@ use Rattle.ff_stream.specs.declared.edges.edge.Edge.{Edge}
 use Rattle.ff_stream.specs.edges.Ports.{lanes_into, lanes_out_of}
 use Rattle.ff_sched.specs.declared.routes.Routes.{Routes}
 use Rattle.ff_sched.specs.State.{State}
-use Rattle.ff_net.specs.Laws.{Laws, reads_of}
+use Rattle.ff_net.specs.laws.Laws.{Laws, reads_of}
 use Rattle.ff_net.specs.Nets.{Part, solve}
 use Rattle.ff_net.specs.Pasts.{Task, IsIn, cut_to}
-use Rattle.ff_net.specs.Serial.{tried_by, tried_of}
-use Rattle.ff_net.specs.Views.{View}
+use Rattle.ff_net.specs.laws.Serial.{tried_by, tried_of}
+use Rattle.ff_net.specs.laws.Views.{View}
 use Rattle.ff_net.specs.Ways.{Flow, AreValid}
 use Rattle.ff_net_threads.specs.declared.network.run.NodeFault.{NodeFault}
 use Rattle.ff_net_threads.specs.network.Fits.{Ports, ports_by, ins_at, outs_at, part_at, parts_from, network}
-use Rattle.ff_net_threads.specs.network.Networks.{AllStart, ports_of}
-use Rattle.ff_net_threads.specs.network.Runs.{read_parts}
-use Rattle.ff_net_threads.specs.network.Scheduling.{AreLogged, ReadsUnderGrants}
+use Rattle.ff_net_threads.specs.laws.network.Networks.{AllStart, ports_of}
+use Rattle.ff_net_threads.specs.laws.network.Runs.{read_parts}
+use Rattle.ff_net_threads.specs.laws.network.Scheduling.{AreLogged, ReadsUnderGrants}
 use Rattle.ff_plan.specs.declared.planned.Plan.{Plan}
 use Rattle.ff_plan.specs.declared.planned.PlanNode.{PlanNode}
 use Rattle.ff_plan.specs.declared.planned.PlanNode.TheVariants as node
@@ -34,8 +34,8 @@ use Rattle.ff_files.specs.Works.{AreTold}
 use Rattle.ff_run_plan.specs.Asked.{Asked, asked_of}
 use Rattle.ff_run_plan.specs.declared.fault.RunFault.{RunFault}
 use Rattle.ff_run_plan.specs.declared.reads.RunLog.{RunLog}
-use Rattle.ff_run_plan.specs.Accepting.{IsPlanFor}
-use Rattle.ff_run_plan.specs.Claims.{tell_all}
+use Rattle.ff_run_plan.specs.laws.Accepting.{IsPlanFor}
+use Rattle.ff_run_plan.specs.laws.Claims.{tell_all}
 use Rattle.ff_run_plan.specs.Events.{TellOfThemselves}
 use Rattle.ff_run_plan.specs.Histories.{state_before, AreScheduled}
 use Rattle.ff_run_plan.specs.Kinds.{KindsOf, TellsExit}
@@ -43,7 +43,7 @@ use Rattle.ff_run_plan.specs.Meaning.{edges_into, mux_node, solution, task_at}
 use Rattle.ff_run_plan.specs.Openings.{is_read}
 use Rattle.ff_run_plan.specs.Parts.{FitsMux, AreBelow, AreFitting, AreOrdered, AreBack, source_in, source_at}
 use Rattle.ff_run_plan.specs.Reads.{grants_of, places_in, reads_at, AreGranted, as_read, read_task, read_solution, AreEnough, IsLogFor, tried_in, first_reads, AreSufficient, IsLogOf}
-use Rattle.ff_run_plan.specs.Runs.{AreRun}
+use Rattle.ff_run_plan.specs.laws.Runs.{AreRun}
 use Rattle.ff_run_plan.proofs.Gathering.{source_once}
 use Rattle.ff_run_plan.proofs.Grants.{no_more, front, first_rise, first_held, at_upto, beyond_upto, long_upto}
 use Rattle.ff_run_plan.proofs.Networks.{plan_net, plan_ins, plan_outs}

@@ -8,7 +8,7 @@ use Rattle.ff_words.specs.declared.maps.streams.StreamRef.{StreamRef}
 use Rattle.ff_plan.specs.declared.planned.PlanNode.{PlanNode}
 use Rattle.ff_plan.specs.declared.planned.PlanNode.TheVariants as node
 use Rattle.ff_plan_layout.specs.Layout.{placed}
-use Rattle.ff_plan.specs.NodeRows.{HasRows}
+use Rattle.ff_plan.specs.laws.NodeRows.{HasRows}
 use Rattle.ff_run_plan.specs.Parts.{AreOrdered}
 use Rattle.ff_run_plan.proofs.Numbers.{ordered}
 

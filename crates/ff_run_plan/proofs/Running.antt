@@ -5,11 +5,11 @@ use Rattle.ff_stream.specs.declared.edges.edge.Edge.{Edge}
 use Rattle.ff_stream.specs.declared.item.Lane.{Lane}
 use Rattle.ff_stream.specs.edges.Ports.{lanes_into, lanes_out_of}
 use Rattle.ff_net.specs.Pasts.{Task, start}
-use Rattle.ff_net.specs.Views.{View}
+use Rattle.ff_net.specs.laws.Views.{View}
 use Rattle.ff_net_threads.specs.declared.network.run.NodeFault.{NodeFault}
 use Rattle.ff_net_threads.specs.network.Fits.{AreFit, ports_by, ins_at, outs_at, network}
-use Rattle.ff_net_threads.specs.network.Networks.{AllStart, ports_of}
-use Rattle.ff_net_threads.specs.network.Runs.{AllKept, MeetsNetwork}
+use Rattle.ff_net_threads.specs.laws.network.Networks.{AllStart, ports_of}
+use Rattle.ff_net_threads.specs.laws.network.Runs.{AllKept, MeetsNetwork}
 use Rattle.ff_plan.specs.declared.planned.PlanNode.{PlanNode}
 use Rattle.ff_plan.specs.declared.planned.PlanNode.TheVariants as node
 use Rattle.ff_sched.specs.declared.routes.Routes.{Routes}
@@ -18,8 +18,8 @@ use Rattle.ff_run_plan.specs.Asked.{Asked}
 use Rattle.ff_run_plan.specs.Kinds.{KindsOf}
 use Rattle.ff_run_plan.specs.Meaning.{task_by, task_at}
 use Rattle.ff_run_plan.specs.Parts.{FitsDemux, FitsMux, IsFitting, AreFitting, AreBelow, HasEnds, AreParts, source_in, source_at}
-use Rattle.ff_run_plan.specs.Runs.{TellsRun, AreRun}
-use Rattle.ff_net_threads.specs.network.Scheduling.{AllRouted}
+use Rattle.ff_run_plan.specs.laws.Runs.{TellsRun, AreRun}
+use Rattle.ff_net_threads.specs.laws.network.Scheduling.{AllRouted}
 use Rattle.ff_run_plan.specs.Openings.{unstarted}
 use Rattle.ff_run_plan.proofs.Networks.{kept_same, unstarted_tells, unstarted_streams, parts_fit, meets_streams}
 use Rattle.ff_run_plan.proofs.Numbers.{there}

@@ -1,7 +1,7 @@
 -- What all sources and sinks tell together.
 use Rattle.std.proofs.Common.{◌≡◌, ℕ, zero, suc, ◌<◌, ◌&&◌, Bool, true, false, List, [], ◌∷◌, length, map, slice_index_or, Option, Some, None, refl, sym, ap, ◌∙◌, arith}
 use Rattle.ff_files.specs.Works.{AreTold}
-use Rattle.ff_run_plan.specs.Claims.{tells_left, tells_empty, all_tell, tell_all}
+use Rattle.ff_run_plan.specs.laws.Claims.{tells_left, tells_empty, all_tell, tell_all}
 
 both_left : (a b : Bool) → (a && b) ≡ true → a ≡ true
 both_left true b e = refl

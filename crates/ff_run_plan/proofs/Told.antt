@@ -16,15 +16,15 @@ use Rattle.ff_stream.specs.edges.Ports.{lanes_into, lanes_out_of}
 use Rattle.ff_sched.specs.declared.logged.Logged.{Logged}
 use Rattle.ff_sched.specs.declared.routes.Routes.{Routes}
 use Rattle.ff_sched.specs.State.{State}
-use Rattle.ff_net.specs.Laws.{Laws}
+use Rattle.ff_net.specs.laws.Laws.{Laws}
 use Rattle.ff_net.specs.Nets.{solve}
 use Rattle.ff_net.specs.Pasts.{Feed, Task, start}
-use Rattle.ff_net.specs.Views.{View}
+use Rattle.ff_net.specs.laws.Views.{View}
 use Rattle.ff_net.specs.Ways.{Flow}
 use Rattle.ff_net_threads.specs.declared.network.run.NodeFault.{NodeFault}
 use Rattle.ff_net_threads.specs.network.Fits.{network, ins_at, outs_at}
-use Rattle.ff_net_threads.specs.network.Networks.{AllStart, ports_of}
-use Rattle.ff_net_threads.specs.network.Scheduling.{AreLogged, LoggedSink, AreToldBy, IsOnlySource}
+use Rattle.ff_net_threads.specs.laws.network.Networks.{AllStart, ports_of}
+use Rattle.ff_net_threads.specs.laws.network.Scheduling.{AreLogged, LoggedSink, AreToldBy, IsOnlySource}
 use Rattle.ff_plan.specs.declared.planned.Plan.{Plan}
 use Rattle.ff_plan.specs.declared.planned.PlanNode.{PlanNode}
 use Rattle.ff_plan.specs.declared.planned.PlanNode.TheVariants as node
@@ -33,15 +33,15 @@ use Rattle.ff_files.specs.declared.work.WorkEnd.TheVariants as work_end
 use Rattle.ff_files.specs.Works.{AreTold}
 use Rattle.ff_run_plan.specs.Asked.{Asked, asked_of}
 use Rattle.ff_run_plan.specs.declared.fault.RunFault.{RunFault}
-use Rattle.ff_run_plan.specs.Accepting.{IsPlanFor}
-use Rattle.ff_run_plan.specs.Claims.{tell_all}
+use Rattle.ff_run_plan.specs.laws.Accepting.{IsPlanFor}
+use Rattle.ff_run_plan.specs.laws.Claims.{tell_all}
 use Rattle.ff_run_plan.specs.Kinds.{KindsOf, TellsExit, is_of_stream}
 use Rattle.ff_run_plan.specs.Events.{is_best_of, ChangeBest, is_exit_of, TellOfThemselves, TellAlone}
 use Rattle.ff_run_plan.specs.Histories.{state_before, HasExited, TellsAll, IsHistoryFor, IsHistoryOf, AreScheduled}
 use Rattle.ff_run_plan.specs.Meaning.{edges_into, task_by, task_at, solution, streams_into, mux_node, events_by}
 use Rattle.ff_run_plan.specs.Openings.{reads_in, is_read}
 use Rattle.ff_run_plan.specs.Parts.{FitsDemux, FitsGen, FitsGraph, FitsMux, AreFitting, AreOrdered, AreBack, source_in, source_at}
-use Rattle.ff_run_plan.specs.Runs.{AreRun}
+use Rattle.ff_run_plan.specs.laws.Runs.{AreRun}
 use Rattle.ff_run_plan.specs.Tasks.{first_at, cuts_at, heads_on, demux_by, gen_by, graph_by, mux_by}
 use Rattle.ff_run_plan.proofs.EventSteps.{change_all, itself, same_number, plans_tell_alone}
 use Rattle.ff_run_plan.proofs.Gathering.{source_kind, source_once}

@@ -11,7 +11,7 @@ use Rattle.ff_lang.specs.declared.graph.Graph.{Graph}
 use Rattle.ff_source.specs.declared.made.Made.{Made}
 use Rattle.ff_words.specs.declared.job.OutputJob.{OutputJob}
 use Rattle.ff_net.specs.Pasts.{Feed}
-use Rattle.ff_net_threads.specs.network.Scheduling.{TellsAlone}
+use Rattle.ff_net_threads.specs.laws.network.Scheduling.{TellsAlone}
 use Rattle.ff_plan.specs.declared.planned.PlanNode.{PlanNode}
 use Rattle.ff_plan.specs.declared.planned.PlanNode.TheVariants as node
 use Rattle.ff_run_plan.specs.Asked.{Asked}

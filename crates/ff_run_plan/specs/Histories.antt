@@ -9,11 +9,11 @@ use Rattle.ff_sched.specs.Bits.{upto}
 use Rattle.ff_sched.specs.Histories.{IsLegal}
 use Rattle.ff_sched.specs.State.{State}
 use Rattle.ff_net.specs.Nets.{solve}
-use Rattle.ff_net.specs.Views.{View}
+use Rattle.ff_net.specs.laws.Views.{View}
 use Rattle.ff_net_threads.specs.declared.network.run.NodeFault.{NodeFault}
 use Rattle.ff_net_threads.specs.network.Fits.{ins_at, outs_at, network}
-use Rattle.ff_net_threads.specs.network.Networks.{AllStart, ports_of}
-use Rattle.ff_net_threads.specs.network.Scheduling.{Scheduled}
+use Rattle.ff_net_threads.specs.laws.network.Networks.{AllStart, ports_of}
+use Rattle.ff_net_threads.specs.laws.network.Scheduling.{Scheduled}
 use Rattle.ff_plan.specs.declared.planned.Plan.{Plan}
 use Rattle.ff_plan.specs.declared.planned.PlanNode.{PlanNode}
 use Rattle.ff_plan.specs.declared.planned.PlanNode.TheVariants as node
@@ -24,7 +24,7 @@ use Rattle.ff_run_plan.specs.Asked.{Asked, asked_of}
 use Rattle.ff_run_plan.specs.Kinds.{KindsOf, is_of_stream}
 use Rattle.ff_run_plan.specs.Meaning.{plan_for, streams_in, number_in, events_in}
 use Rattle.ff_run_plan.specs.Openings.{is_read, is_unused}
-use Rattle.ff_run_plan.specs.Runs.{IsDone}
+use Rattle.ff_run_plan.specs.laws.Runs.{IsDone}
 
 -- before a run nothing was sent and no stream has finished, and exactly the sources that no node reads have exited
 abbrev pub state_at : List PlanNode → Routes → State

@@ -14,7 +14,7 @@ use Rattle.ff_stream.specs.Ports.{stream_at, IsClosed, IsWhole}
 use Rattle.ff_lang.specs.declared.graph.Graph.{Graph}
 use Rattle.ff_words.specs.declared.job.OutputJob.{OutputJob}
 use Rattle.ff_net.specs.Pasts.{Past, Task}
-use Rattle.ff_net.specs.Views.{View}
+use Rattle.ff_net.specs.laws.Views.{View}
 use Rattle.ff_net.specs.Ways.{Flow}
 use Rattle.ff_files.specs.Works.{HoldsPart}
 use Rattle.ff_graph_links.specs.labels.Clear.{IsClear}

@@ -6,9 +6,6 @@ pub mod Tasks
 pub mod Meaning
 pub mod Events
 pub mod Parts
-pub mod Runs
-pub mod Claims
-pub mod Rooms
-pub mod Accepting
 pub mod Histories
 pub mod Reads
+pub mod laws

@@ -4,7 +4,7 @@ use Rattle.ff_plan.specs.declared.planned.PlanNode.{PlanNode}
 use Rattle.ff_plan.specs.declared.planned.PlanNode.TheVariants as node
 use Rattle.ff_sched.specs.declared.routes.Routes.{Routes}
 use Rattle.ff_sched.specs.Bits.{mark_at}
-use Rattle.ff_sched.specs.Routes.{AreRoutes}
+use Rattle.ff_sched.specs.laws.Routes.{AreRoutes}
 use Rattle.ff_sched.specs.State.{State, opening_of}
 use Rattle.ff_net.specs.declared.fault.Fault.TheVariants.{NoMemory}
 use Rattle.ff_net_threads.specs.declared.network.run.NodeFault.{NodeFault}

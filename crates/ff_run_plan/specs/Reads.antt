@@ -14,12 +14,12 @@ use Rattle.ff_sched.specs.Bits.{upto}
 use Rattle.ff_sched.specs.State.{State}
 use Rattle.ff_net.specs.Nets.{solve}
 use Rattle.ff_net.specs.Pasts.{Task, cut_to}
-use Rattle.ff_net.specs.Views.{View}
+use Rattle.ff_net.specs.laws.Views.{View}
 use Rattle.ff_net.specs.Ways.{Flow}
 use Rattle.ff_net_threads.specs.declared.network.run.NodeFault.{NodeFault}
 use Rattle.ff_net_threads.specs.network.Fits.{ports_by, ins_at, outs_at, network}
-use Rattle.ff_net_threads.specs.network.Networks.{AllStart, ports_of}
-use Rattle.ff_net_threads.specs.network.Runs.{ReadsSuffice}
+use Rattle.ff_net_threads.specs.laws.network.Networks.{AllStart, ports_of}
+use Rattle.ff_net_threads.specs.laws.network.Runs.{ReadsSuffice}
 use Rattle.ff_plan.specs.declared.planned.Plan.{Plan}
 use Rattle.ff_plan.specs.declared.planned.PlanNode.{PlanNode}
 use Rattle.ff_plan.specs.declared.planned.PlanNode.TheVariants as node

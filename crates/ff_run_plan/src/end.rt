@@ -1,7 +1,7 @@
 //! The end of a run by the fault that is reported.
 ghost use Rattle.std.specs.Prelude.{◌≡◌, ◌<◌, ◌^◌, length};
 ghost use Rattle.ff_run_plan.specs.Meaning.{read_before as read_before_of};
-ghost use Rattle.ff_run_plan.specs.Runs.{device_end as device_end_of, damaged_end as damaged_end_of, large_end as large_end_of, end_at as end_at_of, end_with as end_with_of};
+ghost use Rattle.ff_run_plan.specs.laws.Runs.{device_end as device_end_of, damaged_end as damaged_end_of, large_end as large_end_of, end_at as end_at_of, end_with as end_with_of};
 
 use crate::fault::RunFault;
 use ff_files::WorkEnd;

@@ -3,7 +3,7 @@ ghost use Rattle.std.specs.Prelude.{◌≡◌, ◌≤◌, ℕ};
 ghost use Rattle.ff_plan.specs.declared.planned.PlanNode.{PlanNode};
 ghost use Rattle.ff_plan.specs.declared.planned.PlanNode.TheVariants.{Demux as DemuxNode};
 ghost use Rattle.ff_sched.specs.Bits.{mark_at};
-ghost use Rattle.ff_sched.specs.Routes.{AreRoutes};
+ghost use Rattle.ff_sched.specs.laws.Routes.{AreRoutes};
 ghost use Rattle.ff_run_plan.specs.Openings.{reads_in, is_read, is_unused, IsOpening};
 
 use ff_plan::PlanNode;

@@ -3,19 +3,19 @@ ghost use Rattle.std.specs.Prelude.{◌≡◌, ◌<◌, ◌≤◌, ◌^◌, ℕ,
 ghost use Rattle.ff_net.specs.declared.fault.Fault.TheVariants.{NoMemory as NoMemoryFault};
 ghost use Rattle.ff_net.specs.Pasts.{Task};
 ghost use Rattle.ff_net_threads.specs.network.Fits.{ins_at, outs_at, network, AreFit};
-ghost use Rattle.ff_net_threads.specs.network.Networks.{Fits, AllStart, ports_of};
-ghost use Rattle.ff_net_threads.specs.network.Runs.{AllKept, MeetsNetwork};
+ghost use Rattle.ff_net_threads.specs.laws.network.Networks.{Fits, AllStart, ports_of};
+ghost use Rattle.ff_net_threads.specs.laws.network.Runs.{AllKept, MeetsNetwork};
 ghost use Rattle.ff_files.specs.Works.{AreTold};
 ghost use Rattle.ff_run_plan.specs.Asked.{asked_of};
-ghost use Rattle.ff_run_plan.specs.Claims.{tell_all};
+ghost use Rattle.ff_run_plan.specs.laws.Claims.{tell_all};
 ghost use Rattle.ff_net_threads.specs.network.Fits.{ports_by};
 ghost use Rattle.ff_run_plan.specs.Parts.{AreBelow, AreFitting, AreOrdered, AllAside, HaveNumbers};
-ghost use Rattle.ff_net_threads.specs.network.Scheduling.{AllRouted};
+ghost use Rattle.ff_net_threads.specs.laws.network.Scheduling.{AllRouted};
 ghost use Rattle.ff_run_plan.specs.Histories.{AreScheduled};
 ghost use Rattle.ff_run_plan.specs.Reads.{AreSufficient, IsLogOf, first_reads, places_in};
 ghost use Rattle.ff_run_plan.specs.Openings.{CanBegin, or_memory};
-ghost use Rattle.ff_run_plan.specs.Rooms.{HasRoom};
-ghost use Rattle.ff_run_plan.specs.Runs.{TellsRun, AreRun, IsDone};
+ghost use Rattle.ff_run_plan.specs.laws.Rooms.{HasRoom};
+ghost use Rattle.ff_run_plan.specs.laws.Runs.{TellsRun, AreRun, IsDone};
 
 use crate::build::{Places, build};
 use crate::end::end_with;
@@ -201,7 +201,7 @@ pub(crate) struct Room<Part: Drop, Src: Drop, Snk: Drop> {
 }
 
 impl<Part: Drop, Src: Drop, Snk: Drop> Room<Part, Src, Snk> {
-    ghost use Rattle.ff_run_plan.specs.Rooms.{HasRoom};
+    ghost use Rattle.ff_run_plan.specs.laws.Rooms.{HasRoom};
 
     /// Room for so many of each.
     pub(crate) fn new(

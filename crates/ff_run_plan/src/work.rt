@@ -1,10 +1,10 @@
 //! The plan of a job and its run, between the opening and the closing of files.
 ghost use Rattle.std.specs.Prelude.{◌≡◌, ℕ, List, [], ◌∷◌, length, map, Option, None, Some, Ok, IfOk, IfSome, IfErr, OnOk};
 ghost use Rattle.ff_words.specs.maps.Choice.{lists};
-ghost use Rattle.ff_files.specs.Runs.{RunSays};
-ghost use Rattle.ff_run_plan.specs.Accepting.{IsAccepted, IsPlanFor};
+ghost use Rattle.ff_files.specs.laws.Runs.{RunSays};
+ghost use Rattle.ff_run_plan.specs.laws.Accepting.{IsAccepted, IsPlanFor};
 ghost use Rattle.ff_run_plan.specs.Asked.{asked_of};
-ghost use Rattle.ff_run_plan.specs.Claims.{tell_all};
+ghost use Rattle.ff_run_plan.specs.laws.Claims.{tell_all};
 ghost use Rattle.ff_run_plan.specs.Histories.{state_before};
 ghost use Rattle.ff_run_plan.specs.Reads.{IsLogFor, IsLogOf};
 ghost use Rattle.ff_run_plan.specs.Meaning.{plan_for, refusal_of, means as means_of};

@@ -11,9 +11,9 @@ use Rattle.ff_sched.specs.declared.routes.Routes.{Routes}
 use Rattle.ff_sched.specs.declared.rule.View.{View}
 use Rattle.ff_sched.specs.State.{State}
 use Rattle.ff_sched.specs.Histories.{IsLegal, StandsIn, logged, numbered, weigh, all_in, StartsWith, Rises}
-use Rattle.ff_sched.specs.Rule.{HasAll, joined}
-use Rattle.ff_sched.specs.Passing.{Scheduler, Passing, IsHistory, logs_of}
-use Rattle.ff_sched.specs.Writing.{write_all, Gathers}
+use Rattle.ff_sched.specs.laws.Rule.{HasAll, joined}
+use Rattle.ff_sched.specs.laws.Passing.{Scheduler, Passing, IsHistory, logs_of}
+use Rattle.ff_sched.specs.laws.Writing.{write_all, Gathers}
 use Rattle.ff_sched.proofs.Unchoking.{none_some, some_is}
 use Rattle.ff_sched.proofs.Histories.{weigh-append, weigh_one, length-numbered}
 

@@ -13,13 +13,13 @@ use Rattle.ff_sched.specs.declared.logged.Logged.{Logged}
 use Rattle.ff_sched.specs.declared.routes.Routes.{Routes}
 use Rattle.ff_sched.specs.declared.rule.View.{View}
 use Rattle.ff_sched.specs.State.{State}
-use Rattle.ff_sched.specs.Routes.{no_routes}
+use Rattle.ff_sched.specs.laws.Routes.{no_routes}
 use Rattle.ff_sched.specs.Events.{step_of, fold, IsTold, IsInRange}
-use Rattle.ff_sched.specs.Words.{state_of}
+use Rattle.ff_sched.specs.laws.Words.{state_of}
 use Rattle.ff_sched.specs.Unchoked.{Unchokes}
 use Rattle.ff_sched.specs.Histories.{IsLegal, IsFree, MayCome, StandsIn, logged, numbered, weigh, StartsWith}
-use Rattle.ff_sched.specs.Plain.{Plain, IsPlain, Heard}
-use Rattle.ff_sched.specs.Rule.{total, Fits, Kept, Looks, Adds, Exchanges, Opens, HasAll, Refuses, first, less, fresh, spent, nobody, joined}
+use Rattle.ff_sched.specs.laws.Plain.{Plain, IsPlain, Heard}
+use Rattle.ff_sched.specs.laws.Rule.{total, Fits, Kept, Looks, Adds, Exchanges, Opens, HasAll, Refuses, first, less, fresh, spent, nobody, joined}
 use Rattle.ff_sched.proofs.Unchoking.{some_is, none_some}
 
 pub fold-snoc : (s : State) (es : List Event) (e : Event) → fold s (es ++ e ∷ []) ≡ step_of (fold s es) e

@@ -5,8 +5,8 @@ use Rattle.std.proofs.lemmas.List.Elements.{All-nil, All-head, All-tail, All-app
 use Rattle.ff_frame.specs.declared.event.Event.{Event}
 use Rattle.ff_sched.specs.declared.logged.Logged.{Logged}
 use Rattle.ff_sched.specs.Histories.{StandsIn, Rises, weigh, all_in}
-use Rattle.ff_sched.specs.Passing.{Scheduler, Passing, IsHistory, logs_of}
-use Rattle.ff_sched.specs.Laws.{IsEntryOf, IsPassOf, HasAllOf, events_in}
+use Rattle.ff_sched.specs.laws.Passing.{Scheduler, Passing, IsHistory, logs_of}
+use Rattle.ff_sched.specs.laws.Laws.{IsEntryOf, IsPassOf, HasAllOf, events_in}
 use Rattle.ff_sched.proofs.Unchoking.{some_is}
 use Rattle.ff_sched.proofs.Closing.{times, times_other, hits, there}
 use Rattle.ff_sched.proofs.OneLog.{RisesFrom, StandFrom, HasPlace, one_log}

@@ -6,8 +6,8 @@ use Rattle.ff_sched.specs.declared.logged.Logged.{Logged}
 use Rattle.ff_sched.specs.declared.rule.View.{View}
 use Rattle.ff_sched.specs.State.{State}
 use Rattle.ff_sched.specs.Histories.{logged}
-use Rattle.ff_sched.specs.Rule.{Adds, Refuses}
-use Rattle.ff_sched.specs.Passing.{Passing, Told, IsChoked}
+use Rattle.ff_sched.specs.laws.Rule.{Adds, Refuses}
+use Rattle.ff_sched.specs.laws.Passing.{Passing, Told, IsChoked}
 
 abbrev pub seen_as : View → TableId → ℕ → List Logged → ℕ → Passing
 seen_as v table share log spare = record { cell = record { table = table; routes = v.routes; opening = v.opening }; share = share; seen = v.seen; log = log; spare = spare }

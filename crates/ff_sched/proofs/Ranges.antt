@@ -6,7 +6,7 @@ use Rattle.ff_frame.specs.declared.event.Event.{Event}
 use Rattle.ff_frame.specs.declared.event.Event.TheVariants.{Grant, Sent, Finished, Best, Exited}
 use Rattle.ff_sched.specs.declared.routes.Way.{Way}
 use Rattle.ff_sched.specs.declared.routes.Routes.{Routes}
-use Rattle.ff_sched.specs.Routes.{AreRoutes}
+use Rattle.ff_sched.specs.laws.Routes.{AreRoutes}
 use Rattle.ff_sched.specs.Events.{IsSmall, IsInRange}
 
 pub small_in : (r : Routes) (e : Event) → AreRoutes r → IsInRange r e → IsSmall e

@@ -5,7 +5,7 @@ use Rattle.std.proofs.lemmas.List.{take-set-le, map-set, get_or-set_same, get_or
 use Rattle.std.proofs.Math.Seq.{take-set-lt}
 use Rattle.std.proofs.Math.ListN.{length-set}
 use Rattle.ff_sched.specs.Bits.{upto, mark_at, four_at}
-use Rattle.ff_sched.specs.Words.{state_of, last_of}
+use Rattle.ff_sched.specs.laws.Words.{state_of, last_of}
 use Rattle.ff_frame.specs.declared.event.Event.{Event}
 use Rattle.ff_frame.specs.declared.event.Event.TheVariants.{Grant, Sent, Finished, Best, Exited}
 use Rattle.ff_sched.specs.State.{State, last_at, finished_at, exited_at, best_at, opening_of}

@@ -8,7 +8,7 @@ use Rattle.ff_sched.specs.declared.routes.Way.{Way}
 use Rattle.ff_sched.specs.declared.routes.Way.TheVariants.{Source, Graph}
 use Rattle.ff_sched.specs.declared.routes.Routes.{Routes}
 use Rattle.ff_sched.specs.State.{State, last_at, finished_at, exited_at, best_at}
-use Rattle.ff_sched.specs.Routes.{AreRoutes}
+use Rattle.ff_sched.specs.laws.Routes.{AreRoutes}
 use Rattle.ff_sched.specs.Ways.{way_in}
 use Rattle.ff_sched.specs.Unchoked.{GoesOn, IsTrailing, Asks, AsksFor, IsAskedFor, NoneIsLeft, Unchokes, asks_by, asks_with, is_behind, source_within, if_there, asked_in}
 

@@ -1,16 +1,8 @@
-pub mod Answers
 pub mod Bits
 pub mod Events
 pub mod Histories
-pub mod Laws
-pub mod Passes
-pub mod Passing
-pub mod Plain
 pub mod Printing
-pub mod Routes
-pub mod Rule
 pub mod State
 pub mod Unchoked
 pub mod Ways
-pub mod Words
-pub mod Writing
+pub mod laws

@@ -3,13 +3,13 @@ ghost use Rattle.std.specs.Prelude.{◌≡◌, ◌+◌, ◌-◌, ◌<◌, ◌≤
 ghost use Rattle.crossbeam_utils.specs.Seq.{cell_view};
 ghost use Rattle.ff_frame.specs.declared.event.Event.{Event};
 ghost use Rattle.ff_sched.specs.State.{State};
-ghost use Rattle.ff_sched.specs.Routes.{AreRoutes};
+ghost use Rattle.ff_sched.specs.laws.Routes.{AreRoutes};
 ghost use Rattle.ff_sched.specs.Events.{IsSmall, IsInRange, IsTold};
 ghost use Rattle.ff_sched.specs.Histories.{MayCome};
-ghost use Rattle.ff_sched.specs.Rule.{Adds, Refuses, HasAll, joined, less, fresh, Looks as LooksAt};
-ghost use Rattle.ff_sched.specs.Words.{state_of};
-ghost use Rattle.ff_sched.specs.Passing.{Told, IsFirst, IsSplit, IsOpened};
-ghost use Rattle.ff_sched.specs.Answers.{Granted};
+ghost use Rattle.ff_sched.specs.laws.Rule.{Adds, Refuses, HasAll, joined, less, fresh, Looks as LooksAt};
+ghost use Rattle.ff_sched.specs.laws.Words.{state_of};
+ghost use Rattle.ff_sched.specs.laws.Passing.{Told, IsFirst, IsSplit, IsOpened};
+ghost use Rattle.ff_sched.specs.laws.Answers.{Granted};
 
 use crate::choking::unchokes;
 use crate::logged::Logged;
@@ -47,8 +47,8 @@ pub struct SchedCell {
 }
 
 impl Model for SchedCell {
-    ghost use Rattle.ff_sched.specs.Passing.{Scheduler};
-    ghost use Rattle.ff_sched.specs.Routes.{AreRoutes};
+    ghost use Rattle.ff_sched.specs.laws.Passing.{Scheduler};
+    ghost use Rattle.ff_sched.specs.laws.Routes.{AreRoutes};
 
     ghost Value = { Scheduler };
 

@@ -3,7 +3,7 @@ ghost use Rattle.std.specs.Prelude.{◌≡◌, ◌↔◌, ◌⊎◌, ◌<◌, �
 ghost use Rattle.std.specs.Prelude.{not, IfSome, IsNone, if◌then◌else◌};
 ghost use Rattle.ff_sched.specs.Bits.{mark_at};
 ghost use Rattle.ff_sched.specs.State.{exited_at, best_at};
-ghost use Rattle.ff_sched.specs.Routes.{AreRoutes};
+ghost use Rattle.ff_sched.specs.laws.Routes.{AreRoutes};
 ghost use Rattle.ff_sched.specs.Ways.{way_in};
 ghost use Rattle.ff_sched.specs.Unchoked.{IsTrailing, IsAskedFor, NoneIsLeft, Unchokes, source_within, asks_by, asked_in};
 

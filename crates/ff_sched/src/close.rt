@@ -2,8 +2,8 @@
 ghost use Rattle.std.specs.Prelude.{◌≡◌, ◌≤◌, ◌^◌, length, slice_set, All, sum_by, IfOk, IfErr};
 ghost use Rattle.crossbeam_utils.specs.Seq.{cell_view};
 ghost use Rattle.ff_sched.specs.Histories.{all_in};
-ghost use Rattle.ff_sched.specs.Passing.{IsHistory, logs_of};
-ghost use Rattle.ff_sched.specs.Writing.{write_all, Gathers};
+ghost use Rattle.ff_sched.specs.laws.Passing.{IsHistory, logs_of};
+ghost use Rattle.ff_sched.specs.laws.Writing.{write_all, Gathers};
 
 use crate::cell::{SchedCell, absorb, last_look};
 use crate::history::History;

@@ -1,10 +1,10 @@
 //! The scheduler in its plain form, without a cell, which no program calls.
 ghost use Rattle.std.specs.Prelude.{◌≡◌, ◌<◌, ◌^◌, true, false, [], IfOk, OnErr};
-ghost use Rattle.ff_sched.specs.Routes.{AreRoutes};
+ghost use Rattle.ff_sched.specs.laws.Routes.{AreRoutes};
 ghost use Rattle.ff_sched.specs.Events.{IsInRange, IsTold};
 ghost use Rattle.ff_sched.specs.Unchoked.{Unchokes};
 ghost use Rattle.ff_sched.specs.Histories.{IsLegal};
-ghost use Rattle.ff_sched.specs.Plain.{held_by, Heard, Offered};
+ghost use Rattle.ff_sched.specs.laws.Plain.{held_by, Heard, Offered};
 
 use crate::cell::Grant;
 use crate::choking::unchokes;
@@ -26,7 +26,7 @@ pub struct SchedNode {
 }
 
 impl Model for SchedNode {
-    ghost use Rattle.ff_sched.specs.Plain.{Plain, IsPlain};
+    ghost use Rattle.ff_sched.specs.laws.Plain.{Plain, IsPlain};
 
     ghost Value = { Plain };
 

@@ -18,11 +18,11 @@ pub struct Pass {
 }
 
 impl Model for Pass {
-    ghost use Rattle.ff_sched.specs.Passing.{Passing};
+    ghost use Rattle.ff_sched.specs.laws.Passing.{Passing};
 
     ghost Value = { Passing };
 
-    ghost use Rattle.ff_sched.specs.Passes.{IsPass, passing};
+    ghost use Rattle.ff_sched.specs.laws.Passes.{IsPass, passing};
 
     ghost view = { passing };
 

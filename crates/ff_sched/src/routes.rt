@@ -1,7 +1,7 @@
 //! The routes from the output streams to the sources that feed them.
 ghost use Rattle.std.specs.Prelude.{◌≡◌, ◌≤◌, true, false, All, length, slice_get};
 ghost use Rattle.ff_sched.specs.Ways.{way_in};
-ghost use Rattle.ff_sched.specs.Routes.{AreRoutes};
+ghost use Rattle.ff_sched.specs.laws.Routes.{AreRoutes};
 ghost use Rattle.ff_sched.specs.Events.{IsInRange};
 
 use ff_frame::Event;

@@ -32,7 +32,7 @@ pub struct View {
 pub struct OneHistory;
 
 impl Protocol<[u64; 20], View> for OneHistory {
-    ghost use Rattle.ff_sched.specs.Rule.{Kept, first};
+    ghost use Rattle.ff_sched.specs.laws.Rule.{Kept, first};
 
     ghost holds = { Kept };
 
@@ -71,7 +71,7 @@ pub trait Routed {
 }
 
 impl Routed for Brand {
-    ghost use Rattle.ff_sched.specs.Routes.{no_routes};
+    ghost use Rattle.ff_sched.specs.laws.Routes.{no_routes};
 
     ghost routes = { no_routes };
 }
@@ -82,7 +82,7 @@ pub struct Opens<F> {
 }
 
 impl<F: Routed> Outcome<[u64; 20], View> for Opens<F> {
-    ghost use Rattle.ff_sched.specs.Rule as rule;
+    ghost use Rattle.ff_sched.specs.laws.Rule as rule;
 
     ghost then = { λ v before after w. rule.Opens F.routes v after w };
 }
@@ -93,7 +93,7 @@ pub struct Parts<F> {
 }
 
 impl<F: Portion> Split<View> for Parts<F> {
-    ghost use Rattle.ff_sched.specs.Rule.{less, fresh};
+    ghost use Rattle.ff_sched.specs.laws.Rule.{less, fresh};
 
     ghost left = { λ v. less v F.amount };
 
@@ -104,7 +104,7 @@ impl<F: Portion> Split<View> for Parts<F> {
 pub struct Everything;
 
 impl Split<View> for Everything {
-    ghost use Rattle.ff_sched.specs.Rule.{spent};
+    ghost use Rattle.ff_sched.specs.laws.Rule.{spent};
 
     ghost left = { λ v. spent v };
 
@@ -112,7 +112,7 @@ impl Split<View> for Everything {
 }
 
 impl Join<View> for Everything {
-    ghost use Rattle.ff_sched.specs.Rule.{joined, nobody};
+    ghost use Rattle.ff_sched.specs.laws.Rule.{joined, nobody};
 
     ghost both = { joined };
 
@@ -123,7 +123,7 @@ impl Join<View> for Everything {
 pub struct Looks;
 
 impl Outcome<[u64; 20], View> for Looks {
-    ghost use Rattle.ff_sched.specs.Rule as rule;
+    ghost use Rattle.ff_sched.specs.laws.Rule as rule;
 
     ghost then = { λ v before after w. rule.Looks v after w };
 }
@@ -132,7 +132,7 @@ impl Outcome<[u64; 20], View> for Looks {
 pub struct Closes;
 
 impl Outcome<[u64; 20], View> for Closes {
-    ghost use Rattle.ff_sched.specs.Rule.{HasAll};
+    ghost use Rattle.ff_sched.specs.laws.Rule.{HasAll};
 
     ghost then = { λ v before after w. HasAll v w };
 }
@@ -143,7 +143,7 @@ pub struct Tells<E> {
 }
 
 impl<E: Named> Outcome<[u64; 20], View> for Tells<E> {
-    ghost use Rattle.ff_sched.specs.Rule.{Exchanges};
+    ghost use Rattle.ff_sched.specs.laws.Rule.{Exchanges};
 
     ghost then = { Exchanges E.event };
 }

@@ -20,7 +20,7 @@ impl Model for SchedState {
 
     ghost Value = { State };
 
-    ghost use Rattle.ff_sched.specs.Words.{state_of};
+    ghost use Rattle.ff_sched.specs.laws.Words.{state_of};
 
     ghost view = { λ s. state_of s.words };
 }

@@ -4,7 +4,7 @@ ghost use Rattle.std.specs.Prelude.{◌≡◌, ◌≢◌, ◌+◌, ◌<◌, ◌^
 ghost use Rattle.std.specs.Prelude.{length, slice_index, if◌then◌else◌};
 ghost use Rattle.std.specs.Int.{bit_at};
 ghost use Rattle.ff_sched.specs.Bits.{four_at};
-ghost use Rattle.ff_sched.specs.Words.{state_of};
+ghost use Rattle.ff_sched.specs.laws.Words.{state_of};
 ghost use Rattle.ff_sched.specs.Events.{step_of, IsSmall};
 
 use ff_frame::Event;

@@ -7,7 +7,7 @@ use Rattle.ff_lang.specs.declared.graph.Filter.{Filter}
 use Rattle.ff_lang.specs.declared.graph.Graph.{Graph}
 use Rattle.ff_lang.specs.Grammar.{IsWord, IsLabel}
 use Rattle.ff_lang.specs.Letters.{is_word_byte, is_label_byte}
-use Rattle.ff_lang.specs.Printing.{printed, IsSound, IsSoundFilter}
+use Rattle.ff_lang.specs.laws.Printing.{printed, IsSound, IsSoundFilter}
 use Rattle.ff_words.specs.declared.maps.map.Kind.TheVariants.{Audio}
 use Rattle.ff_words.specs.declared.maps.map.Pick.TheVariants as pick
 use Rattle.ff_words.specs.declared.maps.map.MapFrom.TheVariants.{Input, Label}
@@ -24,10 +24,10 @@ use Rattle.ff_words.specs.declared.table.Concern.TheVariants.{All, File, Output}
 use Rattle.ff_words.specs.declared.table.Kind.TheVariants as kind
 use Rattle.ff_words.specs.declared.value.Value.{Value}
 use Rattle.ff_words.specs.declared.value.Value.TheVariants as value
-use Rattle.ff_words.specs.Reading.{reader, optioned, with_input, with_output}
+use Rattle.ff_words.specs.laws.Reading.{reader, optioned, with_input, with_output}
 use Rattle.ff_words.specs.Values.{Reads}
 use Rattle.ff_words.specs.Words.{Entry, IsAnswer, written}
-use Rattle.ff_words.specs.Writing.{pick_text}
+use Rattle.ff_words.specs.laws.Writing.{pick_text}
 use Rattle.ff_words.proofs.Goes.{goes-start, goes-option, goes-input, goes-switch, goes-output}
 use Rattle.ff_format.specs.Formats.{is_read}
 use Rattle.ff_words.proofs.Known.{line-complex, line-format, line-input, line-map, line-shortest, reads-complex, reads-format, reads-map}

@@ -1,6 +1,6 @@
 //! The files of the run over generated input.
 ghost use Rattle.std.specs.Prelude.{◌≡◌, ◌≤◌, IfOk};
-ghost use Rattle.ff_host.specs.memory.QuietHost.{quiet_files};
+ghost use Rattle.ff_host.specs.laws.memory.QuietHost.{quiet_files};
 ghost use Rattle.ff_selfrun.specs.SelfRun.{own_files};
 
 use crate::generated::{gen_wav, gen_y4m};

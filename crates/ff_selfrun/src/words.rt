@@ -1,6 +1,6 @@
 //! The command line of the run over generated input, and the job that it asks for.
 ghost use Rattle.std.specs.Prelude.{◌≡◌, ◌∷◌, [], Some, IfOk, codes};
-ghost use Rattle.ff_words.specs.Bounds.{IsBounded};
+ghost use Rattle.ff_words.specs.laws.Bounds.{IsBounded};
 ghost use Rattle.ff_words.specs.Table.{names};
 ghost use Rattle.ff_words.specs.Words.{texts, written};
 ghost use Rattle.ff_selfrun.specs.SelfRun.{IsOwnJob};

@@ -4,7 +4,7 @@ use Rattle.ff_frame.specs.declared.config.ConfigError.{ConfigError}
 use Rattle.ff_frame.specs.declared.config.ConfigError.TheVariants.{UnknownOption, BadOption}
 use Rattle.ff_lang.specs.declared.graph.Arg.{Arg}
 use Rattle.ff_filter.specs.Options.{Manual, AreRead, IsReadBy, option_of}
-use Rattle.ff_source.specs.Readings.{IsMadeBy, AfterRead}
+use Rattle.ff_source.specs.laws.Readings.{IsMadeBy, AfterRead}
 
 pub no_error : {X : Type 0} (x : X) (e : ConfigError) → Ok x ≡ Err e → ⊥
 no_error x e h = cc (h)

@@ -16,7 +16,7 @@ use Rattle.ff_stream.specs.declared.item.Lane.TheVariants.{Frames}
 use Rattle.ff_stream.specs.Lanes.{IsItemFor, Follows, AreInShape, IsValid, EndsInTime}
 use Rattle.ff_stream.specs.Times.{end_of, ticks, IsInTime}
 use Rattle.ff_stream.specs.Within.{within, passes_limits}
-use Rattle.ff_stream.specs.WithinLaws.{within_valid}
+use Rattle.ff_stream.specs.laws.WithinLaws.{within_valid}
 use Rattle.ff_source.specs.declared.color.Color.{Color}
 use Rattle.ff_source.specs.declared.made.Made.{Made}
 use Rattle.ff_source.specs.declared.made.Made.TheVariants.{Pictures, Silence}

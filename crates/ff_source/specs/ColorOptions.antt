@@ -17,7 +17,7 @@ use Rattle.ff_source.specs.declared.made.Made.{Made}
 use Rattle.ff_source.specs.declared.made.Made.TheVariants.{Pictures}
 use Rattle.ff_source.specs.Bases.{one_over}
 use Rattle.ff_source.specs.Colors.{color_named}
-use Rattle.ff_source.specs.Readings.{IsMadeBy}
+use Rattle.ff_source.specs.laws.Readings.{IsMadeBy}
 
 -- a colour; a size; pictures a second, as `fps` reads them; a duration
 abbrev pub SetsColor : ColorSettings → ℕ → List ℕ → ColorSettings → Type 0

@@ -1,10 +1,8 @@
 pub mod Bases
 pub mod ColorOptions
 pub mod Colors
-pub mod Examples
-pub mod Left
 pub mod Numbered
-pub mod Readings
 pub mod SilenceOptions
 pub mod Silences
 pub mod Sources
+pub mod laws

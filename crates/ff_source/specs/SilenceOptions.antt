@@ -12,7 +12,7 @@ use Rattle.ff_source.specs.declared.made.Made.{Made}
 use Rattle.ff_source.specs.declared.made.Made.TheVariants.{Silence}
 use Rattle.ff_source.specs.Bases.{one_over}
 use Rattle.ff_source.specs.Silences.{channels_named}
-use Rattle.ff_source.specs.Readings.{IsMadeBy}
+use Rattle.ff_source.specs.laws.Readings.{IsMadeBy}
 
 -- a text is a whole number from 1 to 2^31 - 1, of at most 10 digits
 abbrev pub IsRate : List ℕ → ℕ → Type 0

@@ -13,7 +13,7 @@ ghost use Rattle.ff_lang.specs.declared.source.SourceName.{SourceName};
 ghost use Rattle.ff_source.specs.Colors.{color_frames};
 ghost use Rattle.ff_source.specs.Silences.{silence_frames};
 ghost use Rattle.ff_source.specs.Sources.{IsSource, CanGive, head_of, frames_of, stream_of, end_in};
-ghost use Rattle.ff_source.specs.Examples.{shown_at, heard_at};
+ghost use Rattle.ff_source.specs.laws.Examples.{shown_at, heard_at};
 
 /// A source filter by its arguments has a head of 1 to 16,384 columns and rows, or of one or two channels. Its time base
 /// is one, and it can give all its frames.

@@ -23,7 +23,7 @@ pub struct GenSource {
 
 impl GenSource {
     ghost use Rattle.ff_source.specs.Sources.{IsSource, head_of, frames_of};
-    ghost use Rattle.ff_source.specs.Left.{left};
+    ghost use Rattle.ff_source.specs.laws.Left.{left};
 
     /// The source filter of this name by its arguments, and the head of its stream.
     ///

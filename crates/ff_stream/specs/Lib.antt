@@ -1,12 +1,8 @@
-pub mod BreakLaws
-pub mod Breaks
 pub mod Items
-pub mod LaneLaws
 pub mod Lanes
-pub mod Order
 pub mod Ports
 pub mod Stream
 pub mod Times
 pub mod Within
-pub mod WithinLaws
 pub mod edges
+pub mod laws

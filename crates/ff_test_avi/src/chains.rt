@@ -1,6 +1,6 @@
 //! Chains: what stands behind a head of pictures and sound, and the packets of the used streams.
 ghost use Rattle.std.specs.Prelude.{◌≡◌};
-ghost use Rattle.ff_avi.specs.Cuts.{has_ended};
+ghost use Rattle.ff_avi.specs.laws.Cuts.{has_ended};
 
 use ff_avi::{AviCut, read_head};
 use ff_frame::Cut;

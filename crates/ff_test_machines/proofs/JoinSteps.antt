@@ -6,7 +6,7 @@ use Rattle.ff_stream.specs.declared.item.Item.TheVariants.{Audio, Video, Packet,
 use Rattle.ff_stream.specs.declared.item.Lane.{Lane}
 use Rattle.ff_stream.specs.Stream.{Mark, still_open, LiesBelow}
 use Rattle.ff_stream.specs.Items.{with_item}
-use Rattle.ff_stream.specs.Order.{below_self, below_items, closed_below, same_stream, with_item_above}
+use Rattle.ff_stream.specs.laws.Order.{below_self, below_items, closed_below, same_stream, with_item_above}
 use Rattle.ff_stream.specs.Lanes.{IsValid, FitsLane}
 use Rattle.ff_stream.specs.Ports.{nothing, stream_at, IsClosed}
 use Rattle.ff_net.specs.Ways.{Flow, AreValid}

@@ -5,10 +5,10 @@ use Rattle.ff_net.specs.declared.node.Node.{Node}
 use Rattle.ff_net.specs.declared.wires.Wires.{Wires}
 use Rattle.ff_net.specs.Pasts.{IsIn}
 use Rattle.ff_net.specs.Ways.{lane_at}
-use Rattle.ff_net.specs.Worlds.{lanes_of}
-use Rattle.ff_net.specs.Nodes.{AreApart, HaveLanes, IsOf, IsShaped, in_wires_of, out_wires_of}
-use Rattle.ff_net.specs.Serial.{AreOf, AreShaped}
-use Rattle.ff_sched.specs.Passing.{Scheduler}
+use Rattle.ff_net.specs.laws.Worlds.{lanes_of}
+use Rattle.ff_net.specs.laws.Nodes.{AreApart, HaveLanes, IsOf, IsShaped, in_wires_of, out_wires_of}
+use Rattle.ff_net.specs.laws.Serial.{AreOf, AreShaped}
+use Rattle.ff_sched.specs.laws.Passing.{Scheduler}
 use Rattle.ff_test_machines.specs.declared.plain.Plain.{Plain}
 use Rattle.ff_test_machines.specs.Plains.{plain_view}
 use Rattle.ff_test_machines.specs.Networks.{Fits}

@@ -7,7 +7,7 @@ use Rattle.ff_stream.specs.declared.item.Item.TheVariants.{Audio, Video, Packet,
 use Rattle.ff_stream.specs.declared.item.Lane.{Lane}
 use Rattle.ff_stream.specs.Stream.{still_open, LiesBelow}
 use Rattle.ff_stream.specs.Items.{Closes, with_item, Leads}
-use Rattle.ff_stream.specs.Order.{same_stream, leads_below, leads_push}
+use Rattle.ff_stream.specs.laws.Order.{same_stream, leads_below, leads_push}
 use Rattle.ff_stream.specs.Ports.{nothing, stream_at}
 use Rattle.ff_stream.specs.Lanes.{IsValid}
 use Rattle.ff_net.specs.Ways.{Flow}

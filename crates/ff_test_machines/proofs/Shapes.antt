@@ -4,9 +4,9 @@ use Rattle.ff_stream.specs.declared.item.Lane.{Lane}
 use Rattle.ff_net.specs.declared.node.Node.{Node}
 use Rattle.ff_net.specs.declared.wires.Wires.{Wires}
 use Rattle.ff_net.specs.Ways.{lane_at}
-use Rattle.ff_net.specs.Worlds.{lanes_of}
-use Rattle.ff_net.specs.Nodes.{AreApart, HaveLanes, IsShaped, in_wires_of, out_wires_of}
-use Rattle.ff_net.specs.Serial.{AreShaped}
+use Rattle.ff_net.specs.laws.Worlds.{lanes_of}
+use Rattle.ff_net.specs.laws.Nodes.{AreApart, HaveLanes, IsShaped, in_wires_of, out_wires_of}
+use Rattle.ff_net.specs.laws.Serial.{AreShaped}
 use Rattle.ff_test_machines.specs.declared.relay.Relay.{Relay}
 use Rattle.ff_test_machines.specs.Kinds.{relay_view}
 use Rattle.ff_test_machines.specs.Trials.{relay_ins, relay_outs}

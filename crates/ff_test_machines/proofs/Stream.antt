@@ -10,10 +10,10 @@ use Rattle.ff_stream.specs.declared.item.Lane.{Lane}
 use Rattle.ff_stream.specs.Stream.{Stream, still_open}
 use Rattle.ff_stream.specs.Items.{Closes, with_item, Leads}
 use Rattle.ff_stream.specs.Lanes.{IsValid, IsItemFor, InOrder, Follows, EndsInTime}
-use Rattle.ff_stream.specs.Order.{leads_push}
+use Rattle.ff_stream.specs.laws.Order.{leads_push}
 use Rattle.ff_stream.specs.Ports.{nothing}
-use Rattle.ff_link.specs.Sendings.{stream_of, IsSending, Carries}
-use Rattle.ff_link.specs.Views.{Link, Sending}
+use Rattle.ff_link.specs.laws.Sendings.{stream_of, IsSending, Carries}
+use Rattle.ff_link.specs.laws.Views.{Link, Sending}
 use Rattle.ff_link.proofs.Sendings.{leads_to, sending_push}
 use Rattle.ff_test_machines.specs.Packets.{IsWhole, byte_lane, byte_packet, byte_packets, Sent, IsGoing}
 

@@ -6,14 +6,14 @@ use mathlib.Core.List.{IsPrefix}
 use Rattle.ff_stream.specs.declared.item.Item.{Item}
 use Rattle.ff_stream.specs.declared.item.Lane.{Lane}
 use Rattle.ff_stream.specs.Stream.{Mark, still_open, broken, LiesBelow, opened, opened_mark}
-use Rattle.ff_stream.specs.Order.{below_self, below_items, same_stream, stream_at-opened}
+use Rattle.ff_stream.specs.laws.Order.{below_self, below_items, same_stream, stream_at-opened}
 use Rattle.ff_stream.specs.Ports.{nothing, stream_at, AllBelow, AllUnbroken, IsClosed, IsUnbroken, IsMonotone, IsCalm}
 use Rattle.ff_stream.specs.Lanes.{IsValid}
-use Rattle.ff_stream.specs.LaneLaws.{valid_front}
+use Rattle.ff_stream.specs.laws.LaneLaws.{valid_front}
 use Rattle.ff_net.specs.declared.fault.Fault.{Fault}
 use Rattle.ff_net.specs.Ways.{Flow, AreValid}
 use Rattle.ff_net.specs.Pasts.{Past, IsIn, due}
-use Rattle.ff_net.specs.Laws.{CauseStays, OutputsClose, MaySpend, Settles}
+use Rattle.ff_net.specs.laws.Laws.{CauseStays, OutputsClose, MaySpend, Settles}
 use Rattle.ff_net.proofs.Flows.{take_front, take_whole, due_meant}
 use Rattle.ff_net.proofs.Matters.{may_spend}
 use Rattle.ff_test_machines.specs.RelayLaws.{relays_no_fault, below_or, take_append, length_front}

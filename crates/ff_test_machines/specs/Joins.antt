@@ -6,7 +6,7 @@ use Rattle.ff_stream.specs.Lanes.{IsValid}
 use Rattle.ff_stream.specs.Ports.{nothing, stream_at, IsClosed}
 use Rattle.ff_net.specs.Ways.{Flow}
 use Rattle.ff_net.specs.Pasts.{Past, IsIn}
-use Rattle.ff_net.specs.Laws.{IsSilent}
+use Rattle.ff_net.specs.laws.Laws.{IsSilent}
 use Rattle.ff_test_machines.specs.declared.join.Ending.{Ending}
 use Rattle.ff_test_machines.specs.declared.join.Ending.TheVariants.{Open, Whole, Broken}
 use Rattle.ff_test_machines.specs.declared.join.Kept.{Kept}

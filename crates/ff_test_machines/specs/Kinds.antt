@@ -1,9 +1,9 @@
 -- Each kind of machine as the laws of machines see it, and these laws.
 use Rattle.std.specs.Prelude.{◌≡◌, ◌+◌, [], true, false, None, Some}
 use Rattle.std.proofs.Common.{arith}
-use Rattle.ff_net.specs.Laws.{Laws}
-use Rattle.ff_net.specs.Silence.{silent_front}
-use Rattle.ff_net.specs.Views.{View}
+use Rattle.ff_net.specs.laws.Laws.{Laws}
+use Rattle.ff_net.specs.laws.Silence.{silent_front}
+use Rattle.ff_net.specs.laws.Views.{View}
 use Rattle.ff_test_machines.specs.declared.join.Join.{Join}
 use Rattle.ff_test_machines.specs.declared.relay.Relay.{Relay}
 use Rattle.ff_test_machines.specs.declared.source.Source.{Source}

@@ -6,7 +6,7 @@ use mathlib.Core.List.{IsPrefix}
 use Rattle.ff_stream.specs.declared.item.Item.{Item}
 use Rattle.ff_stream.specs.declared.item.Lane.{Lane}
 use Rattle.ff_stream.specs.Stream.{still_open, whole, broken, whole_stream, LiesBelow}
-use Rattle.ff_stream.specs.Order.{below_self}
+use Rattle.ff_stream.specs.laws.Order.{below_self}
 use Rattle.ff_stream.specs.Ports.{nothing, stream_at, AllBelow, AllUnbroken, IsUnbroken, IsMonotone, IsCalm}
 use Rattle.ff_net.specs.declared.fault.Fault.{Fault}
 use Rattle.ff_net.specs.declared.fault.Fault.TheVariants.{Device}
@@ -14,7 +14,7 @@ use Rattle.ff_net.specs.Ways.{Flow, AreValid}
 use Rattle.ff_frame.specs.declared.event.Event.{Event}
 use Rattle.ff_frame.specs.declared.event.Event.TheVariants.{Exited}
 use Rattle.ff_net.specs.Pasts.{Past, Feed, IsIn, due, cut_to}
-use Rattle.ff_net.specs.Laws.{CauseStays, IsOfInputs, IsPending, AllAsked}
+use Rattle.ff_net.specs.laws.Laws.{CauseStays, IsOfInputs, IsPending, AllAsked}
 use Rattle.ff_net.proofs.Flows.{take_whole}
 use Rattle.ff_test_machines.specs.RelayLaws.{relays_no_fault, below_or}
 use Rattle.ff_test_machines.specs.Lists.{list_of, given_of, as_count, fault_if, exits, Exits, Lists}

@@ -3,7 +3,7 @@
 use Rattle.std.specs.Prelude.{◌≡◌, ℕ, List, map}
 use Rattle.ff_stream.specs.declared.item.Lane.{Lane}
 use Rattle.ff_net.specs.declared.node.Node.{Node}
-use Rattle.ff_net.specs.Nodes.{machine_of, in_wires_of, out_wires_of}
+use Rattle.ff_net.specs.laws.Nodes.{machine_of, in_wires_of, out_wires_of}
 use Rattle.ff_test_machines.specs.declared.plain.Plain.{Plain}
 use Rattle.ff_test_machines.specs.Plains.{plain_view}
 

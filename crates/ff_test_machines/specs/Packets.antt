@@ -8,7 +8,7 @@ use Rattle.ff_stream.specs.declared.item.Item.TheVariants.{Packet}
 use Rattle.ff_stream.specs.declared.item.Lane.{Lane}
 use Rattle.ff_stream.specs.declared.item.Lane.TheVariants.{Packets}
 use Rattle.ff_frame.specs.Packet.{packet_at}
-use Rattle.ff_link.specs.Views.{Sending}
+use Rattle.ff_link.specs.laws.Views.{Sending}
 
 -- one second over a whole number
 pub record IsWhole (tb : Fraction) : Type 0 where

@@ -1,5 +1,5 @@
 -- The laws of a machine: those of its kind.
-use Rattle.ff_net.specs.Laws.{Laws}
+use Rattle.ff_net.specs.laws.Laws.{Laws}
 use Rattle.ff_test_machines.specs.declared.plain.Plain.{Plain}
 use Rattle.ff_test_machines.specs.declared.plain.Plain.TheVariants.{Source, Relay, Join}
 use Rattle.ff_test_machines.specs.Kinds.{source_laws, relay_laws, join_laws}

@@ -1,6 +1,6 @@
 -- A machine of one of the kinds.
 use Rattle.std.specs.Prelude.{◌≡◌, ℕ, ◌<◌, Some}
-use Rattle.ff_net.specs.Views.{View}
+use Rattle.ff_net.specs.laws.Views.{View}
 use Rattle.ff_test_machines.specs.declared.plain.Plain.{Plain}
 use Rattle.ff_test_machines.specs.declared.plain.Plain.TheVariants.{Source, Relay, Join}
 use Rattle.ff_test_machines.specs.Kinds.{source_view, relay_view, join_view}

@@ -10,7 +10,7 @@ use Rattle.ff_stream.specs.Ports.{nothing, stream_at}
 use Rattle.ff_net.specs.declared.fault.Fault.{Fault}
 use Rattle.ff_net.specs.Ways.{Flow}
 use Rattle.ff_net.specs.Pasts.{Past, IsIn}
-use Rattle.ff_net.specs.Laws.{IsSilent}
+use Rattle.ff_net.specs.laws.Laws.{IsSilent}
 use Rattle.ff_test_machines.specs.declared.relay.Out.{Out}
 
 -- the first n items, whole where so many are there

@@ -1,7 +1,7 @@
 //! Packets sent over a link from one thread to another.
 ghost use Rattle.std.specs.Prelude.{◌≡◌, ◌≤◌, ◌^◌, [], ◌∷◌, ◌++◌, length, IfOk, IfSome, IsTrue};
 ghost use Rattle.ff_stream.specs.Items.{Closes};
-ghost use Rattle.ff_link.specs.Sendings.{Carries};
+ghost use Rattle.ff_link.specs.laws.Sendings.{Carries};
 ghost use Rattle.ff_test_machines.specs.Packets.{byte_lane, IsWhole, Sent, IsGoing};
 
 use crate::packets::{is_packet, lane_of, packet};

@@ -1,6 +1,6 @@
 //! A host whose source waits for its sink or fails before it, or gives a few bytes a read.
 ghost use Rattle.std.specs.Prelude.{◌≡◌, ◌+◌, ◌<◌, ◌≤◌, ℕ, List, Some, None, IsTrue, string_bytes};
-ghost use Rattle.ff_host.specs.Tally.{marks_at};
+ghost use Rattle.ff_host.specs.laws.Tally.{marks_at};
 
 use crate::gate::{Gate, GateSink, GateSource, Pace, closed};
 use ff_host::{Failed, Host, HostError, Marks, Table, make_room, marks_of, set_marks};

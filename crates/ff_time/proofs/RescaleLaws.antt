@@ -7,7 +7,7 @@ use Rattle.std.proofs.Math.IntN.{suc_ℤ, pred_ℤ, suc_ℤ-*ℤ, pred_ℤ-*ℤ}
 use borrow.Author.Differences.{up, down}
 use Rattle.ff_time.specs.Fraction.{Fraction, IsBase}
 use Rattle.ff_time.specs.Rescale.{distance, IsNearest, IsRescaled}
-use Rattle.ff_time.specs.Laws.{IsNearAgain}
+use Rattle.ff_time.specs.laws.Laws.{IsNearAgain}
 use Rattle.ff_time.proofs.Nearest.{IsNearest-unique}
 use Rattle.ff_time.proofs.Scaled.{mul_less}
 

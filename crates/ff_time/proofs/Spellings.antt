@@ -3,7 +3,7 @@ use Rattle.std.proofs.Common.{◌≡◌, ℕ, zero, suc, ◌<◌, ◌≤◌, ◌
 use Rattle.std.proofs.lemmas.Bool.{cases_lt}
 use Rattle.ff_time.specs.Duration.{IsDuration}
 use Rattle.ff_time.specs.Reading.{Exact, first, second, third, decimals, scaled, done, IsSound, next_of, letter_of, value_of}
-use Rattle.ff_time.specs.Laws.{IsShortest}
+use Rattle.ff_time.specs.laws.Laws.{IsShortest}
 use Rattle.ff_time.specs.declared.letter.Letter.{Letter}
 use Rattle.ff_time.specs.declared.letter.Letter.TheVariants.{Digit, Colon, Point, S, M, U, Other}
 use Rattle.ff_time.proofs.Letters.{IsLetter, IsLetter-letter_of}

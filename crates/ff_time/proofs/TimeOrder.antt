@@ -7,7 +7,7 @@ use Rattle.std.specs.Cmp.{IsTotalOrder}
 use Rattle.std.specs.Ordering.{int_cmp, MatchOrdering}
 use Rattle.std.specs.declared.cmp.Ordering.{Ordering}
 use Rattle.std.specs.declared.cmp.Ordering.TheVariants.{Less, Equal, Greater}
-use Rattle.ff_time.specs.Laws.{Moment, moment_cmp, IsSameMoment}
+use Rattle.ff_time.specs.laws.Laws.{Moment, moment_cmp, IsSameMoment}
 use Rattle.ff_time.proofs.Scaled.{mul-mul, int_cmp-scaled}
 
 swap_last : (a b c : ℕ) → a * b * c ≡ a * c * b

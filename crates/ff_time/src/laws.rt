@@ -7,7 +7,7 @@ ghost use Rattle.std.specs.List.{All};
 ghost use Rattle.ff_time.specs.Common.{IsCommonBase, IsCommonOf, units_of, IsUnits};
 ghost use Rattle.ff_time.specs.Rescale.{IsRescaled};
 ghost use Rattle.ff_time.specs.Duration.{IsDuration};
-ghost use Rattle.ff_time.specs.Laws.{Moment, moment_cmp, IsSameMoment, IsNearAgain, IsShortest};
+ghost use Rattle.ff_time.specs.laws.Laws.{Moment, moment_cmp, IsSameMoment, IsNearAgain, IsShortest};
 
 use std::cmp::Ordering;
 

@@ -14,7 +14,7 @@ use Rattle.ff_filter.specs.Shifts.{earlier, start_ticks}
 use Rattle.ff_vfilter.specs.Trims.{from_start, before_stop, reaches}
 use Rattle.ff_afilter.specs.Trims.{kept as sound_kept, kept_all, ends_past, reaches as sound_reaches}
 use Rattle.ff_trim.specs.Cuts.{from_range}
-use Rattle.ff_trim.specs.Frames.{cut_step}
+use Rattle.ff_trim.specs.laws.Frames.{cut_step}
 
 -- a frame of sound, and what comes behind it
 sound_at : (range : Range) (a : Bool) (ks xs : List Item) (r : Bool) (m : Mark)

@@ -9,7 +9,7 @@ use Rattle.ff_frame.specs.declared.head.StreamHead.{StreamHead}
 use Rattle.ff_frame.specs.declared.head.StreamHead.TheVariants.{Audio as AudioHead, Video as VideoHead}
 use Rattle.ff_frame.specs.Heads.{base_of_head}
 use Rattle.ff_stream.specs.declared.item.Item.{Item}
-use Rattle.ff_stream.specs.Breaks.{KeepsBrokenRule}
+use Rattle.ff_stream.specs.laws.Breaks.{KeepsBrokenRule}
 use Rattle.ff_stream.specs.Ports.{stream_at}
 use Rattle.ff_stream.specs.Stream.{Mark, whole, whole_stream}
 use Rattle.ff_filter.specs.declared.range.Range.{Range}
@@ -17,7 +17,7 @@ use Rattle.ff_filter.specs.Joins.{Flow}
 use Rattle.ff_filter.specs.Shifts.{earlier, shifted}
 use Rattle.ff_filter.proofs.SpreadLemmas.OneRule.{one_by, one_keeps_rule}
 use Rattle.ff_vfilter.specs.Trims.{before_stop, from_start, reaches as pictures_reach}
-use Rattle.ff_afilter.specs.Ends.{EndsBefore, EndsFrom, kept_of_each}
+use Rattle.ff_afilter.specs.laws.Ends.{EndsBefore, EndsFrom, kept_of_each}
 use Rattle.ff_afilter.specs.Trims.{kept_all, reaches, sound_trimmed}
 use Rattle.ff_afilter.proofs.Ending.{closes_at_stop, goes_on_before}
 use Rattle.ff_trim.specs.declared.counted.OutputCut.{OutputCut}

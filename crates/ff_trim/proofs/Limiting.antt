@@ -7,24 +7,24 @@ use Rattle.ff_frame.specs.Heads.{base_of_head}
 use Rattle.ff_stream.specs.declared.item.Lane.{Lane}
 use Rattle.ff_stream.specs.declared.item.Lane.TheVariants.{Frames}
 use Rattle.ff_stream.specs.Stream.{Mark, whole, broken, whole_stream, LiesBelow, opened}
-use Rattle.ff_stream.specs.Order.{below_self, below_trans}
+use Rattle.ff_stream.specs.laws.Order.{below_self, below_trans}
 use Rattle.ff_stream.specs.Ports.{nothing, stream_at, IsClosed}
-use Rattle.ff_filter.specs.spread.Valid.{GivesValid}
+use Rattle.ff_filter.specs.laws.spread.Valid.{GivesValid}
 use Rattle.ff_net.specs.Ways.{AreValid}
 use Rattle.ff_filter.specs.declared.range.Range.{Range}
 use Rattle.ff_filter.specs.Joins.{Flow, Ports, all_opened}
 use Rattle.ff_filter.specs.Shifts.{shifted-below}
 use Rattle.ff_filter.specs.Views.{View}
 use Rattle.ff_vfilter.specs.Trims.{trimmed}
-use Rattle.ff_vfilter.specs.TrimLaws.{trimmed-below, trimmed-calm, trimmed-settles}
+use Rattle.ff_vfilter.specs.laws.TrimLaws.{trimmed-below, trimmed-calm, trimmed-settles}
 use Rattle.ff_afilter.specs.Trims.{sound_trimmed}
-use Rattle.ff_afilter.specs.TrimLaws.{trimmed-below as sound-below, trimmed-calm as sound-calm, trimmed-settles as sound-settles}
+use Rattle.ff_afilter.specs.laws.TrimLaws.{trimmed-below as sound-below, trimmed-calm as sound-calm, trimmed-settles as sound-settles}
 use Rattle.ff_node_filter.specs.Tasks.{listed}
 use Rattle.ff_node_filter.specs.Limiting.{IsLimited}
 use Rattle.ff_trim.specs.declared.counted.OutputCut.{OutputCut}
 use Rattle.ff_trim.specs.Cuts.{is_uncut, is_empty, range_in, from_range, cut, counted, output_cut, cut_at, cut_each}
-use Rattle.ff_trim.specs.CountLaws.{counted-below, counted-calm, counted-settles}
-use Rattle.ff_trim.specs.Taps.{IsCutting}
+use Rattle.ff_trim.specs.laws.CountLaws.{counted-below, counted-calm, counted-settles}
+use Rattle.ff_trim.specs.laws.Taps.{IsCutting}
 use Rattle.ff_trim.proofs.Valid.{cut_valid, counted_valid, counted_unbroken}
 
 range-below : (h : StreamHead) (range : Range) (r s : Flow) → LiesBelow r s → LiesBelow (from_range h range r) (from_range h range s)

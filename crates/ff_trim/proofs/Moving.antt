@@ -12,14 +12,14 @@ use Rattle.ff_filter.specs.declared.after.After.TheVariants.{More, Whole, Broke}
 use Rattle.ff_filter.specs.Joins.{Flow, Ports, silence, before, before_at}
 use Rattle.ff_filter.specs.Made.{left, is_over}
 use Rattle.ff_filter.specs.Views.{View, SamePorts, Same, Fed, Gave, Waits, Stopped, IsNew, closes}
-use Rattle.ff_filter.specs.Held.{after_held, held_closes}
-use Rattle.ff_filter.specs.StepperLaws.{or_left, or_right}
+use Rattle.ff_filter.specs.laws.Held.{after_held, held_closes}
+use Rattle.ff_filter.specs.laws.StepperLaws.{or_left, or_right}
 use Rattle.std.specs.declared.alloc.AllocError.{AllocError}
 use Rattle.ff_trim.specs.declared.counted.OutputCut.{OutputCut}
 use Rattle.ff_trim.specs.declared.tap.Tap.{Tap}
 use Rattle.ff_trim.specs.declared.tap.Turn.{Turn}
 use Rattle.ff_trim.specs.declared.tap.Turn.TheVariants.{Gave as Turned, Waits as Idle, On}
-use Rattle.ff_trim.specs.Taps.{Way, ways_of, way_at, still_cut, cutting_view, cut_view, IsTied, Tied, to_go, IsPut, IsKept, IsResumed, IsKeptStill, IsShut, IsLeft, AreNewWays, IsCutting}
+use Rattle.ff_trim.specs.laws.Taps.{Way, ways_of, way_at, still_cut, cutting_view, cut_view, IsTied, Tied, to_go, IsPut, IsKept, IsResumed, IsKeptStill, IsShut, IsLeft, AreNewWays, IsCutting}
 use Rattle.ff_trim.proofs.Ways.{Replaced, there_or, runs_nothing}
 
 -- something was done at output q of a filter; the others go on as before

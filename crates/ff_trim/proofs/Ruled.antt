@@ -20,7 +20,7 @@ use Rattle.ff_stream.specs.declared.item.Item.{Item}
 use Rattle.ff_stream.specs.declared.item.Item.TheVariants.{Audio, Video, Packet, Trailer, End, Broken}
 use Rattle.ff_stream.specs.declared.item.Lane.TheVariants.{Frames}
 use Rattle.ff_stream.specs.Stream.{whole, whole_stream}
-use Rattle.ff_stream.specs.Order.{same_stream}
+use Rattle.ff_stream.specs.laws.Order.{same_stream}
 use Rattle.ff_stream.specs.Times.{ticks}
 use Rattle.ff_stream.specs.Lanes.{IsItemFor, IsValid}
 use Rattle.ff_filter.specs.declared.range.Range.{Range}
@@ -30,7 +30,7 @@ use Rattle.ff_filter.specs.Shifts.{earlier, start_ticks, shifted}
 use Rattle.ff_vfilter.specs.Trims.{trimmed, from_start, before_stop, reaches}
 use Rattle.ff_afilter.specs.Trims.{count_of, before_stop as samples_before, part, kept as kept_of, kept_all, ends_past, reaches as sound_reaches, sound_trimmed}
 use Rattle.ff_trim.specs.Cuts.{ticks_at, in_bits, start_in, range_in, from_range, is_uncut, is_empty, cut}
-use Rattle.ff_trim.specs.Rules.{from_start_of, to_length_of, by_rule}
+use Rattle.ff_trim.specs.laws.Rules.{from_start_of, to_length_of, by_rule}
 use Rattle.ff_trim.proofs.Valid.{Each, each_of, below_by}
 
 -- a stop so many ticks later

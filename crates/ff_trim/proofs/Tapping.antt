@@ -7,8 +7,8 @@ use Rattle.ff_filter.specs.declared.after.After.TheVariants.{More, Whole, Broke}
 use Rattle.ff_filter.specs.Joins.{Flow, before, joined}
 use Rattle.ff_filter.specs.Made.{left, behind, made_of, is_over}
 use Rattle.ff_filter.specs.Views.{closes}
-use Rattle.ff_filter.specs.Held.{after_held}
-use Rattle.ff_trim.specs.Taps.{Way, IsPut, IsResumed}
+use Rattle.ff_filter.specs.laws.Held.{after_held}
+use Rattle.ff_trim.specs.laws.Taps.{Way, IsPut, IsResumed}
 
 -- what is made, and then what comes behind it
 pub made_behind : (given : Option Item) (a : After) (r s : Flow) → ((y : Item) → given ≡ Some y → closes y ≡ false) → r ≡ joined (made_of given a) s

@@ -9,7 +9,7 @@ use Rattle.ff_filter.specs.Views.{View, Same, Gave, Waits}
 use Rattle.ff_trim.specs.declared.tap.Tap.{Tap}
 use Rattle.ff_trim.specs.declared.tap.Turn.{Turn}
 use Rattle.ff_trim.specs.declared.tap.Turn.TheVariants.{Gave as Turned, Waits as Idle, On}
-use Rattle.ff_trim.specs.Taps.{Way, way_of, ways_of, way_at, cut_view, Tied, IsTurn, IsPut, IsKept, IsResumed, IsKeptStill, to_go}
+use Rattle.ff_trim.specs.laws.Taps.{Way, way_of, ways_of, way_at, cut_view, Tied, IsTurn, IsPut, IsKept, IsResumed, IsKeptStill, to_go}
 use Rattle.ff_trim.proofs.Ways.{replaced, long_ways}
 use Rattle.ff_trim.proofs.Moving.{put_same, put_gave, put_less, kept_same, resumed_same, resumed_gave, resumed_less, again_same, on_err}
 

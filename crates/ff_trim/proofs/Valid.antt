@@ -29,7 +29,7 @@ use Rattle.ff_vfilter.specs.Trims.{trimmed, from_start, before_stop, reaches}
 use Rattle.ff_vfilter.proofs.TrimSound.{trim_sound}
 use Rattle.ff_afilter.specs.Trims.{count_of, before_stop as samples_before, part, kept as kept_of, kept_all, ends_past, reaches as sound_reaches, sound_trimmed}
 use Rattle.ff_afilter.proofs.TrimSound.{sound_trim_sound}
-use Rattle.ff_filter.specs.spread.Valid.{GivesValid}
+use Rattle.ff_filter.specs.laws.spread.Valid.{GivesValid}
 use Rattle.ff_trim.specs.Cuts.{is_uncut, is_empty, range_in, from_range, cut, counted}
 use Rattle.ff_trim.proofs.EarlierShape.{StartsFrom, shape_earlier}
 

@@ -7,8 +7,8 @@ use Rattle.ff_filter.specs.Joins.{Flow}
 use Rattle.ff_trim.specs.declared.counted.OutputCut.{OutputCut}
 use Rattle.ff_trim.specs.declared.tap.Tap.{Tap}
 use Rattle.ff_trim.specs.Cuts.{cut_at}
-use Rattle.ff_trim.specs.CountLaws.{first-waits}
-use Rattle.ff_trim.specs.Taps.{Way, no_way, way_of, ways_of, way_at, still_cut, IsNewWay, AreNewWays}
+use Rattle.ff_trim.specs.laws.CountLaws.{first-waits}
+use Rattle.ff_trim.specs.laws.Taps.{Way, no_way, way_of, ways_of, way_at, still_cut, IsNewWay, AreNewWays}
 
 -- one output was replaced
 pub record Replaced (ws us : List Way) (q : ℕ) (n : Way) : Type 0 where

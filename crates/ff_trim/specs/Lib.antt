@@ -1,7 +1,2 @@
-pub mod CountLaws
-pub mod CutLaws
 pub mod Cuts
-pub mod CuttingLaws
-pub mod Frames
-pub mod Rules
-pub mod Taps
+pub mod laws

@@ -46,7 +46,7 @@ fn some_frames(frames: Option<u32>) -> Option<u32>
 }
 
 impl FirstOf {
-    ghost use Rattle.ff_trim.specs.Taps.{lane_of, runs_first};
+    ghost use Rattle.ff_trim.specs.laws.Taps.{lane_of, runs_first};
 
     /// The cut of a stream of this head.
     pub fn of(head: &StreamHead, cut: OutputCut) -> FirstOf
@@ -92,8 +92,8 @@ impl FirstOf {
 }
 
 impl Step for FirstOf {
-    ghost use Rattle.ff_trim.specs.Taps.{lane_of, runs_first};
-    ghost use Rattle.ff_trim.specs.CountLaws.{first-below, first-calm, first-settles, first-waits, first-ends, first-breaks};
+    ghost use Rattle.ff_trim.specs.laws.Taps.{lane_of, runs_first};
+    ghost use Rattle.ff_trim.specs.laws.CountLaws.{first-below, first-calm, first-settles, first-waits, first-ends, first-breaks};
 
     ghost lane_in = { λ m. lane_of m.cut };
 

@@ -77,7 +77,7 @@ fn range_of(head: &StreamHead, cut: TimeCut) -> Range
 }
 
 impl Cut {
-    ghost use Rattle.ff_trim.specs.Taps.{runs_of, lane_of};
+    ghost use Rattle.ff_trim.specs.laws.Taps.{runs_of, lane_of};
 
     /// The cut of a stream of this head. That one of length 0 ends before anything comes is its output's to say (`Tap`).
     pub fn of(head: &StreamHead, cut: TimeCut) -> Cut
@@ -96,8 +96,8 @@ impl Cut {
 }
 
 impl Step for Cut {
-    ghost use Rattle.ff_trim.specs.Taps.{runs_of, lane_of};
-    ghost use Rattle.ff_trim.specs.CutLaws.{runs-below, runs-calm, runs-settles, runs-waits, runs-ends, runs-breaks};
+    ghost use Rattle.ff_trim.specs.laws.Taps.{runs_of, lane_of};
+    ghost use Rattle.ff_trim.specs.laws.CutLaws.{runs-below, runs-calm, runs-settles, runs-waits, runs-ends, runs-breaks};
 
     ghost lane_in = { λ m. lane_of m };
 

@@ -3,8 +3,8 @@ ghost use Rattle.std.specs.Prelude.{◌≡◌, ◌<◌, map, length, Ok, IfOk, i
 ghost use Rattle.ff_stream.specs.declared.item.Lane.TheVariants.{Frames};
 ghost use Rattle.ff_filter.specs.Made.{is_over};
 ghost use Rattle.ff_filter.specs.Views.{IsNew, Gave};
-ghost use Rattle.ff_trim.specs.Taps.{ways_of, way_at, cut_view, Tied, IsTurn, AreNewWays, IsCutting};
-ghost use Rattle.ff_trim.specs.CuttingLaws.{cutting-grows, cutting-hides, cutting-settles, cutting-quiet, cutting-spent, cutting-done};
+ghost use Rattle.ff_trim.specs.laws.Taps.{ways_of, way_at, cut_view, Tied, IsTurn, AreNewWays, IsCutting};
+ghost use Rattle.ff_trim.specs.laws.CuttingLaws.{cutting-grows, cutting-hides, cutting-settles, cutting-quiet, cutting-spent, cutting-done};
 
 use crate::counted::OutputCut;
 use crate::tap::{Tap, Turn};

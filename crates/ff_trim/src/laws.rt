@@ -9,24 +9,24 @@ ghost use Rattle.ff_frame.specs.declared.head.Codec.{Codec};
 ghost use Rattle.ff_frame.specs.declared.head.StreamHead.{StreamHead};
 ghost use Rattle.ff_frame.specs.declared.head.StreamHead.TheVariants.{Audio as AudioHead};
 ghost use Rattle.ff_stream.specs.declared.item.Item.{Item};
-ghost use Rattle.ff_stream.specs.Breaks.{KeepsBrokenRule};
+ghost use Rattle.ff_stream.specs.laws.Breaks.{KeepsBrokenRule};
 ghost use Rattle.ff_stream.specs.declared.item.Lane.{Lane};
 ghost use Rattle.ff_stream.specs.declared.item.Lane.TheVariants.{Frames};
 ghost use Rattle.ff_stream.specs.Stream.{Mark, broken, LiesBelow, opened, whole_stream};
 ghost use Rattle.ff_stream.specs.Ports.{IsClosed, stream_at};
 ghost use Rattle.ff_filter.specs.Joins.{Flow, Ports};
 ghost use Rattle.ff_node_filter.specs.Limiting.{IsLimited};
-ghost use Rattle.ff_filter.specs.spread.Valid.{GivesValid};
-ghost use Rattle.ff_afilter.specs.Ends.{EndsBefore, EndsFrom, kept_of_each};
+ghost use Rattle.ff_filter.specs.laws.spread.Valid.{GivesValid};
+ghost use Rattle.ff_afilter.specs.laws.Ends.{EndsBefore, EndsFrom, kept_of_each};
 ghost use Rattle.ff_filter.specs.Shifts.{earlier};
 ghost use Rattle.ff_trim.specs.Cuts.{counted, cut, cut_each, from_range, is_empty, output_cut, range_in, start_in, ticks_at};
 ghost use Rattle.ff_trim.specs.declared.counted.OutputCut.{OutputCut};
-ghost use Rattle.ff_trim.specs.Frames.{cut_step};
-ghost use Rattle.ff_trim.specs.Taps.{IsCutting};
+ghost use Rattle.ff_trim.specs.laws.Frames.{cut_step};
+ghost use Rattle.ff_trim.specs.laws.Taps.{IsCutting};
 ghost use Rattle.ff_filter.specs.Runs.{run, no_more};
 ghost use Rattle.ff_filter.specs.Views.{View};
 ghost use Rattle.ff_filter.specs.declared.range.Range.{Range};
-ghost use Rattle.ff_trim.specs.Rules.{by_rule};
+ghost use Rattle.ff_trim.specs.laws.Rules.{by_rule};
 
 /// A stream further on is cut further on, and whoever isn't told of a break gets no less. Where a stream closes so
 /// does its cut, and a cut is broken only where its stream is.

@@ -4,7 +4,7 @@ ghost use Rattle.ff_filter.specs.Views.{closes};
 ghost use Rattle.ff_stream.specs.declared.item.Item.{Item as AnItem};
 ghost use Rattle.ff_filter.specs.Joins.{Flow};
 ghost use Rattle.ff_filter.specs.Made.{is_over as is_over_by};
-ghost use Rattle.ff_filter.specs.Held.{held_closes};
+ghost use Rattle.ff_filter.specs.laws.Held.{held_closes};
 ghost use Rattle.ff_trim.specs.Cuts.{is_empty, starts_over};
 
 use crate::counted::{FirstOf, OutputCut};
@@ -74,7 +74,7 @@ fn at_once(cut: OutputCut) -> After
 }
 
 impl Tap {
-    ghost use Rattle.ff_trim.specs.Taps.{way_of, IsNewWay, IsPut, IsKept, IsResumed, IsKeptStill, IsShut, IsLeft};
+    ghost use Rattle.ff_trim.specs.laws.Taps.{way_of, IsNewWay, IsPut, IsKept, IsResumed, IsKeptStill, IsShut, IsLeft};
 
     /// An output of this head, to which nothing came.
     pub fn new(head: &StreamHead, cut: OutputCut) -> Tap

@@ -17,7 +17,7 @@ use Rattle.ff_stream.specs.Within.{some_pass, passes_limits}
 use Rattle.ff_filter.specs.declared.after.After.{After}
 use Rattle.ff_filter.specs.declared.after.After.TheVariants.{More, Whole, Broke}
 use Rattle.ff_filter.specs.Joins.{Flow, one, before, before_all, joined}
-use Rattle.ff_filter.specs.Limits.{limited, limit_step}
+use Rattle.ff_filter.specs.laws.Limits.{limited, limit_step}
 use Rattle.ff_filter.specs.Made.{waiting, is_over}
 use Rattle.ff_filter.specs.Runs.{run_at, no_more}
 use Rattle.ff_filter.specs.Views.{none_closes}
@@ -26,9 +26,9 @@ use Rattle.ff_vfilter.specs.declared.showing.Ahead.{Ahead}
 use Rattle.ff_vfilter.specs.declared.showing.Ahead.TheVariants as ahead
 use Rattle.ff_vfilter.specs.declared.showing.Showing.{Showing}
 use Rattle.ff_vfilter.specs.declared.span.Span.{Span}
-use Rattle.ff_vfilter.specs.RateCuts.{span_by, span_of, span_at, span_then, span_ahead, is_end, is_late, is_cut}
+use Rattle.ff_vfilter.specs.laws.RateCuts.{span_by, span_of, span_at, span_then, span_ahead, is_end, is_late, is_cut}
 use Rattle.ff_vfilter.specs.Rates.{Held, number_of, shown, shows, shows_to_end, rate_step, rated}
-use Rattle.ff_vfilter.specs.RateViews.{ahead_then}
+use Rattle.ff_vfilter.specs.laws.RateViews.{ahead_then}
 
 -- so many pictures from a number on --------------------------------------------------------------------------------------
 

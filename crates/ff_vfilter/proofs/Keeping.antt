@@ -15,7 +15,7 @@ use Rattle.ff_stream.specs.declared.item.Lane.TheVariants.{Frames}
 use Rattle.ff_stream.specs.Times.{HasTime, start_of, end_of}
 use Rattle.ff_stream.specs.Lanes.{FitsFrames, IsItemFor, AreInShape, InOrder, Follows, IsValid}
 use Rattle.ff_filter.specs.Joins.{Flow}
-use Rattle.ff_filter.specs.Sound.{IsSound}
+use Rattle.ff_filter.specs.laws.Sound.{IsSound}
 use Rattle.ff_planes.specs.declared.rectangle.Rectangle.{Rectangle}
 use Rattle.ff_planes.specs.Flips.{hflipped, vflipped}
 use Rattle.ff_planes.specs.Parts.{IsPart, cropped, padded}

@@ -10,11 +10,11 @@ use Rattle.ff_filter.specs.declared.after.After.{After}
 use Rattle.ff_filter.specs.declared.after.After.TheVariants.{More}
 use Rattle.ff_filter.specs.Joins.{Ports}
 use Rattle.ff_filter.specs.Views.{View}
-use Rattle.ff_filter.specs.Limits.{limited_is}
+use Rattle.ff_filter.specs.laws.Limits.{limited_is}
 use Rattle.ff_vfilter.specs.declared.showing.Ahead.TheVariants.{Unknown}
 use Rattle.ff_vfilter.specs.declared.showing.Showing.{Showing}
 use Rattle.ff_vfilter.specs.Rates.{rated, none_held}
-use Rattle.ff_vfilter.specs.RateViews.{rate_view}
+use Rattle.ff_vfilter.specs.laws.RateViews.{rate_view}
 use Rattle.ff_vfilter.specs.FpsOptions.{fps_head, fps_view}
 
 abbrev at_start : Fraction → Fraction → Showing

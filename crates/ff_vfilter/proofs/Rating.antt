@@ -14,13 +14,13 @@ use Rattle.ff_filter.specs.declared.after.After.TheVariants.{More}
 use Rattle.ff_filter.specs.Joins.{Flow, one, before, joined}
 use Rattle.ff_filter.specs.Views.{View, closes, Fed, Gave, Waits, Stopped}
 use Rattle.ff_filter.specs.Made.{made_of, waiting}
-use Rattle.ff_filter.specs.Limits.{limited, limited_some, limited_cut}
+use Rattle.ff_filter.specs.laws.Limits.{limited, limited_some, limited_cut}
 use Rattle.ff_vfilter.specs.declared.scale.Scale.{Scale}
 use Rattle.ff_vfilter.specs.declared.showing.Ahead.{Ahead}
 use Rattle.ff_vfilter.specs.declared.showing.Ahead.TheVariants as ahead
 use Rattle.ff_vfilter.specs.declared.showing.Showing.{Showing}
 use Rattle.ff_vfilter.specs.Rates.{number_of, end_number, shown, shows, number_from, rated}
-use Rattle.ff_vfilter.specs.RateViews.{ahead_then, still_shown, limit_of, rate_view, Shown}
+use Rattle.ff_vfilter.specs.laws.RateViews.{ahead_then, still_shown, limit_of, rate_view, Shown}
 
 module _ (s : Scale) where
   shows_next : (n q : ℕ) (f : VFrame) → n < q → shows (q - n) n f ≡ shown n f ∷ shows (q - (n + 1)) (n + 1) f

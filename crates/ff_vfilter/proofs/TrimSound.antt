@@ -7,7 +7,7 @@ use Rattle.ff_filter.specs.declared.range.Range.{Range}
 use Rattle.ff_filter.specs.Ranges.{is_past}
 use Rattle.ff_filter.specs.lasting.Lastings.{lasting}
 use Rattle.ff_filter.specs.Shifts.{start_ticks}
-use Rattle.ff_filter.specs.Sound.{IsSound}
+use Rattle.ff_filter.specs.laws.Sound.{IsSound}
 use Rattle.ff_filter.proofs.Parts.{IsPart, part_later, shape_part}
 use Rattle.ff_vfilter.specs.Trims.{before_stop, reaches, from_start, trimmed, first_kept, lasting_trimmed}
 

@@ -1,16 +1,10 @@
 pub mod Crops
 pub mod FpsOptions
 pub mod HFlips
-pub mod LastingLaws
 pub mod Pads
 pub mod Pictures
-pub mod RateCuts
-pub mod RateLaws
-pub mod RateSeen
-pub mod RateSpent
-pub mod RateViews
 pub mod Rates
 pub mod Sizes
-pub mod TrimLaws
 pub mod Trims
 pub mod VFlips
+pub mod laws

@@ -39,7 +39,7 @@ fn time_of(item: &Item) -> u64
 
 impl Step for LastingTrim {
     ghost use Rattle.ff_vfilter.specs.Trims.{lasting_trimmed};
-    ghost use Rattle.ff_vfilter.specs.LastingLaws.{lasting-below, lasting-calm, lasting-settles, lasting-bare};
+    ghost use Rattle.ff_vfilter.specs.laws.LastingLaws.{lasting-below, lasting-calm, lasting-settles, lasting-bare};
     ghost use Rattle.ff_stream.specs.Stream.{still_open, whole, broken};
 
     ghost lane_in = { λ m. Frames m.trim.head };

@@ -8,7 +8,7 @@ ghost use Rattle.ff_frame.specs.declared.video.VFrame.{VFrame};
 ghost use Rattle.ff_frame.specs.Video.{IsSide};
 ghost use Rattle.ff_stream.specs.declared.item.Lane.{Lane};
 ghost use Rattle.ff_stream.specs.declared.item.Lane.TheVariants.{Frames};
-ghost use Rattle.ff_stream.specs.Breaks.{KeepsBrokenRule};
+ghost use Rattle.ff_stream.specs.laws.Breaks.{KeepsBrokenRule};
 ghost use Rattle.ff_stream.specs.Lanes.{IsValid};
 ghost use Rattle.ff_stream.specs.Ports.{stream_at};
 ghost use Rattle.ff_filter.specs.Joins.{Flow};
@@ -23,7 +23,7 @@ ghost use Rattle.ff_vfilter.specs.VFlips.{vflip_frame};
 ghost use Rattle.ff_vfilter.specs.Crops.{crop_frame};
 ghost use Rattle.ff_vfilter.specs.Pads.{pad_frame};
 ghost use Rattle.ff_filter.specs.declared.range.Range.{Range};
-ghost use Rattle.ff_filter.specs.Sound.{IsSound};
+ghost use Rattle.ff_filter.specs.laws.Sound.{IsSound};
 ghost use Rattle.ff_vfilter.specs.Trims.{trimmed, lasting_trimmed};
 
 /// Of a valid stream the frames within a range are in shape for the same way, with a duration and without one; an

@@ -8,9 +8,9 @@ ghost use Rattle.ff_stream.specs.Stream.{has_closed};
 ghost use Rattle.ff_filter.specs.Views.{Fed, Gave, Waits, Same, Stopped, IsSpent};
 ghost use Rattle.ff_filter.specs.Made.{is_over};
 ghost use Rattle.ff_vfilter.specs.Rates.{number_of, shown};
-ghost use Rattle.ff_vfilter.specs.RateViews.{limit_of, work_left};
-ghost use Rattle.ff_vfilter.specs.RateSeen.{seen, fed_mark, rate_spent, KeepsNothing};
-ghost use Rattle.ff_vfilter.specs.RateCuts.{span_of, span_ahead, is_late as is_late_by, is_cut as is_cut_by};
+ghost use Rattle.ff_vfilter.specs.laws.RateViews.{limit_of, work_left};
+ghost use Rattle.ff_vfilter.specs.laws.RateSeen.{seen, fed_mark, rate_spent, KeepsNothing};
+ghost use Rattle.ff_vfilter.specs.laws.RateCuts.{span_of, span_ahead, is_late as is_late_by, is_cut as is_cut_by};
 
 use crate::showing::{Ahead, Showing};
 use crate::span::Span;
@@ -273,8 +273,8 @@ impl Rate {
 }
 
 impl Filter for Rate {
-    ghost use Rattle.ff_vfilter.specs.RateLaws.{rate-grows, rate-hides, rate-settles, rate-quiet};
-    ghost use Rattle.ff_vfilter.specs.RateSpent.{rate-spent_only, rate-shut_spent, rate-done_spent};
+    ghost use Rattle.ff_vfilter.specs.laws.RateLaws.{rate-grows, rate-hides, rate-settles, rate-quiet};
+    ghost use Rattle.ff_vfilter.specs.laws.RateSpent.{rate-spent_only, rate-shut_spent, rate-done_spent};
 
     ghost view = { λ m. seen m };
 

@@ -4,7 +4,7 @@ ghost use Rattle.ff_frame.specs.declared.video.VFrame.{VFrame};
 ghost use Rattle.ff_frame.specs.Video.{IsVideo};
 ghost use Rattle.ff_stream.specs.declared.item.Lane.TheVariants.{Frames};
 ghost use Rattle.ff_stream.specs.Stream.{opened};
-ghost use Rattle.ff_stream.specs.Order.{below_self};
+ghost use Rattle.ff_stream.specs.laws.Order.{below_self};
 ghost use Rattle.ff_vfilter.specs.Pictures.{agrees as fields_agree, repainted, repainted-below};
 
 use ff_filter::{After, Given, Step};

@@ -1,8 +1,8 @@
 //! The frame that `fps` shows, and the one that comes next.
 ghost use Rattle.std.specs.Prelude.{◌≡◌, ◌<◌, ◌≤◌, ◌^◌, ◌+◌, Some, IfOk, OnErr};
 ghost use Rattle.ff_vfilter.specs.Rates.{shown};
-ghost use Rattle.ff_vfilter.specs.RateViews.{limit_of, Shown};
-ghost use Rattle.ff_vfilter.specs.RateCuts.{span_ahead, is_end as is_end_of};
+ghost use Rattle.ff_vfilter.specs.laws.RateViews.{limit_of, Shown};
+ghost use Rattle.ff_vfilter.specs.laws.RateCuts.{span_ahead, is_end as is_end_of};
 
 use crate::scale::Scale;
 use crate::span::Span;

@@ -1,6 +1,6 @@
 //! The frame numbers of the output of `fps` at which a frame of its input is shown.
 ghost use Rattle.std.specs.Prelude.{◌≡◌};
-ghost use Rattle.ff_vfilter.specs.RateCuts.{span_to, span_by};
+ghost use Rattle.ff_vfilter.specs.laws.RateCuts.{span_to, span_by};
 
 use crate::scale::Scale;
 use ff_stream::Item;

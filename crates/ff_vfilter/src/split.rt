@@ -1,7 +1,7 @@
 //! The filter `split`.
 ghost use Rattle.std.specs.Prelude.{IfOk, IfErr};
 ghost use Rattle.ff_filter.specs.Options.{is_video, IsRefused};
-ghost use Rattle.ff_filter.specs.spread.Many.{AreMade};
+ghost use Rattle.ff_filter.specs.laws.spread.Many.{AreMade};
 ghost use Rattle.ff_filter.specs.spread.Splits.{IsSplit, split_view, split_heads};
 
 use ff_filter::{Copies, Filter, SplitSettings, Spreader, copies_of, video_settings};

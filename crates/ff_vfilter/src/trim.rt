@@ -49,7 +49,7 @@ impl Trim {
 
 impl Step for Trim {
     ghost use Rattle.ff_vfilter.specs.Trims.{trimmed};
-    ghost use Rattle.ff_vfilter.specs.TrimLaws.{trimmed-below, trimmed-calm, trimmed-settles, trimmed-bare};
+    ghost use Rattle.ff_vfilter.specs.laws.TrimLaws.{trimmed-below, trimmed-calm, trimmed-settles, trimmed-bare};
     ghost use Rattle.ff_stream.specs.Stream.{still_open, whole, broken};
 
     ghost lane_in = { λ m. Frames m.head };

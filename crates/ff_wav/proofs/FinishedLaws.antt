@@ -3,7 +3,7 @@ use Rattle.std.proofs.Common.{◌≡◌, ℕ, true, List, ◌++◌, length, Some
 use Rattle.std.specs.Prelude.{nat_le}
 use Rattle.std.proofs.lemmas.Bool.Decides.{nat_tests}
 use Rattle.ff_format.specs.Layouts.{bytes_in}
-use Rattle.ff_format.specs.Patched.{at_front}
+use Rattle.ff_format.specs.laws.Patched.{at_front}
 use Rattle.ff_frame.specs.declared.head.StreamHead.{StreamHead}
 use Rattle.ff_host.specs.Files.{patched}
 use Rattle.ff_format.specs.declared.format.Rf64.{Rf64 as Mode}

@@ -16,8 +16,8 @@ use Rattle.ff_pcm.specs.body.Packets.{IsHead}
 use Rattle.ff_pcm.specs.declared.body.head.PcmHead.{PcmHead as WavHead}
 use Rattle.ff_wav.specs.Chunks.{unit}
 use Rattle.ff_wav.specs.Heads.{WavWalk, Found, riff_grammar, rf64_grammar, riff_magic, rf64_magic, fork, is_rf64, reading, early, head, answer, IsReached}
-use Rattle.ff_wav.specs.HeadLaws.{riff_lawful, rf64_lawful}
-use Rattle.ff_wav.specs.SoundLaws.{IsKnown, is_kept}
+use Rattle.ff_wav.specs.laws.HeadLaws.{riff_lawful, rf64_lawful}
+use Rattle.ff_wav.specs.laws.SoundLaws.{IsKnown, is_kept}
 
 -- by the form that the first bytes tell
 pub reading_rf64 : (bs : List ℕ) → is_rf64 bs ≡ true → reading bs ≡ read_within rf64_grammar head_limit bs

@@ -7,7 +7,7 @@ use Rattle.std.proofs.lemmas.Bool.Decides.{nat_tests}
 use Rattle.std.proofs.lemmas.Nat.{mul-le}
 use Rattle.ff_time.specs.Fraction.{Fraction}
 use Rattle.ff_frame.specs.Codecs.{sample_bytes}
-use Rattle.ff_frame.specs.PcmLaws.{few_sample_bytes}
+use Rattle.ff_frame.specs.laws.PcmLaws.{few_sample_bytes}
 use Rattle.ff_frame.specs.declared.head.Codec.{Codec}
 use Rattle.ff_frame.specs.declared.head.Codec.TheVariants.{PcmU8, PcmS16le, PcmS24le, PcmS32le}
 use Rattle.ff_frame.specs.declared.head.StreamHead.{StreamHead}
@@ -39,7 +39,7 @@ use Rattle.ff_wav.specs.Heads.{riff_magic, rf64_magic, riff_grammar, rf64_gramma
 use Rattle.ff_pcm.specs.body.Packets.{IsPcmSound, IsStream, block_of, body, frames, packet_at, packet_count, packets_of, demuxed}
 use Rattle.ff_wav.specs.Written.{pad_of, len_in, says, HeadersAreRead, FilesAreRead, BodiesAreRead, wav_container}
 use Rattle.ff_wav.proofs.FormatBytes.{word_32, word_64, plain_chunk, plain_length, plain_named, plain_other, plain_size, plain_tag, plain_channels, plain_rate, plain_block, plain_bits, long_chunk, long_length, long_named, long_other, long_size, long_tag, long_kind, long_channels, long_rate, long_block, long_bits}
-use Rattle.ff_pcm.specs.body.Written.{BodiesComeBack, SamplesComeBack}
+use Rattle.ff_pcm.specs.laws.body.Written.{BodiesComeBack, SamplesComeBack}
 use Rattle.ff_pcm.proofs.BodyLemmas.SamplesBack.{samples_come_back}
 use Rattle.ff_pcm.proofs.BodyLemmas.BodyLaws.{some_block, whole_packets}
 

@@ -12,7 +12,7 @@ use Rattle.ff_wav.specs.declared.header.HeaderForm.{HeaderForm}
 use Rattle.ff_wav.specs.declared.header.HeaderForm.TheVariants.{Riff, RiffWithRoom, Rf64}
 use Rattle.ff_wav.specs.declared.header.Sizes.{Sizes}
 use Rattle.ff_pcm.specs.body.Packets.{IsStream, block_of, packets_of, demuxed}
-use Rattle.ff_pcm.specs.body.Written.{Container}
+use Rattle.ff_pcm.specs.laws.body.Written.{Container}
 
 -- one byte 0 behind a body of an odd number of bytes
 abbrev pub pad_of : ℕ → List ℕ

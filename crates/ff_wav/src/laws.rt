@@ -1,7 +1,7 @@
 //! Laws of WAV. Each is a function that does nothing: its clauses hold of all values.
 ghost use Rattle.ff_format.specs.declared.format.Rf64.{Rf64 as Mode};
 ghost use Rattle.ff_wav.specs.Layout.{WavsAreFiles};
-ghost use Rattle.ff_pcm.specs.body.Written.{SamplesComeBack};
+ghost use Rattle.ff_pcm.specs.laws.body.Written.{SamplesComeBack};
 ghost use Rattle.ff_wav.specs.Written.{HeadersAreRead, FilesAreRead, BodiesAreRead, wav_container};
 
 /// What is written around a body is read again. A header of each form with any sizes is read as its stream and its

@@ -2,7 +2,7 @@
 ghost use Rattle.std.specs.Prelude.{◌≡◌, ◌+◌, ◌%◌, ◌<◌, ◌≤◌, ◌↔◌, IsErr, IsTrue, IfOk, OnOk, OnErr};
 ghost use Rattle.ff_wav.specs.Codecs.{IsWavCoded};
 ghost use Rattle.ff_wav.specs.Limits.{longest_of};
-ghost use Rattle.ff_wav.specs.Sound.{IsWavCoded-prop};
+ghost use Rattle.ff_wav.specs.laws.Sound.{IsWavCoded-prop};
 
 use crate::header::{HeaderForm, Sizes, first_form, header_bytes, last_form, longest, sizes_of};
 use ff_format::{Rf64, TooLarge};

@@ -4,8 +4,8 @@ ghost use Rattle.ff_pcm.specs.body.Packets.{IsHead};
 ghost use Rattle.ff_reader.specs.Heads.{answered, IsOpen};
 ghost use Rattle.ff_reader.specs.Walks.{head_limit};
 ghost use Rattle.ff_wav.specs.Heads.{riff_grammar, rf64_grammar, is_rf64, head, answer, IsReached};
-ghost use Rattle.ff_wav.specs.HeadLaws.{riff_lawful, rf64_lawful};
-ghost use Rattle.ff_wav.specs.SoundLaws.{IsKnown, is_kept};
+ghost use Rattle.ff_wav.specs.laws.HeadLaws.{riff_lawful, rf64_lawful};
+ghost use Rattle.ff_wav.specs.laws.SoundLaws.{IsKnown, is_kept};
 
 use crate::chunk::unit_at;
 use crate::head::{WavHead, WavState, WavStep};

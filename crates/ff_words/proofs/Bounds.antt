@@ -28,7 +28,7 @@ use Rattle.ff_words.specs.declared.table.Rule.{Rule}
 use Rattle.ff_words.specs.declared.reader.Reader.{Reader}
 use Rattle.ff_words.specs.declared.value.Value.{Value}
 use Rattle.ff_words.specs.declared.value.Value.TheVariants as value
-use Rattle.ff_words.specs.Bounds.{HasFewMaps, IsBounded}
+use Rattle.ff_words.specs.laws.Bounds.{HasFewMaps, IsBounded}
 use Rattle.ff_words.specs.Table.{option_named, format_named, audio_codec, video_codec, is_level, is_frame_mode, is_sync_mode}
 use Rattle.ff_words.specs.Values.{Reads, ReadsWhole, ReadsTime, ReadsGraph, ReadsMap, Makes, made, switched, or_bad, format_value, codec_value, hash_value, rf64_value, pixels_value, size_value, is_spelled, mode_value, ReadsLevel, ReadsRate}
 use Rattle.ff_words.specs.Numbers.{size_of}
@@ -36,7 +36,7 @@ use Rattle.ff_words.specs.declared.job.Size.{Size}
 use Rattle.ff_frame.specs.declared.video.Format.TheVariants.{C420, C422, C444, Mono}
 use Rattle.ff_words.specs.Table.{format_ending}
 use Rattle.ff_words.specs.Words.{Token, Entry, fault, early, option_fault, name_fault, given_fault, is_full, is_too_much, is_dashed, is_file, is_output, late, misplaced, bad_at, own_early, or_else, takes, placed, IsOption, IsNamed, IsToken, TokenReads, IsEntry, AreRead, IsAnswer, tokens, command, job, last, as_solo, end_fault, end_by, stands_alone, run_fault, groups, inputs, outputs, lacks_input, same_name, output_format, command_by, first_place, not_before_input, not_before_output, not_at_end, unreadable, unwritable}
-use Rattle.ff_words.specs.Reading.{reader, optioned, with_input, with_output}
+use Rattle.ff_words.specs.laws.Reading.{reader, optioned, with_input, with_output}
 use Rattle.ff_words.proofs.Snoc.{entry, filed-is, output-filed, reader-snoc, reader-input}
 use Rattle.ff_words.proofs.Steps.{early-option}
 

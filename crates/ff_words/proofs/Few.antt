@@ -3,7 +3,7 @@ use Rattle.std.proofs.Common.{ℕ, ◌+◌, ◌*◌, ◌≤◌, Bool, true, fals
 use Rattle.std.specs.Prelude.{flat_map, codes}
 use Rattle.std.specs.List.{AllByRecursion}
 use Rattle.ff_lang.specs.declared.graph.Graph.{Graph}
-use Rattle.ff_lang.specs.Printing.{printed}
+use Rattle.ff_lang.specs.laws.Printing.{printed}
 use Rattle.ff_words.specs.declared.maps.map.MapSpec.{MapSpec}
 use Rattle.ff_format.specs.declared.format.Rf64.{Rf64}
 use Rattle.ff_format.specs.declared.format.Rf64.TheVariants.{Never}
@@ -14,7 +14,7 @@ use Rattle.ff_words.specs.declared.job.Asked.{Asked}
 use Rattle.ff_words.specs.Words.{none_asked}
 use Rattle.ff_frame.specs.Codecs.{codec_name}
 use Rattle.ff_format.specs.Formats.{format_name}
-use Rattle.ff_words.specs.Writing.{given, micros_text, where_some, where_true, format_words, start_words, length_words, frames_words, asked_words, input_words, map_words, audio_words, video_words, vf_words, af_words, hash_words, rf64_words, output_words, graph_words, trace_words, keeps_words, queue_words, job_words, IsFineOutput, IsFineJob, IsPlainOutput}
+use Rattle.ff_words.specs.laws.Writing.{given, micros_text, where_some, where_true, format_words, start_words, length_words, frames_words, asked_words, input_words, map_words, audio_words, video_words, vf_words, af_words, hash_words, rf64_words, output_words, graph_words, trace_words, keeps_words, queue_words, job_words, IsFineOutput, IsFineJob, IsPlainOutput}
 
 abbrev Words : Type 0
 Words = List (List ℕ)

@@ -15,7 +15,7 @@ use Rattle.ff_format.specs.Formats.{has_file}
 use Rattle.ff_words.specs.Table.{option_named, format_ending}
 use Rattle.ff_words.specs.Values.{Reads, switched}
 use Rattle.ff_words.specs.Words.{Entry, takes, takes_value, is_too_much, is_dashed, is_lone, is_no_name, goes_nowhere, groups, last, as_format, is_file, or_else}
-use Rattle.ff_words.specs.Reading.{reader, Stands, Taken, Steps, full, word_at, token_at, width, optioned, with_input, with_output, input_wrong, output_wrong, pending_format}
+use Rattle.ff_words.specs.laws.Reading.{reader, Stands, Taken, Steps, full, word_at, token_at, width, optioned, with_input, with_output, input_wrong, output_wrong, pending_format}
 use Rattle.ff_words.proofs.Known.{rule, no-option}
 use Rattle.ff_words.proofs.Snoc.{taken-option, taken-input, taken-output}
 use Rattle.ff_words.proofs.Steps.{given-ok, given-fine}

@@ -6,7 +6,7 @@ use Rattle.std.proofs.lemmas.Bool.{cases_Bool}
 use Rattle.std.proofs.lemmas.Slice.Eq.{bytes_eq-Decides}
 use Rattle.ff_lang.specs.declared.graph.Graph.{Graph}
 use Rattle.ff_lang.proofs.Prints.{printed_is}
-use Rattle.ff_lang.specs.Printing.{printed}
+use Rattle.ff_lang.specs.laws.Printing.{printed}
 use Rattle.ff_words.specs.declared.maps.map.MapSpec.{MapSpec}
 use Rattle.ff_frame.specs.Codecs.{codec_name}
 use Rattle.ff_frame.specs.declared.head.Codec.{Codec}
@@ -29,7 +29,7 @@ use Rattle.ff_words.specs.Table.{rule_in, option_named, format_in, format_named,
 use Rattle.ff_words.specs.Values.{Reads, or_bad, format_value, codec_value, hash_value, rf64_value, pixels_value, size_value}
 use Rattle.ff_words.specs.Words.{is_dashed}
 use Rattle.ff_words.specs.Options.{options, hash_name, rf64_name, pixels_name}
-use Rattle.ff_words.specs.Writing.{micros_text, map_text, rate_text, size_text, IsFineMap, IsFineGraph, IsFineSize, IsSoundCodec}
+use Rattle.ff_words.specs.laws.Writing.{micros_text, map_text, rate_text, size_text, IsFineMap, IsFineGraph, IsFineSize, IsSoundCodec}
 use Rattle.ff_words.proofs.Spellings.{is-duration, is-map}
 use Rattle.ff_words.proofs.Rates.{is-rate, is-size}
 use Rattle.ff_words.specs.declared.job.Size.{Size}

@@ -16,7 +16,7 @@ use Rattle.ff_time.specs.Fraction.{Fraction, IsBase, IsLowestOf, IsBelowOne, IsT
 use Rattle.ff_time.proofs.Lowest.{IsLowestOf-small, IsReduced-num, IsReduced-den}
 use Rattle.ff_words.specs.declared.job.Size.{Size}
 use Rattle.ff_words.specs.Numbers.{sized, size_of}
-use Rattle.ff_words.specs.Writing.{rate_text, size_text, IsFineSize, IsFineText}
+use Rattle.ff_words.specs.laws.Writing.{rate_text, size_text, IsFineSize, IsFineText}
 
 -- ---- one at most
 

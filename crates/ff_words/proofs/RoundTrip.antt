@@ -8,7 +8,7 @@ use Rattle.std.proofs.Props.{props}
 use Rattle.std.proofs.lemmas.Bool.{lt-leb, ne_eqb}
 use Rattle.std.proofs.lemmas.List.{append-nil}
 use Rattle.ff_lang.specs.declared.graph.Graph.{Graph}
-use Rattle.ff_lang.specs.Printing.{printed}
+use Rattle.ff_lang.specs.laws.Printing.{printed}
 use Rattle.ff_words.specs.declared.maps.map.MapSpec.{MapSpec}
 use Rattle.ff_time.specs.declared.cut.TimeCut.{TimeCut}
 use Rattle.ff_frame.specs.Codecs.{codec_name}
@@ -33,7 +33,7 @@ use Rattle.ff_words.specs.declared.table.Concern.TheVariants.{All, Alone, File, 
 use Rattle.ff_words.specs.declared.table.Kind.TheVariants as kind
 use Rattle.ff_words.specs.declared.value.Micros.{Micros}
 use Rattle.ff_words.specs.declared.value.Value.TheVariants as value
-use Rattle.ff_words.specs.Reading.{pending, reader, place_unless, end_wrong}
+use Rattle.ff_words.specs.laws.Reading.{pending, reader, place_unless, end_wrong}
 use Rattle.ff_words.specs.declared.error.Fault.{Fault}
 use Rattle.ff_words.specs.Words.{IsAnswer, or_else, cut_of, start_of, length_of, ends_early, fault, bad_at, lacks_input, same_name}
 use Rattle.ff_format.specs.Formats.{format_name, is_read, short_name}
@@ -45,7 +45,7 @@ use Rattle.ff_words.proofs.Rates.{rate-short, size-short}
 use Rattle.ff_time.specs.Fraction.{Fraction, IsBase}
 use Rattle.ff_frame.specs.declared.video.Format.{Format}
 use Rattle.ff_frame.specs.declared.video.Format.TheVariants.{C420, C422, C444, Mono}
-use Rattle.ff_words.specs.Writing.{given, micros_text, map_text, format_words, start_words, length_words, frames_words, rate_words, channels_words, pixels_words, base_words, size_words, asked_words, rate_text, size_text, input_words, map_words, audio_words, video_words, vf_words, af_words, hash_words, rf64_words, where_some, where_true, output_words, graph_words, trace_words, keeps_words, queue_words, job_words, IsFineText, IsFineGraph, IsFineMap, IsReadFormat, IsSoundCodec, WhereSome, IsFineSize, IsFineAsked, IsFineInput, IsFineOutput, IsFineJob, IsFineSolo, IsFineCommand, solo_words, command_words}
+use Rattle.ff_words.specs.laws.Writing.{given, micros_text, map_text, format_words, start_words, length_words, frames_words, rate_words, channels_words, pixels_words, base_words, size_words, asked_words, rate_text, size_text, input_words, map_words, audio_words, video_words, vf_words, af_words, hash_words, rf64_words, where_some, where_true, output_words, graph_words, trace_words, keeps_words, queue_words, job_words, IsFineText, IsFineGraph, IsFineMap, IsReadFormat, IsSoundCodec, WhereSome, IsFineSize, IsFineAsked, IsFineInput, IsFineOutput, IsFineJob, IsFineSolo, IsFineCommand, solo_words, command_words}
 use Rattle.ff_words.proofs.Spellings.{is-number, number-short, micros-short, map-short}
 use Rattle.ff_words.proofs.Known.{line-queue, line-keeps, line-help, line-version, line-self_run, line-trace, line-complex, line-format, line-start, line-length, line-input, line-map, line-audio, line-video, line-vf, line-af, line-no_audio, line-no_video, line-shortest, line-frames, line-rate, line-channels, line-pixels, line-base, line-size, line-hash, line-rf64, reads-format, reads-audio, reads-video, reads-hash, reads-rf64, reads-pixels, reads-base, reads-size, reads-map, reads-complex, reads-vf, reads-af, reads-start, reads-length}
 use Rattle.ff_words.proofs.Goes.{Goes, goes-start, goes-by, goes-option, goes-input, goes-switch, goes-output}

@@ -12,7 +12,7 @@ use Rattle.ff_format.specs.declared.format.FileFormat.TheVariants.{FrameHash}
 use Rattle.ff_words.specs.Words.{not_before_input, not_before_output, not_at_end, as_format, as_start, as_length, as_end, as_map, as_audio, as_video, as_vf, as_af, as_no_audio, as_no_video, as_shortest, as_frames, as_rate, as_channels, as_pixels, as_base, as_size, as_hash, as_rf64, as_queue, as_trace, as_keeps, as_graph, as_solo, Entry, Group, Groups, groups, led, is_file, or_else, last, each, first_place, last_place, unread_place, unwritten_place, inputs, outputs, group_input, group_output}
 use Rattle.std.specs.Prelude.{flat_map}
 use Rattle.ff_words.specs.Words.{output_format, late}
-use Rattle.ff_words.specs.Reading.{with_input, with_output, input_wrong, output_wrong, pending_format, valued, noted, whole, pending, reader, waiting, optioned, kept}
+use Rattle.ff_words.specs.laws.Reading.{with_input, with_output, input_wrong, output_wrong, pending_format, valued, noted, whole, pending, reader, waiting, optioned, kept}
 
 or_else_assoc : {X : Type 0} (a b c : Option X) → or_else (or_else a b) c ≡ or_else a (or_else b c)
 or_else_assoc (Some x) b c = refl

@@ -16,7 +16,7 @@ use Rattle.ff_words.specs.declared.maps.map.Pick.TheVariants as pick
 use Rattle.ff_words.specs.declared.maps.map.MapFrom.{MapFrom}
 use Rattle.ff_words.specs.declared.maps.map.MapFrom.TheVariants.{Input, Label}
 use Rattle.ff_words.specs.declared.maps.map.MapSpec.{MapSpec}
-use Rattle.ff_words.specs.Writing.{micros_text, pick_text, from_text, map_text, IsFinePick, IsFineFrom, IsFineMap, IsFineText}
+use Rattle.ff_words.specs.laws.Writing.{micros_text, pick_text, from_text, map_text, IsFinePick, IsFineFrom, IsFineMap, IsFineText}
 
 -- ---- numbers
 

@@ -17,7 +17,7 @@ use Rattle.ff_words.specs.declared.reader.Reader.{Reader}
 use Rattle.ff_words.specs.Table.{option_named, format_ending}
 use Rattle.ff_words.specs.Values.{Reads, switched}
 use Rattle.ff_words.specs.Words.{Entry, Token, groups, last, as_format, is_no_name, name_fault, option_fault, fault, early, given_fault, value_fault, is_full, takes, placed, is_too_much, is_dashed, IsToken, IsNamed, IsOption, TokenReads, IsFaultAt}
-use Rattle.ff_words.specs.Reading.{reader, full, Taken, Steps}
+use Rattle.ff_words.specs.laws.Reading.{reader, full, Taken, Steps}
 
 -- an option's early fault, once its word and its rule are known
 pub early-option : (es : List Entry) (t : Token) (rule : Rule) → is_too_much t.at t.word ≡ false → is_dashed t.word ≡ true → option_named t.word ≡ Some rule

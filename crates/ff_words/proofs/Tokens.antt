@@ -16,7 +16,7 @@ use Rattle.ff_words.specs.declared.job.Command.{Command}
 use Rattle.ff_words.specs.declared.job.Solo.{Solo}
 use Rattle.std.proofs.lemmas.List.{append-nil}
 use Rattle.ff_words.specs.Words.{AreRead, IsEntry, command_by, end_fault, end_by, stands_alone, misplaced, first_place, not_at_end, groups, last, as_format, is_no_name, as_solo, Entry, Token, tokens, takes, takes_value, fault, is_too_much, is_dashed, IsFaultAt}
-use Rattle.ff_words.specs.Reading.{reader, Stands, Answers, Ended, end_wrong, command_of, word_at, token_at, width, Taken, Steps, Given}
+use Rattle.ff_words.specs.laws.Reading.{reader, Stands, Answers, Ended, end_wrong, command_of, word_at, token_at, width, Taken, Steps, Given}
 use Rattle.ff_words.proofs.Steps.{early-output, early-lone, early-unknown, early-switch, early-missing, reads-output, reads-switch, taken-steps}
 
 pub token-lone : (es : List Entry) (ws : List (List ℕ)) (at : ℕ) → is_too_much at (word_at ws at) ≡ false → is_dashed (word_at ws at) ≡ false

@@ -31,7 +31,7 @@ use Rattle.ff_words.specs.Values.{Reads, ReadsWhole, ReadsNumber, ReadsLevel, Re
 use Rattle.ff_time.specs.Fraction.{Fraction}
 use Rattle.ff_words.proofs.Rates.{IsRate-unique}
 use Rattle.ff_words.specs.Words.{Token, Entry, late, placed, is_dashed, IsOption, IsNamed, IsToken, TokenReads, IsEntry, IsFaultAt, AreRead, Stops, IsAnswer, tokens, command, end_fault, EndsBetween, FaultOfFront}
-use Rattle.ff_words.specs.Reading.{Answers, as_error}
+use Rattle.ff_words.specs.laws.Reading.{Answers, as_error}
 
 -- ---- values
 

@@ -4,7 +4,7 @@ ghost use Rattle.ff_words.specs.declared.table.TheConstants.{OPTIONS, AUDIO_CODE
 ghost use Rattle.ff_words.specs.Options.{options, audio_codecs, video_codecs, log_levels};
 ghost use Rattle.ff_words.specs.Words.{IsAnswer, EndsBetween, FaultOfFront};
 ghost use Rattle.ff_words.specs.declared.error.Fault.{Fault};
-ghost use Rattle.ff_words.specs.Writing.{IsFineCommand, IsFineJob, IsPlainOutput, command_words, job_words};
+ghost use Rattle.ff_words.specs.laws.Writing.{IsFineCommand, IsFineJob, IsPlainOutput, command_words, job_words};
 ghost use Rattle.ff_words.specs.declared.job.Command.{Command};
 ghost use Rattle.ff_words.specs.declared.job.Job.{Job};
 ghost use Rattle.std.specs.List.{AllByRecursion};

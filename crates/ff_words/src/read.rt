@@ -1,7 +1,7 @@
 //! The reader of a whole command line.
 ghost use Rattle.std.specs.Prelude.{◌≡◌, ◌⊎◌, Ok, Err, IsErrOf};
-ghost use Rattle.ff_words.specs.Bounds.{IsBounded};
-ghost use Rattle.ff_words.specs.Reading.{Answers, as_error};
+ghost use Rattle.ff_words.specs.laws.Bounds.{IsBounded};
+ghost use Rattle.ff_words.specs.laws.Reading.{Answers, as_error};
 ghost use Rattle.ff_words.specs.Words.{texts, IsAnswer};
 ghost use Rattle.ff_words.specs.declared.error.Fault.{Fault};
 ghost use Rattle.ff_words.specs.declared.job.Command.{Command};

@@ -1,8 +1,8 @@
 //! The state of the one pass over the arguments.
 ghost use Rattle.std.specs.Prelude.{◌≡◌, ◌<◌, ◌≤◌, ◌+◌, OnOk, None, [], List, length};
-ghost use Rattle.ff_words.specs.Reading.{Ended, written_names, word_at, Steps, token_at, width, full, Given, pending_format, with_output, repeats_from};
-ghost use Rattle.ff_words.specs.Reading.{output_wrong as wrong_output, input_wrong as wrong_input, with_input, Taken, pending, reader, noted, valued};
-ghost use Rattle.ff_words.specs.Reading.{optioned, place_unless, early_in};
+ghost use Rattle.ff_words.specs.laws.Reading.{Ended, written_names, word_at, Steps, token_at, width, full, Given, pending_format, with_output, repeats_from};
+ghost use Rattle.ff_words.specs.laws.Reading.{output_wrong as wrong_output, input_wrong as wrong_input, with_input, Taken, pending, reader, noted, valued};
+ghost use Rattle.ff_words.specs.laws.Reading.{optioned, place_unless, early_in};
 ghost use Rattle.ff_words.specs.Words.{none_asked, repeats, texts, is_too_much as never_too_much, is_dashed as dashed, is_lone as lone};
 ghost use Rattle.ff_words.specs.Words.{goes_nowhere, lacks_input, is_no_name as no_name, file_names, output_file, Entry};
 ghost use Rattle.ff_words.specs.Words.{not_before_input as never_before_input, not_before_output as never_before_output, not_at_end as never_at_end, word_count};

@@ -7,7 +7,7 @@ use Rattle.ff_y4m.specs.declared.frame.Front.TheVariants.{Wait, Other, Frame}
 use Rattle.ff_y4m.specs.Lines.{begins, line_end, longest_line}
 use Rattle.ff_y4m.specs.Packets.{frame_word, line_unit, unit}
 use Rattle.ff_y4m.specs.Header.{frame_line}
-use Rattle.ff_y4m.specs.Units.{IsFrame, IsDecided}
+use Rattle.ff_y4m.specs.laws.Units.{IsFrame, IsDecided}
 use Rattle.ff_y4m.proofs.LineLaws.{bool_cases, test_equal, and_parts, begins_long, line_end-append, line_end_none}
 use Rattle.ff_y4m.proofs.UnitLaws.{unit_at, unit_else, frame_at, frame_made, five, wait_line, other-append}
 use Rattle.ff_y4m.proofs.FrameLaws.{line_frame}

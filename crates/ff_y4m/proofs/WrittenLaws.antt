@@ -19,7 +19,7 @@ use Rattle.ff_y4m.specs.Parameters.{no_parameters, side_in, base_or, base_in, as
 use Rattle.ff_y4m.specs.Heads.{magic, parameters, finished, line_head, found_at, reading, early, head as head_read}
 use Rattle.ff_y4m.specs.Header.{format_name, sides, ratio, header, frames, planes_of}
 use Rattle.ff_y4m.specs.Packets.{packets_from, broken_from}
-use Rattle.ff_y4m.specs.Written.{IsPictures, aspect_again, head_again, planes_size, says, HeadersAreRead, FilesAreRead, FramesAreRead}
+use Rattle.ff_y4m.specs.laws.Written.{IsPictures, aspect_again, head_again, planes_size, says, HeadersAreRead, FilesAreRead, FramesAreRead}
 use Rattle.ff_reader.proofs.AnswerLaws.{head_some}
 use Rattle.ff_y4m.proofs.NumberLaws.{base_ok}
 use Rattle.ff_y4m.proofs.HeadLaws.{reading_at}

@@ -2,10 +2,8 @@ pub mod Lines
 pub mod Numbers
 pub mod Parameters
 pub mod Packets
-pub mod Units
 pub mod Cuts
 pub mod Header
 pub mod Layout
 pub mod Heads
-pub mod Writers
-pub mod Written
+pub mod laws

@@ -6,8 +6,8 @@ ghost use Rattle.ff_y4m.specs.Header.{frames, planes_of};
 ghost use Rattle.ff_y4m.specs.Layout.{PicturesAreFiles};
 ghost use Rattle.ff_y4m.specs.Numbers.{IsBaseOf};
 ghost use Rattle.ff_y4m.specs.Packets.{packets_from, broken_from};
-ghost use Rattle.ff_y4m.specs.Units.{IsDecided};
-ghost use Rattle.ff_y4m.specs.Written.{HeadersAreRead, FilesAreRead, FramesAreRead};
+ghost use Rattle.ff_y4m.specs.laws.Units.{IsDecided};
+ghost use Rattle.ff_y4m.specs.laws.Written.{HeadersAreRead, FilesAreRead, FramesAreRead};
 
 /// The frames that are written of packets, of planes of one size, are read again with those planes, and nothing is left.
 pub fn written_frames_are_read_again()

@@ -3,7 +3,7 @@
 //! A file is a line of parameters, and then frames: each a line that begins with `FRAME`, and the planes Y, Cb and
 //! Cr. `specs/Lines` says where a line ends, `specs/Parameters` what a parameter says. `specs/Heads` says what the
 //! head of a whole input is, and which first bytes decide it. `specs/Packets` says which frames follow the head and
-//! where they break off, `specs/Units` what may still come of some bytes. `specs/Cuts` says how a cut's state is tied
+//! where they break off, `specs/laws/Units` what may still come of some bytes. `specs/Cuts` says how a cut's state is tied
 //! to what it was fed and gave, and `specs/Layout` how a file is written.
 #![tactic(auto)]
 

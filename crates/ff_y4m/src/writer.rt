@@ -20,7 +20,7 @@ pub struct Y4mWriter {
 }
 
 impl Y4mWriter {
-    ghost use Rattle.ff_y4m.specs.Writers.{y4m_head};
+    ghost use Rattle.ff_y4m.specs.laws.Writers.{y4m_head};
 
     /// For the packets of a video stream.
     pub fn new(alloc: Global, head: StreamHead) -> Y4mWriter
@@ -54,7 +54,7 @@ fn framed(planes: Bytes) -> Result<Vec<u8>, Bytes>
 }
 
 impl Writer for Y4mWriter {
-    ghost use Rattle.ff_y4m.specs.Writers.{y4m_head};
+    ghost use Rattle.ff_y4m.specs.laws.Writers.{y4m_head};
 
     ghost layout = { λ w. y4m_layout (y4m_head w) };
 

@@ -6,9 +6,9 @@ use Rattle.ff_stream.specs.declared.item.Item.{Item}
 use Rattle.ff_stream.specs.declared.item.Lane.{Lane}
 use Rattle.ff_stream.specs.Stream.{Mark, still_open, whole, broken, opened_mark}
 use Rattle.ff_stream.specs.Ports.{stream_at, AllBelow}
-use Rattle.ff_stream.specs.Order.{prefix_self, closed_below, stream_at-opened}
+use Rattle.ff_stream.specs.laws.Order.{prefix_self, closed_below, stream_at-opened}
 use Rattle.ff_stream.specs.Lanes.{IsValid}
-use Rattle.ff_stream.specs.Breaks.{IsBrokenOff, KeepsBrokenRule}
+use Rattle.ff_stream.specs.laws.Breaks.{IsBrokenOff, KeepsBrokenRule}
 use Rattle.ff_filter.specs.Joins.{Flow}
 
 -- the items go by the mark and the items; it is whole where the items say so, or where the stream is

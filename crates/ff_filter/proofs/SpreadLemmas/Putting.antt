@@ -8,8 +8,8 @@ use Rattle.ff_filter.specs.declared.outlet.Outlet.{Outlet}
 use Rattle.ff_filter.specs.Joins.{Flow, before}
 use Rattle.ff_filter.specs.Views.{closes}
 use Rattle.ff_filter.specs.Made.{left}
-use Rattle.ff_filter.specs.spread.Lines.{Line, fresh, line_of, lines, is_done, IsFront, IsPut, Took, HasAll}
-use Rattle.ff_filter.specs.spread.LineLaws.{lines_set, lines_other, lines_read}
+use Rattle.ff_filter.specs.laws.spread.Lines.{Line, fresh, line_of, lines, is_done, IsFront, IsPut, Took, HasAll}
+use Rattle.ff_filter.specs.laws.spread.LineLaws.{lines_set, lines_other, lines_read}
 
 pub same_or_not : (p q : ℕ) → (p ≡ q) ⊎ (p ≢ q)
 same_or_not zero zero = inl refl

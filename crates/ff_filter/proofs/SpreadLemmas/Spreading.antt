@@ -12,9 +12,9 @@ use Rattle.ff_filter.specs.declared.outlet.Outlet.{Outlet}
 use Rattle.ff_filter.specs.Joins.{Flow, before, before_all, before_all-last}
 use Rattle.ff_filter.specs.Views.{closes, Same, Fed, Gave, Waits, Stopped, IsSpent}
 use Rattle.ff_filter.specs.Made.{behind, is_over, closing, left}
-use Rattle.ff_filter.specs.spread.Lines.{Line, fresh, lines, IsPut, Took, HasAll}
+use Rattle.ff_filter.specs.laws.spread.Lines.{Line, fresh, lines, IsPut, Took, HasAll}
 use Rattle.ff_filter.specs.spread.Spreads.{on_output, spread_view, spread_start, spread_spent}
-use Rattle.ff_filter.specs.spread.SpreadLaws.{below_by, on_there, spread-exact}
+use Rattle.ff_filter.specs.laws.spread.SpreadLaws.{below_by, on_there, spread-exact}
 use Rattle.ff_filter.proofs.SpreadLemmas.Putting.{same_or_not, lines_beyond}
 
 -- what is made of an item that closes nothing stands before what is made of the others

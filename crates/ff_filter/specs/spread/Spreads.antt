@@ -9,7 +9,7 @@ use Rattle.ff_filter.specs.declared.outlet.Outlet.{Outlet}
 use Rattle.ff_filter.specs.Joins.{Flow}
 use Rattle.ff_filter.specs.Views.{View}
 use Rattle.ff_filter.specs.Made.{left, is_over}
-use Rattle.ff_filter.specs.spread.Lines.{Line, all_done}
+use Rattle.ff_filter.specs.laws.spread.Lines.{Line, all_done}
 
 -- a stream on an output that is there, where there are n
 abbrev pub on_output : ℕ → ℕ → Flow → Flow

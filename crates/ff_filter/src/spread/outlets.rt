@@ -2,7 +2,7 @@
 ghost use Rattle.std.specs.Prelude.{◌≡◌, ◌≢◌, ◌<◌, ◌≤◌, ℕ, length, IfOk, IfErr, OnOk, OnErr, Some, None, true, false};
 ghost use Rattle.ff_stream.specs.declared.item.Item.{Item as AnItem};
 ghost use Rattle.ff_filter.specs.Views.{closes};
-ghost use Rattle.ff_filter.specs.spread.Lines.{lines, fresh, all_done as each_done, IsFront, IsPut, Took, HasAll};
+ghost use Rattle.ff_filter.specs.laws.spread.Lines.{lines, fresh, all_done as each_done, IsFront, IsPut, Took, HasAll};
 
 use crate::spread::share::Share;
 use crate::{After, Outlet};

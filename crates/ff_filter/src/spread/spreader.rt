@@ -2,9 +2,9 @@
 ghost use Rattle.std.specs.Prelude.{◌≡◌, ◌↔◌, length, IsTrue, IfOk};
 ghost use Rattle.ff_filter.specs.Views.{IsSpent};
 ghost use Rattle.ff_filter.specs.Made.{is_over};
-ghost use Rattle.ff_filter.specs.spread.Lines.{lines};
+ghost use Rattle.ff_filter.specs.laws.spread.Lines.{lines};
 ghost use Rattle.ff_filter.specs.spread.Spreads.{spread_view, spread_start, spread_spent};
-ghost use Rattle.ff_filter.specs.spread.SpreadLaws.{spread-grows, spread-hides, spread-settles, spread-quiet, spread-spent_only, spread-shut_spent, spread-done_spent};
+ghost use Rattle.ff_filter.specs.laws.spread.SpreadLaws.{spread-grows, spread-hides, spread-settles, spread-quiet, spread-spent_only, spread-shut_spent, spread-done_spent};
 
 use crate::spread::outlets::{all_done, fresh_outlets, is_stopped, spread, stop_one, take_from};
 use crate::spread::share::Share;

@@ -13,25 +13,25 @@ use Rattle.ff_stream.specs.declared.item.Lane.{Lane}
 use Rattle.ff_stream.specs.declared.item.Lane.TheVariants.{Frames}
 use Rattle.ff_stream.specs.Stream.{opened}
 use Rattle.ff_stream.specs.Ports.{stream_at}
-use Rattle.ff_stream.specs.Order.{below_self, below_trans}
+use Rattle.ff_stream.specs.laws.Order.{below_self, below_trans}
 use Rattle.ff_stream.specs.Lanes.{IsValid}
 use Rattle.ff_stream.specs.Within.{within, passes_limits}
-use Rattle.ff_stream.specs.WithinLaws.{within_valid}
+use Rattle.ff_stream.specs.laws.WithinLaws.{within_valid}
 use Rattle.ff_net.specs.Ways.{lane_at, IsValidOn, AreValid}
 use Rattle.ff_filter.specs.declared.after.After.TheVariants.{More}
 use Rattle.ff_filter.specs.Joins.{Flow, Ports, all_opened, Grows, HidesBreaks, grows_after, hides_after}
-use Rattle.ff_filter.specs.Limits.{limited, limited_is}
-use Rattle.ff_filter.specs.LimitLaws.{limited-below, limited-calm}
+use Rattle.ff_filter.specs.laws.Limits.{limited, limited_is}
+use Rattle.ff_filter.specs.laws.LimitLaws.{limited-below, limited-calm}
 use Rattle.ff_filter.specs.Options.{is_sound}
 use Rattle.ff_filter.specs.Views.{View}
 use Rattle.ff_fsync.specs.Sides.{Sound, sync_view}
-use Rattle.ff_fsync.specs.SideLaws.{sync-grows, sync-hides}
+use Rattle.ff_fsync.specs.laws.SideLaws.{sync-grows, sync-hides}
 use Rattle.ff_fsync.specs.declared.stacks.shape.Direction.{Direction}
 use Rattle.ff_fsync.specs.declared.stacks.options.StackSettings.{StackSettings}
 use Rattle.ff_fsync.specs.stacks.Bases.{bases_of, units_on, all_told, told_view}
-use Rattle.ff_fsync.specs.stacks.StackedLaws.{told-grows, told-hides}
+use Rattle.ff_fsync.specs.laws.stacks.StackedLaws.{told-grows, told-hides}
 use Rattle.ff_fsync.specs.stacks.Heads.{stack_fault}
-use Rattle.ff_fsync.specs.stacks.Limits.{limits-grows, limits-hides}
+use Rattle.ff_fsync.specs.laws.stacks.Limits.{limits-grows, limits-hides}
 use Rattle.ff_fsync.specs.stacks.Shapes.{stacked, shape_of}
 use Rattle.ff_fsync.specs.stacks.Stacks.{StackOf, stack_on, stacked_of, stack_view, AreStreamsOf}
 use Rattle.ff_fsync.proofs.StacksLemmas.Seeing.{none_came, stack_seen}
@@ -39,15 +39,15 @@ use Rattle.ff_fsync.proofs.StacksLemmas.Exact.{AreBased}
 use Rattle.ff_fsync.proofs.StacksLemmas.Valid.{stacks_in_shape, stacks_unbroken}
 use Rattle.ff_joins.specs.Arguments.{Checked, each_head}
 use Rattle.ff_joins.specs.Concats.{concatenated}
-use Rattle.ff_joins.specs.ConcatBreaks.{broken_stands}
-use Rattle.ff_joins.specs.ConcatLaws.{in_order-keeps, in_order-calm}
+use Rattle.ff_joins.specs.laws.ConcatBreaks.{broken_stands}
+use Rattle.ff_joins.specs.laws.ConcatLaws.{in_order-keeps, in_order-calm}
 use Rattle.ff_joins.specs.ConcatOptions.{concat_view}
-use Rattle.ff_joins.specs.JoinBreaks.{lost_by}
+use Rattle.ff_joins.specs.laws.JoinBreaks.{lost_by}
 use Rattle.ff_joins.specs.Joined.{Row, row_stream, joined_rows, first_start, sound_frame, side_to_side}
 use Rattle.ff_joins.specs.JoinOptions.{AreAlike, is_like, channels_in, with_channels, rate_of, bits_of, channels_of}
 use Rattle.ff_joins.specs.JoinView.{channels_at, join_view}
-use Rattle.ff_joins.specs.Lots.{Lot, all_come, frame_on, lots_view}
-use Rattle.ff_joins.specs.LotLaws.{lots-grows, lots-hides}
+use Rattle.ff_joins.specs.laws.Lots.{Lot, all_come, frame_on, lots_view}
+use Rattle.ff_joins.specs.laws.LotLaws.{lots-grows, lots-hides}
 use Rattle.ff_joins.proofs.JoinHeads.{join_valid}
 use Rattle.ff_joins.proofs.SegmentShape.{segments_valid}
 use Rattle.ff_node_filter.specs.Tasks.{ported}

@@ -17,7 +17,7 @@ use Rattle.ff_stream.specs.declared.item.Lane.TheVariants.{Frames}
 use Rattle.ff_stream.specs.Stream.{LiesBelow, opened, map_stream}
 use Rattle.ff_stream.specs.Lanes.{IsValid}
 use Rattle.ff_stream.specs.Ports.{stream_at}
-use Rattle.ff_stream.specs.Order.{below_self}
+use Rattle.ff_stream.specs.laws.Order.{below_self}
 use Rattle.ff_stream.specs.Within.{some_pass, passes_limits}
 use Rattle.ff_filter.specs.declared.after.After.{After}
 use Rattle.ff_filter.specs.declared.after.After.TheVariants.{More, Whole, Broke}
@@ -30,11 +30,11 @@ use Rattle.ff_filter.specs.Plain.{pass_view, rebase_view}
 use Rattle.ff_filter.specs.Runs.{run_below, run_calm}
 use Rattle.ff_filter.specs.Shifts.{shifted, shifted-below}
 use Rattle.ff_filter.specs.Singles.{single_view}
-use Rattle.ff_filter.specs.Sound.{IsSound}
+use Rattle.ff_filter.specs.laws.Sound.{IsSound}
 use Rattle.ff_filter.proofs.ShiftSound.{shift_sound}
 use Rattle.ff_filter.specs.spread.Splits.{split_view}
 use Rattle.ff_filter.specs.spread.Spreads.{on_output, spread_start}
-use Rattle.ff_filter.specs.spread.Valid.{GivesValid}
+use Rattle.ff_filter.specs.laws.spread.Valid.{GivesValid}
 use Rattle.ff_planes.specs.declared.rectangle.Rectangle.{Rectangle}
 use Rattle.ff_vfilter.specs.declared.crop.CropSettings.{CropSettings}
 use Rattle.ff_vfilter.specs.declared.pad.PadSettings.{PadSettings}
@@ -48,14 +48,14 @@ use Rattle.ff_vfilter.specs.VFlips.{vflip_frame, vflip_view}
 use Rattle.ff_vfilter.specs.Pictures.{repainted, repainted-below}
 use Rattle.ff_vfilter.specs.Rates.{Held, rate_step, shows_to_end, rated, none_held}
 use Rattle.ff_vfilter.specs.Trims.{lasting_trimmed, at_once, trim_view}
-use Rattle.ff_vfilter.specs.LastingLaws.{lasting-below, lasting-calm}
+use Rattle.ff_vfilter.specs.laws.LastingLaws.{lasting-below, lasting-calm}
 use Rattle.ff_vfilter.proofs.Keeping.{hflip_sound, vflip_sound, crop_sound, pad_sound}
 use Rattle.ff_vfilter.proofs.TrimSound.{lasting_sound}
 use Rattle.ff_vfilter.proofs.RateShape.{rate_sound}
 use Rattle.ff_afilter.specs.declared.lasting_atrim.LastingATrim.{LastingATrim}
 use Rattle.ff_afilter.specs.Channels.{channel_item, channels_view}
 use Rattle.ff_afilter.specs.Trims.{sound_lasting, atrim_view, at_once as sound_at_once}
-use Rattle.ff_afilter.specs.LastingLaws.{lasting-below as sound-below, lasting-calm as sound-calm}
+use Rattle.ff_afilter.specs.laws.LastingLaws.{lasting-below as sound-below, lasting-calm as sound-calm}
 use Rattle.ff_afilter.proofs.TrimSound.{sound_lasting_sound}
 use Rattle.ff_afilter.proofs.ChannelSound.{channel_valid}
 use Rattle.ff_node_filter.specs.Limiting.{IsLimited}

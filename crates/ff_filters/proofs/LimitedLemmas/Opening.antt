@@ -8,15 +8,15 @@ use Rattle.ff_stream.specs.declared.item.Lane.TheVariants.{Frames}
 use Rattle.ff_frame.specs.declared.head.StreamHead.{StreamHead}
 use Rattle.ff_stream.specs.Stream.{Mark, still_open, whole, broken, LiesBelow, opened, opened_mark}
 use Rattle.ff_stream.specs.Ports.{stream_at, AllUnbroken, IsUnbroken}
-use Rattle.ff_stream.specs.Order.{closed_below, stream_at-opened}
+use Rattle.ff_stream.specs.laws.Order.{closed_below, stream_at-opened}
 use Rattle.ff_stream.specs.Lanes.{IsValid}
-use Rattle.ff_stream.specs.LaneLaws.{valid_opened}
+use Rattle.ff_stream.specs.laws.LaneLaws.{valid_opened}
 use Rattle.ff_stream.specs.Within.{some_pass, passes_limits, within}
-use Rattle.ff_stream.specs.WithinLaws.{valid_within}
+use Rattle.ff_stream.specs.laws.WithinLaws.{valid_within}
 use Rattle.ff_net.specs.Ways.{lane_at, IsValidOn, AreValid}
 use Rattle.ff_filter.specs.Joins.{Flow, Ports, EachBelow, all_opened, Grows, HidesBreaks}
 use Rattle.ff_node_filter.specs.Tasks.{ported}
-use Rattle.ff_node_filter.specs.StandLaws.{stream_at-listed}
+use Rattle.ff_node_filter.specs.laws.StandLaws.{stream_at-listed}
 use Rattle.ff_node_filter.specs.Limiting.{IsLimited, is_broken, some_broken}
 use Rattle.ff_filters.specs.limited.Cuts.{IsWithin, PassesLimit}
 

@@ -15,8 +15,8 @@ use Rattle.std.proofs.lemmas.List.FromFn.{map-range_with_len_more, length-map-ra
 use Rattle.std.proofs.lemmas.List.Sums.{fold_push, fold-append, sum_by-append, sum_by-cons, sum_by-le}
 use Rattle.std.proofs.lemmas.Simd.{map-map, zip2-map, get_or-zip2, length-zip2}
 use Rattle.ff_flac_subframe.specs.rice.Rice.{is_allowed, count_of, part_cost, best_cost, pieces, parts_of}
-use Rattle.ff_flac_subframe.specs.rice.Columns.{column, columns, least_each, lowest, items_of}
-use Rattle.ff_flac_subframe.specs.rice.Spans.{Spans, IsSpan}
+use Rattle.ff_flac_subframe.specs.laws.rice.Columns.{column, columns, least_each, lowest, items_of}
+use Rattle.ff_flac_subframe.specs.laws.rice.Spans.{Spans, IsSpan}
 use Rattle.ff_flac_subframe.proofs.RiceLemmas.Costs.{length-parts_of}
 use Rattle.ff_flac_subframe.proofs.RiceLemmas.PartLemmas.{parts_of-is, pair_parts, pair_parts-parts_of, Small, small_parts, cost_small}
 use Rattle.ff_flac_subframe.proofs.RiceLemmas.SpanLemmas.{lowest-one, lowest-more, spanned}

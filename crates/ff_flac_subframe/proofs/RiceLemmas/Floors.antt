@@ -11,7 +11,7 @@ use Rattle.std.proofs.lemmas.Nat.{pow_pos, pow-add, shr_split, mod_below, div_be
 use Rattle.std.proofs.Math.Nat.{pow-suc, mul-le-mul_left, pow-le-pow_right}
 use Rattle.ff_flac_subframe.specs.rice.Rice.{zigzagged, is_allowed, orders, quotients, part_cost, best_k, best_cost, best_at, parts_of, pieces}
 use Rattle.ff_flac_subframe.specs.rice.Rice.{codings, codings_by, codings_at, Coding}
-use Rattle.ff_flac_subframe.specs.rice.Columns.{lowest}
+use Rattle.ff_flac_subframe.specs.laws.rice.Columns.{lowest}
 use Rattle.ff_flac_subframe.proofs.RiceLemmas.LeastLemmas.{least_is_lowest}
 use Rattle.ff_flac_subframe.proofs.RiceLemmas.Costs.{least-codings_at, length-parts_of}
 use Rattle.ff_flac_subframe.proofs.RiceLemmas.PartLemmas.{best_k_within, count_within, pair_parts, pair_parts-parts_of, pieces-suc, parts_of-is}

@@ -6,7 +6,7 @@ use Rattle.ff_flac_subframe.specs.declared.rice.coding.Choice.{Choice}
 use Rattle.ff_flac_subframe.specs.declared.rice.coding.Found.{Found}
 use Rattle.ff_flac_subframe.specs.rice.Least.{choose, least}
 use Rattle.ff_flac_subframe.specs.rice.Rice.{is_allowed, orders, residual_bits, codings, codings_by, codings_at, best_at, best_cost, parts_of, Coding}
-use Rattle.ff_flac_subframe.specs.rice.Spans.{Spans}
+use Rattle.ff_flac_subframe.specs.laws.rice.Spans.{Spans}
 use Rattle.ff_flac_subframe.proofs.RiceLemmas.LeastLemmas.{least-append, choose_first, choose_second}
 use Rattle.ff_flac_subframe.proofs.RiceLemmas.Costs.{least-codings_at, length-best_at}
 use Rattle.ff_flac_subframe.proofs.RiceLemmas.PartLemmas.{pair_parts-parts_of}

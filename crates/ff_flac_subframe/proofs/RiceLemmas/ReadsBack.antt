@@ -11,7 +11,7 @@ use Rattle.ff_bits.proofs.BitsLemmas.{length-bits_of}
 use Rattle.ff_bits.proofs.Words.{value_of-bits_of}
 use Rattle.ff_bits.proofs.LimitedZeros.{zeros_past}
 use Rattle.ff_flac_frame.proofs.FieldLemmas.{took}
-use Rattle.ff_flac_subframe.specs.rice.Spells.{Reads}
+use Rattle.ff_flac_subframe.specs.laws.rice.Spells.{Reads}
 
 pub reads-give : {A : Type 0} (a : A) → Reads (give a) [] a
 reads-give a rest = refl

@@ -13,8 +13,8 @@ use Rattle.ff_bits.specs.Reading.{Reader, Done, ◌>>=◌, give, field, zeros, t
 use Rattle.ff_bits.proofs.BitsOf.{bits_of-mod}
 use Rattle.ff_flac_frame.specs.Codes.{any, below, order_fits}
 use Rattle.ff_flac_frame.specs.Frame.{sample, zigzag, residual_limit, quotient_limit, rice, partition, partitions, residual}
-use Rattle.ff_flac_frame.specs.Facts.{IsResidual}
-use Rattle.ff_flac_subframe.specs.rice.Spells.{Reads}
+use Rattle.ff_flac_frame.specs.laws.Facts.{IsResidual}
+use Rattle.ff_flac_subframe.specs.laws.rice.Spells.{Reads}
 use Rattle.ff_flac_subframe.specs.rice.Rice.{zigzagged, rice_bits, partition_bits, partitions_bits, pieces, parts_of, Coding, residual_bits, count_of, parameters, choices, is_allowed, orders, codings_at, codings_by, codings}
 use Rattle.ff_flac_subframe.proofs.RiceLemmas.ReadsBack.{reads-then, reads-map, reads-bits, reads-value, reads-if_false, reads-field, reads-zeros, reads-times}
 use Rattle.ff_flac_subframe.proofs.RiceLemmas.Orders.{allowed_parts}

@@ -7,8 +7,8 @@ use Rattle.std.proofs.lemmas.List.Sums.{sum_by-cons, sum_by-append}
 use Rattle.std.proofs.lemmas.Nat.{pow_pos, shr_split, shr-shr, mod_below}
 use Rattle.std.proofs.Math.Nat.{mul-le-mul_left, pow-le-pow_right}
 use Rattle.ff_flac_subframe.specs.rice.Rice.{quotients, part_cost, parameters, count_of, best_k, best_cost}
-use Rattle.ff_flac_subframe.specs.rice.Columns.{lowest}
-use Rattle.ff_flac_subframe.specs.rice.Spans.{IsLowEnd, IsHighEnd, Spans}
+use Rattle.ff_flac_subframe.specs.laws.rice.Columns.{lowest}
+use Rattle.ff_flac_subframe.specs.laws.rice.Spans.{IsLowEnd, IsHighEnd, Spans}
 use Rattle.ff_flac_subframe.proofs.RiceLemmas.LeastLemmas.{least_is_lowest, least_is, first_is_least}
 use Rattle.ff_flac_subframe.proofs.RiceLemmas.Costs.{best_k_is}
 use Rattle.ff_flac_subframe.proofs.RiceLemmas.PartLemmas.{best_k_within, count_within, pair_parts}

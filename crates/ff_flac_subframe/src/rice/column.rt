@@ -4,8 +4,8 @@ ghost use Rattle.std.specs.Prelude.{◌≡◌, ◌+◌, ◌-◌, ◌*◌, ◌/�
 ghost use Rattle.std.specs.Prelude.{length, map, take, slice_index, IfOk, All};
 ghost use lib.Lanes.{pair_sums};
 ghost use Rattle.ff_flac_subframe.specs.rice.Rice.{part_cost, parts_of, pieces};
-ghost use Rattle.ff_flac_subframe.specs.rice.Columns.{column, columns as columns_from, items_of};
-ghost use Rattle.ff_flac_subframe.specs.rice.Spans.{IsSpan};
+ghost use Rattle.ff_flac_subframe.specs.laws.rice.Columns.{column, columns as columns_from, items_of};
+ghost use Rattle.ff_flac_subframe.specs.laws.rice.Spans.{IsSpan};
 
 use crate::rice::quotients::{cost_of, cost_of_16};
 use crate::rice::span::Span;

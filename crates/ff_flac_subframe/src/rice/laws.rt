@@ -3,10 +3,10 @@
 ghost use Rattle.std.specs.Prelude.{◌≡◌, ℕ, ℤ, ◌+◌, List, length, map, Some};
 ghost use Rattle.std.specs.List.{AllByRecursion};
 ghost use Rattle.ff_flac_frame.specs.Frame.{residual};
-ghost use Rattle.ff_flac_frame.specs.Facts.{IsResidual};
+ghost use Rattle.ff_flac_frame.specs.laws.Facts.{IsResidual};
 ghost use Rattle.ff_flac_subframe.specs.rice.Least.{least, IsFirstLeast};
 ghost use Rattle.ff_flac_subframe.specs.rice.Rice.{zigzagged, residual_bits, codings, Coding};
-ghost use Rattle.ff_flac_subframe.specs.rice.Spells.{Reads};
+ghost use Rattle.ff_flac_subframe.specs.laws.rice.Spells.{Reads};
 
 /// Whichever coding of the list writes residuals, a reader of the grammar takes its bits, whatever follows them, and gives
 /// the residuals back.

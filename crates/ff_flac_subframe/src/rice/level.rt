@@ -3,8 +3,8 @@
 ghost use Rattle.std.specs.Prelude.{◌≡◌, ◌+◌, ◌-◌, ◌*◌, ◌^◌, ◌<◌, ◌≤◌, min, length, take, All};
 ghost use Rattle.std.specs.List.{fold, sum};
 ghost use lib.Lanes.{zip2};
-ghost use Rattle.ff_flac_subframe.specs.rice.Columns.{least_each, items_of};
-ghost use Rattle.ff_flac_subframe.specs.rice.Spans.{IsSpan};
+ghost use Rattle.ff_flac_subframe.specs.laws.rice.Columns.{least_each, items_of};
+ghost use Rattle.ff_flac_subframe.specs.laws.rice.Spans.{IsSpan};
 
 use crate::rice::span::Span;
 

@@ -3,7 +3,7 @@
 ghost use Rattle.std.specs.Prelude.{◌≡◌, ◌+◌, ◌-◌, ◌*◌, ◌/◌, ◌%◌, ◌^◌, ◌<◌, ◌≤◌, length, All};
 ghost use Rattle.std.specs.List.{AllByRecursion};
 ghost use Rattle.ff_flac_subframe.specs.rice.Rice.{parts_of};
-ghost use Rattle.ff_flac_subframe.specs.rice.Spans.{IsLowEnd, IsHighEnd, IsSpan, Spans};
+ghost use Rattle.ff_flac_subframe.specs.laws.rice.Spans.{IsLowEnd, IsHighEnd, IsSpan, Spans};
 
 use crate::rice::quotients::total_of;
 

@@ -15,14 +15,14 @@ use Rattle.ff_filter.specs.Joins.{Flow, silence, before}
 use Rattle.ff_filter.specs.Shifts.{start_ticks}
 use Rattle.ff_fsync.specs.declared.input.Input.{Input}
 use Rattle.ff_fsync.specs.Events.{events_none}
-use Rattle.ff_fsync.specs.Inputs.{items_of, last_by, begun_by}
+use Rattle.ff_fsync.specs.laws.Inputs.{items_of, last_by, begun_by}
 use Rattle.ff_fsync.specs.Ranges.{list_to}
-use Rattle.ff_fsync.specs.Rising.{last_append}
+use Rattle.ff_fsync.specs.laws.Rising.{last_append}
 use Rattle.ff_fsync.specs.Sides.{Side, frames_of, shown_as, left_to_show}
-use Rattle.ff_fsync.specs.SideLaws.{standing_is}
+use Rattle.ff_fsync.specs.laws.SideLaws.{standing_is}
 use Rattle.ff_fsync.specs.Synced.{later_of, pick, is_shown, pictures, horizon, synced_from}
-use Rattle.ff_fsync.specs.SyncLaws.{ready_at}
-use Rattle.ff_fsync.specs.Syncs.{sides_of, sides_sound, standing_of, timing_of, IsDue, NoneFrom}
+use Rattle.ff_fsync.specs.laws.SyncLaws.{ready_at}
+use Rattle.ff_fsync.specs.laws.Syncs.{sides_of, sides_sound, standing_of, timing_of, IsDue, NoneFrom}
 use Rattle.ff_fsync.proofs.Finding.{side_there, long_sides}
 use Rattle.ff_fsync.proofs.Showing.{shown_gave}
 use Rattle.ff_fsync.specs.stacks.Shapes.{lasts}

@@ -7,7 +7,7 @@ use Rattle.ff_stream.specs.declared.item.Lane.{Lane}
 use Rattle.ff_stream.specs.declared.item.Lane.TheVariants.{Frames}
 use Rattle.ff_stream.specs.Within.{within, passes_limits}
 use Rattle.ff_filter.specs.Joins.{Flow, Ports}
-use Rattle.ff_filter.specs.Limits.{limited, limited_is}
+use Rattle.ff_filter.specs.laws.Limits.{limited, limited_is}
 use Rattle.ff_filter.specs.Made.{is_over}
 use Rattle.ff_filter.specs.Views.{View}
 use Rattle.ff_fsync.specs.Pictures.{timed}
@@ -15,7 +15,7 @@ use Rattle.ff_fsync.specs.Sides.{Side, no_side, side_at, coming, kept, streams, 
 use Rattle.ff_fsync.specs.Synced.{Timing, synced_from}
 use Rattle.ff_fsync.specs.declared.stacks.shape.Shape.{Shape}
 use Rattle.ff_fsync.specs.stacks.Bases.{units_on, all_told, told_view}
-use Rattle.ff_fsync.specs.stacks.Limits.{limits_view}
+use Rattle.ff_fsync.specs.laws.stacks.Limits.{limits_view}
 use Rattle.ff_fsync.specs.stacks.Shapes.{stacked, shape_of}
 use Rattle.ff_fsync.specs.stacks.Stacks.{StackOf, stacked_of, stack_view}
 

@@ -25,7 +25,7 @@ use Rattle.ff_fsync.specs.Pictures.{timed}
 use Rattle.ff_fsync.specs.Ranges.{list_to, any_to, none_from}
 use Rattle.ff_fsync.specs.Sides.{frames_of, kept, shown_as}
 use Rattle.ff_fsync.specs.Synced.{each_of, some_of, last_of, is_shown, pictures, horizon, synced, mark_by, is_complete, goes_on}
-use Rattle.ff_fsync.specs.SyncLaws.{ready_at}
+use Rattle.ff_fsync.specs.laws.SyncLaws.{ready_at}
 use Rattle.ff_fsync.specs.declared.stacks.shape.Direction.{Direction}
 use Rattle.ff_fsync.specs.declared.stacks.shape.Direction.TheVariants.{Beside, Below}
 use Rattle.ff_fsync.specs.declared.stacks.shape.Shape.{Shape}

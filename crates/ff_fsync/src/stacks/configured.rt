@@ -5,7 +5,7 @@ ghost use Rattle.ff_frame.specs.declared.config.ConfigError.TheVariants.{NoMemor
 ghost use Rattle.ff_fsync.specs.stacks.Bases.{bases_of};
 ghost use Rattle.ff_fsync.specs.stacks.Heads.{with_length as head_with_length};
 ghost use Rattle.ff_fsync.specs.stacks.Shapes.{shape_of};
-ghost use Rattle.ff_fsync.specs.stacks.Stacked.{seen};
+ghost use Rattle.ff_fsync.specs.laws.stacks.Stacked.{seen};
 ghost use Rattle.ff_fsync.specs.stacks.Stacks.{IsStack, IsPlanned, stack_view, stack_by, planned_by, head_of};
 
 use crate::Framesync;

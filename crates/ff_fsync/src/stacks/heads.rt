@@ -3,7 +3,7 @@ ghost use Rattle.std.specs.Prelude.{◌≡◌, ◌<◌, true, IfOk, map};
 ghost use Rattle.ff_stream.specs.declared.item.Lane.TheVariants.{Frames};
 ghost use Rattle.ff_filter.specs.Options.{is_video};
 ghost use Rattle.ff_fsync.specs.Sides.{no_side};
-ghost use Rattle.ff_fsync.specs.Syncs.{sides_of};
+ghost use Rattle.ff_fsync.specs.laws.Syncs.{sides_of};
 ghost use Rattle.ff_fsync.specs.Synced.{each_of};
 ghost use Rattle.ff_fsync.specs.stacks.Heads.{size_along, size_across, are_alike, on_grid};
 ghost use Rattle.ff_fsync.specs.stacks.Heads.{head_on_grid, all_on_grid, total, has_size};

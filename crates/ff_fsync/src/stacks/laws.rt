@@ -14,7 +14,7 @@ ghost use Rattle.ff_filter.specs.Joins.{Flow, Ports};
 ghost use Rattle.ff_fsync.specs.Sides.{kept};
 ghost use Rattle.ff_fsync.specs.declared.stacks.shape.Direction.{Direction};
 ghost use Rattle.ff_fsync.specs.declared.stacks.shape.Direction.TheVariants.{Beside, Below};
-ghost use Rattle.ff_fsync.specs.stacks.Examples.{grey, grey_stack, two_streams, whole_of};
+ghost use Rattle.ff_fsync.specs.laws.stacks.Examples.{grey, grey_stack, two_streams, whole_of};
 ghost use Rattle.ff_fsync.specs.stacks.Bases.{bases_of, told_in, IsExact};
 ghost use Rattle.ff_fsync.specs.stacks.Heads.{stack_fault};
 ghost use Rattle.ff_fsync.specs.stacks.Stacks.{StackOf, stacked_of, stack_on, AreStreamsOf};

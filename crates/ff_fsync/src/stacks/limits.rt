@@ -1,6 +1,6 @@
 //! The limits of every stream, for stacks.
 ghost use Rattle.std.specs.Prelude.{◌≡◌, ◌≤◌, ◌+◌, ◌^◌, ◌≤ℤ◌, false};
-ghost use Rattle.ff_fsync.specs.stacks.Limits.{long_at};
+ghost use Rattle.ff_fsync.specs.laws.stacks.Limits.{long_at};
 
 use ff_frame::StreamHead;
 use ff_stream::{MOST_ITEMS, ends_past};

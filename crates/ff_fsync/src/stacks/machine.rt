@@ -3,16 +3,16 @@ ghost use Rattle.std.specs.Prelude.{◌≡◌, ◌↔◌, ◌<◌, ◌^◌, nat_
 ghost use Rattle.ff_stream.specs.declared.item.Lane.TheVariants.{Frames};
 ghost use Rattle.ff_stream.specs.Times.{ticks};
 ghost use Rattle.ff_filter.specs.Views.{View, Gave, IsSpent};
-ghost use Rattle.ff_fsync.specs.Inputs.{items_of, last_by};
+ghost use Rattle.ff_fsync.specs.laws.Inputs.{items_of, last_by};
 ghost use Rattle.ff_fsync.specs.Sides.{frames_of};
 ghost use Rattle.ff_fsync.specs.Synced.{pictures};
-ghost use Rattle.ff_fsync.specs.Syncs.{timing_of, standing_of, IsDue};
+ghost use Rattle.ff_fsync.specs.laws.Syncs.{timing_of, standing_of, IsDue};
 ghost use Rattle.ff_fsync.specs.stacks.Bases.{units_at};
 ghost use Rattle.ff_fsync.specs.stacks.Shapes.{lasts as lasts_at};
-ghost use Rattle.ff_fsync.specs.stacks.Limits.{limits_view, limits-grows, limits-hides, limits-settles, limits-quiet};
-ghost use Rattle.ff_fsync.specs.stacks.Stacked.{seen, sync_seen, is_cut as is_cut_of, stack_spent};
-ghost use Rattle.ff_fsync.specs.stacks.StackedLaws.{sync_grows, sync_hides, sync_settles};
-ghost use Rattle.ff_fsync.specs.stacks.StackedLaws.{sync_quiet, stacked-spent_only, stacked-shut_spent, stacked-done_spent};
+ghost use Rattle.ff_fsync.specs.laws.stacks.Limits.{limits_view, limits-grows, limits-hides, limits-settles, limits-quiet};
+ghost use Rattle.ff_fsync.specs.laws.stacks.Stacked.{seen, sync_seen, is_cut as is_cut_of, stack_spent};
+ghost use Rattle.ff_fsync.specs.laws.stacks.StackedLaws.{sync_grows, sync_hides, sync_settles};
+ghost use Rattle.ff_fsync.specs.laws.stacks.StackedLaws.{sync_quiet, stacked-spent_only, stacked-shut_spent, stacked-done_spent};
 
 use crate::stacks::bases::{at_times, item_in, times};
 use crate::stacks::limits::is_long;

@@ -6,19 +6,19 @@ use Rattle.ff_filter.specs.Joins.{Ports}
 use Rattle.ff_filter.specs.Views.{View}
 use Rattle.ff_graph_links.specs.declared.pads.drawn.Pad.{Pad}
 use Rattle.ff_graph_dag.specs.declared.graph.Plan.{Plan}
-use Rattle.ff_graph_dag.specs.Dags.{Spot}
-use Rattle.ff_graph_dag.specs.Graphs.{Sound}
-use Rattle.ff_graph_dag.specs.Parts.{composed, parts_of}
-use Rattle.ff_graph_dag.specs.ties.Tied.{IsTied}
+use Rattle.ff_graph_dag.specs.laws.Dags.{Spot}
+use Rattle.ff_graph_dag.specs.laws.Graphs.{Sound}
+use Rattle.ff_graph_dag.specs.laws.Parts.{composed, parts_of}
+use Rattle.ff_graph_dag.specs.laws.ties.Tied.{IsTied}
 use Rattle.ff_graph_dag.proofs.TiesLemmas.Tying.{tied_sound}
-use Rattle.ff_graph_dag.specs.wiring.Wires.{wires_of, IsWired}
+use Rattle.ff_graph_dag.specs.laws.wiring.Wires.{wires_of, IsWired}
 use Rattle.ff_graph_dag.specs.wiring.Flows.{Flows, no_flows, flows_from, port_at, placed, placed_pads, placed_counts, IsDrawing}
 use Rattle.ff_graph_dag.specs.wiring.Limits.{flows_at}
 use Rattle.ff_graph_dag.proofs.WiringLemmas.Tying.{numbers_size}
 use Rattle.ff_graph_dag.proofs.WiringLemmas.Meaning.{reads_past}
 use Rattle.ff_graph_dag.proofs.WiringLemmas.LimitedGraphs.{at_got}
 use Rattle.ff_graph_dag.proofs.WiringLemmas.Drawn.{drawn_means}
-use Rattle.ff_graph.specs.composed.Ready.{new_spot, AreReady}
+use Rattle.ff_graph.specs.laws.composed.Ready.{new_spot, AreReady}
 use Rattle.ff_graph.proofs.ComposedLemmas.Elements.{got_above, none_got, map_size}
 use Rattle.ff_graph.proofs.ComposedLemmas.Fitting.{size, new, fits}
 

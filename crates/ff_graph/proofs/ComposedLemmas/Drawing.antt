@@ -19,7 +19,7 @@ use Rattle.ff_graph_dag.specs.wiring.Flows.{IsForward, IsDrawing}
 use Rattle.ff_graph_dag.proofs.WiringLemmas.Forward.{forward, all_come}
 use Rattle.ff_graph_dag.proofs.WiringLemmas.Opening.{opens_open, opens_once, opens_all}
 use Rattle.ff_graph_links.specs.labels.Clear.{IsClear}
-use Rattle.ff_graph.specs.composed.Ready.{pads_of, counts_of, IsReady, AreReady}
+use Rattle.ff_graph.specs.laws.composed.Ready.{pads_of, counts_of, IsReady, AreReady}
 use Rattle.ff_graph.proofs.ComposedLemmas.Elements.{some_same, no_some, got_below, map_size, map_or}
 use Rattle.ff_graph.proofs.ComposedLemmas.Sourced.{sources_size}
 use Rattle.ff_graph.proofs.ComposedLemmas.Feeding.{HaveRoom, fed_once, fed_there, fed_after}

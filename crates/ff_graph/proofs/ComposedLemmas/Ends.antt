@@ -26,7 +26,7 @@ use Rattle.ff_graph_links.specs.labels.Clear.{IsClear}
 use Rattle.ff_graph_dag.specs.wiring.Flows.{IsForward, IsDrawing, source_at}
 use Rattle.ff_graph.specs.composed.Cuts.{all_given}
 use Rattle.ff_graph.specs.composed.Pads.{HasChannel, HasFilter, HaveChannels}
-use Rattle.ff_graph.specs.composed.Ready.{pads_of, counts_of}
+use Rattle.ff_graph.specs.laws.composed.Ready.{pads_of, counts_of}
 use Rattle.ff_graph.proofs.ComposedLemmas.Drawing.{IsWhole, made_at, whole}
 use Rattle.ff_graph.proofs.ComposedLemmas.Elements.{some_same, no_some, got, got_below, or_none, there_or_not, map_size, map_or}
 use Rattle.ff_graph.proofs.ComposedLemmas.Fed.{pad_of}

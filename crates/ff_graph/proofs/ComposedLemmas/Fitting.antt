@@ -7,12 +7,12 @@ use Rattle.ff_graph_links.specs.declared.pads.drawn.Pad.{Pad}
 use Rattle.ff_graph_dag.specs.declared.graph.Node.{Node}
 use Rattle.ff_graph_dag.specs.declared.graph.Port.{Port}
 use Rattle.ff_graph_dag.specs.declared.graph.Plan.{Plan}
-use Rattle.ff_graph_dag.specs.Dags.{Spot, held_at}
-use Rattle.ff_graph_dag.specs.Graphs.{no_spot, spot_at, Fits}
-use Rattle.ff_graph_dag.specs.Parts.{AreNew}
-use Rattle.ff_graph_dag.specs.wiring.Wires.{edges_up, ins_from, outs_from, wires_of, ends_of, starts_of, IsWired}
+use Rattle.ff_graph_dag.specs.laws.Dags.{Spot, held_at}
+use Rattle.ff_graph_dag.specs.laws.Graphs.{no_spot, spot_at, Fits}
+use Rattle.ff_graph_dag.specs.laws.Parts.{AreNew}
+use Rattle.ff_graph_dag.specs.laws.wiring.Wires.{edges_up, ins_from, outs_from, wires_of, ends_of, starts_of, IsWired}
 use Rattle.ff_graph_dag.specs.wiring.Flows.{port_of_source, placed, placed_pads, placed_counts}
-use Rattle.ff_graph.specs.composed.Ready.{new_spot, IsReady, AreReady}
+use Rattle.ff_graph.specs.laws.composed.Ready.{new_spot, IsReady, AreReady}
 use Rattle.ff_graph.proofs.ComposedLemmas.Elements.{some_same, no_some, got, or_got, mapped, map_size}
 
 ups_size : (ps : List (Option Port)) (k i n : ℕ) → length (edges_up ps k i n) ≡ n

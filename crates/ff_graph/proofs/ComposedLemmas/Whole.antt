@@ -22,7 +22,7 @@ use Rattle.ff_graph_dag.specs.wiring.Flows.{no_flows, flows_from, IsDrawing}
 use Rattle.ff_graph_dag.specs.wiring.Limits.{flows_at}
 use Rattle.ff_graph_links.specs.labels.Clear.{IsClear}
 use Rattle.ff_graph.specs.composed.Cuts.{cuts_as, graph_cuts, outs_or_none, all_given, graph_outs}
-use Rattle.ff_graph.specs.composed.Ready.{pads_of, counts_of, AreReady}
+use Rattle.ff_graph.specs.laws.composed.Ready.{pads_of, counts_of, AreReady}
 use Rattle.ff_graph.proofs.ComposedLemmas.Drawing.{whole, are_ready}
 use Rattle.ff_graph.proofs.ComposedLemmas.Elements.{map_size}
 use Rattle.ff_graph.proofs.ComposedLemmas.Limiting.{whole_limited}

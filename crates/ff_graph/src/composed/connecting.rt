@@ -3,10 +3,10 @@ ghost use Rattle.std.specs.Prelude.{◌≡◌, ℕ, IfOk, map, length};
 ghost use Rattle.ff_filter.specs.Joins.{Ports};
 ghost use Rattle.ff_filter.specs.Views.{IsNew};
 ghost use Rattle.ff_graph_links.specs.pads.Links.{pads_in};
-ghost use Rattle.ff_graph_dag.specs.Graphs.{graph_view, spots};
+ghost use Rattle.ff_graph_dag.specs.laws.Graphs.{graph_view, spots};
 ghost use Rattle.ff_graph_dag.specs.wiring.Flows.{no_flows, flows_from, IsDrawing};
 ghost use Rattle.ff_graph_dag.specs.wiring.Limits.{flows_at};
-ghost use Rattle.ff_graph.specs.composed.Ready.{AreReady};
+ghost use Rattle.ff_graph.specs.laws.composed.Ready.{AreReady};
 
 use crate::composed::lists::places;
 use ff_filter::Filter;

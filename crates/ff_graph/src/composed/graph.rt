@@ -9,14 +9,14 @@ ghost use Rattle.ff_filters.specs.limited.Cuts.{AreTimed};
 ghost use Rattle.ff_graph.specs.Meaning.{graph_means};
 ghost use Rattle.ff_graph.specs.Opens.{open_ins};
 ghost use Rattle.ff_graph.specs.Configured.{CanBeHad};
-ghost use Rattle.ff_graph.specs.Pads.{heads_in, output_of, IsRefused};
+ghost use Rattle.ff_graph.specs.laws.Pads.{heads_in, output_of, IsRefused};
 ghost use Rattle.ff_graph.specs.declared.refusal.Refusal.TheVariants.{NoMemory};
 ghost use Rattle.ff_graph_dag.specs.wiring.Flows.{no_flows, flows_from, IsDrawing};
 ghost use Rattle.ff_graph_dag.specs.wiring.Limits.{flows_at};
 ghost use Rattle.ff_graph_links.specs.labels.Clear.{IsClear};
 ghost use Rattle.ff_graph.specs.composed.Cuts.{all_given, graph_cuts, graph_outs, out_heads};
 ghost use Rattle.ff_graph.specs.composed.Pads.{HasFilter, HaveChannels};
-ghost use Rattle.ff_graph.specs.composed.Ready.{AreReady, counts_of, pads_of as pads_in_order};
+ghost use Rattle.ff_graph.specs.laws.composed.Ready.{AreReady, counts_of, pads_of as pads_in_order};
 
 use crate::composed::connecting::connect;
 use crate::composed::lists::{counts, given, heads_of, in_lanes, out_lanes, pads_of};

@@ -18,7 +18,7 @@ ghost use Rattle.ff_graph_dag.specs.wiring.Flows.{IsDrawing};
 ghost use Rattle.ff_graph_links.specs.labels.Clear.{IsClear};
 ghost use Rattle.ff_graph.specs.composed.Cuts.{all_given, graph_cuts};
 ghost use Rattle.ff_graph.specs.composed.Pads.{HasFilter, HaveChannels};
-ghost use Rattle.ff_graph.specs.composed.Ready.{counts_of, pads_of};
+ghost use Rattle.ff_graph.specs.laws.composed.Ready.{counts_of, pads_of};
 
 /// Where the heads of what comes to a filter have time bases, so have those of what it gives.
 pub fn configured_heads_are_timed()

@@ -1,10 +1,10 @@
 //! Lists that the composition of a graph needs: pads, heads, lanes and places.
 ghost use Rattle.std.specs.Prelude.{◌≡◌, ℕ, IfOk, map, length};
 ghost use Rattle.ff_stream.specs.declared.item.Lane.TheVariants.{Frames as FramesOf};
-ghost use Rattle.ff_graph_dag.specs.Graphs.{spots};
-ghost use Rattle.ff_graph.specs.Pads.{heads_in, output_of};
+ghost use Rattle.ff_graph_dag.specs.laws.Graphs.{spots};
+ghost use Rattle.ff_graph.specs.laws.Pads.{heads_in, output_of};
 ghost use Rattle.ff_graph.specs.composed.Cuts.{all_given};
-ghost use Rattle.ff_graph.specs.composed.Ready.{new_spot, counts_of, pads_of as pads_in_order};
+ghost use Rattle.ff_graph.specs.laws.composed.Ready.{new_spot, counts_of, pads_of as pads_in_order};
 
 use crate::OpenOutput;
 use ff_filter::Filter;

@@ -5,7 +5,7 @@ ghost use Rattle.ff_net.specs.Pasts.{start};
 ghost use Rattle.ff_filters.specs.limited.Cuts.{AreTimed};
 ghost use Rattle.ff_graph.specs.Opens.{open_ins};
 ghost use Rattle.ff_graph.specs.Configured.{CanBeHad};
-ghost use Rattle.ff_graph.specs.Pads.{IsRefused};
+ghost use Rattle.ff_graph.specs.laws.Pads.{IsRefused};
 ghost use Rattle.ff_graph.specs.declared.refusal.Refusal.TheVariants.{NoMemory};
 ghost use Rattle.ff_graph_links.specs.labels.Clear.{IsClear};
 ghost use Rattle.ff_graph.specs.composed.Cuts.{all_given, graph_outs, graph_task};
@@ -36,7 +36,7 @@ pub struct GraphMachine {
 
 impl Machine for GraphMachine {
     ghost use Rattle.ff_filters.specs.contracts.any.AnyFilterFilter.TheImpl.Laws.{grows-law, quiet-law, spent_only-law};
-    ghost use Rattle.ff_graph.specs.composed.Machines.{graph_shown, graph_laws};
+    ghost use Rattle.ff_graph.specs.laws.composed.Machines.{graph_shown, graph_laws};
 
     ghost view = { λ m. graph_shown m.machine };
 

@@ -4,8 +4,8 @@ use Rattle.std.proofs.lemmas.Bool.Decides.{nat_tests}
 use Rattle.std.specs.declared.vec.Vec.{Vec}
 use Rattle.ff_graph_dag.specs.declared.graph.Port.{Port}
 use Rattle.ff_graph_dag.specs.declared.graph.Wire.{Wire}
-use Rattle.ff_graph_dag.specs.Graphs.{among}
-use Rattle.ff_graph_dag.specs.ties.Tied.{is_needed, wire_needed, ways_at, with_start, with_feeder, IsUpward}
+use Rattle.ff_graph_dag.specs.laws.Graphs.{among}
+use Rattle.ff_graph_dag.specs.laws.ties.Tied.{is_needed, wire_needed, ways_at, with_start, with_feeder, IsUpward}
 
 or_assoc : (a b c : Bool) → (a || (b || c)) ≡ ((a || b) || c)
 or_assoc true b c = refl

@@ -5,11 +5,11 @@ use Rattle.ff_graph_dag.specs.declared.graph.Node.{Node}
 use Rattle.ff_graph_dag.specs.declared.graph.Port.{Port}
 use Rattle.ff_graph_dag.specs.declared.graph.Wire.{Wire}
 use Rattle.ff_graph_dag.specs.declared.graph.Plan.{Plan}
-use Rattle.ff_graph_dag.specs.Dags.{Spot, spot_shut, Free, StandsAt, AllUntouched, Reads, Leaves, Leads}
-use Rattle.ff_graph_dag.specs.Graphs.{spot_at, no_port, no_wire, wire_at, pad_at, edge_at, feed_at, port_shut, port_ended, Apart, Each, IsWire, IsPad, InThere, OutThere, Fits, among, ways_of, on_way, out_edge, in_edge, is_port, comes_from, is_given, IsCone, IsEntry, Framed, Sound}
-use Rattle.ff_graph_dag.specs.Parts.{IsNewSpot, AreNew, new_at}
-use Rattle.ff_graph_dag.specs.Readings.{is_same}
-use Rattle.ff_graph_dag.specs.ties.Tied.{port_of, goal_of, leads_to, start_of, leaves, ins_of, outs_of, edge_in, edge_out, is_needed, wire_needed, IsReached, IsTied}
+use Rattle.ff_graph_dag.specs.laws.Dags.{Spot, spot_shut, Free, StandsAt, AllUntouched, Reads, Leaves, Leads}
+use Rattle.ff_graph_dag.specs.laws.Graphs.{spot_at, no_port, no_wire, wire_at, pad_at, edge_at, feed_at, port_shut, port_ended, Apart, Each, IsWire, IsPad, InThere, OutThere, Fits, among, ways_of, on_way, out_edge, in_edge, is_port, comes_from, is_given, IsCone, IsEntry, Framed, Sound}
+use Rattle.ff_graph_dag.specs.laws.Parts.{IsNewSpot, AreNew, new_at}
+use Rattle.ff_graph_dag.specs.laws.Readings.{is_same}
+use Rattle.ff_graph_dag.specs.laws.ties.Tied.{port_of, goal_of, leads_to, start_of, leaves, ins_of, outs_of, edge_in, edge_out, is_needed, wire_needed, IsReached, IsTied}
 
 -- lists ---------------------------------------------------------------------------------------------------------
 

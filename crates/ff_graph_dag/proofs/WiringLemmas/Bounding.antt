@@ -8,11 +8,11 @@ use Rattle.ff_node_filter.specs.Limiting.{IsLimited}
 use Rattle.ff_graph_links.specs.declared.pads.drawn.Pad.{Pad}
 use Rattle.ff_graph_dag.specs.declared.graph.Node.{Node}
 use Rattle.ff_graph_dag.specs.declared.graph.Plan.{Plan}
-use Rattle.ff_graph_dag.specs.Dags.{Spot}
-use Rattle.ff_graph_dag.specs.Graphs.{spot_at, Fits}
-use Rattle.ff_graph_dag.specs.Parts.{AreNew, composed, parts_of}
-use Rattle.ff_graph_dag.specs.ties.Tied.{IsTied}
-use Rattle.ff_graph_dag.specs.wiring.Wires.{wires_of, IsWired}
+use Rattle.ff_graph_dag.specs.laws.Dags.{Spot}
+use Rattle.ff_graph_dag.specs.laws.Graphs.{spot_at, Fits}
+use Rattle.ff_graph_dag.specs.laws.Parts.{AreNew, composed, parts_of}
+use Rattle.ff_graph_dag.specs.laws.ties.Tied.{IsTied}
+use Rattle.ff_graph_dag.specs.laws.wiring.Wires.{wires_of, IsWired}
 use Rattle.ff_graph_dag.specs.wiring.Flows.{Flows, no_flows, flows_from, port_at, placed, placed_pads, placed_counts, IsDrawing}
 use Rattle.ff_graph_dag.specs.wiring.Limits.{flows_at, cuts_from, AreLimited, Leave}
 use Rattle.ff_graph_dag.proofs.WiringLemmas.Tying.{map_size, numbers_size}

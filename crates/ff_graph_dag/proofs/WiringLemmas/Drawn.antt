@@ -5,11 +5,11 @@ use Rattle.ff_graph_links.specs.declared.pads.drawn.Pad.{Pad}
 use Rattle.ff_graph_dag.specs.declared.graph.Node.{Node}
 use Rattle.ff_graph_dag.specs.declared.graph.Port.{Port}
 use Rattle.ff_graph_dag.specs.declared.graph.Plan.{Plan}
-use Rattle.ff_graph_dag.specs.Dags.{Spot}
-use Rattle.ff_graph_dag.specs.Graphs.{spot_at, Fits}
-use Rattle.ff_graph_dag.specs.Parts.{AreNew, composed}
-use Rattle.ff_graph_dag.specs.ties.Tied.{IsTied}
-use Rattle.ff_graph_dag.specs.wiring.Wires.{IsWired}
+use Rattle.ff_graph_dag.specs.laws.Dags.{Spot}
+use Rattle.ff_graph_dag.specs.laws.Graphs.{spot_at, Fits}
+use Rattle.ff_graph_dag.specs.laws.Parts.{AreNew, composed}
+use Rattle.ff_graph_dag.specs.laws.ties.Tied.{IsTied}
+use Rattle.ff_graph_dag.specs.laws.wiring.Wires.{IsWired}
 use Rattle.ff_graph_dag.specs.wiring.Flows.{no_flows, flows_from, port_at, placed, placed_pads, placed_counts, pad_at, IsDrawing}
 use Rattle.ff_graph_dag.proofs.WiringLemmas.Tying.{mapped, map_size, nodes_size}
 use Rattle.ff_graph_dag.proofs.WiringLemmas.Ordering.{solves, back_again}

@@ -4,14 +4,14 @@ use Rattle.std.proofs.lemmas.Bool.Decides.{nat_tests}
 use Rattle.ff_stream.specs.declared.item.Lane.{Lane}
 use Rattle.ff_stream.specs.Stream.{LiesBelow, opened, broken}
 use Rattle.ff_stream.specs.Ports.{nothing, stream_at, AllUnbroken, IsUnbroken}
-use Rattle.ff_stream.specs.Order.{below_self, below_trans}
+use Rattle.ff_stream.specs.laws.Order.{below_self, below_trans}
 use Rattle.ff_stream.specs.Lanes.{IsValid}
-use Rattle.ff_stream.specs.LaneLaws.{nothing_valid}
+use Rattle.ff_stream.specs.laws.LaneLaws.{nothing_valid}
 use Rattle.ff_net.specs.Ways.{lane_at, IsValidOn, AreValid}
 use Rattle.ff_filter.specs.Joins.{Flow, Ports, EachBelow, all_opened}
 use Rattle.ff_filter.specs.Views.{View}
 use Rattle.ff_node_filter.specs.Tasks.{listed, ported}
-use Rattle.ff_node_filter.specs.StandLaws.{stream_at-listed, stream_at-beyond, listed_below}
+use Rattle.ff_node_filter.specs.laws.StandLaws.{stream_at-listed, stream_at-beyond, listed_below}
 use Rattle.ff_node_filter.specs.Limiting.{IsLimited}
 use Rattle.ff_graph_links.specs.declared.pads.drawn.Pad.{Pad}
 use Rattle.ff_graph_dag.specs.wiring.Flows.{Flows, no_flows, pad_place, stream_into, streams_into, with_outputs, flows_from, source_at}

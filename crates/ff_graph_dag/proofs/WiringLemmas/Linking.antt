@@ -2,8 +2,8 @@
 use Rattle.std.proofs.Common.{◌≡◌, ℕ, zero, suc, ◌<◌, List, [], ◌∷◌, length, map, slice_get, slice_index_or, Option, None, Some, refl, ap, sym, ◌∙◌, subst, ◌⊎◌, inl, inr, arith}
 use Rattle.ff_graph_links.specs.declared.pads.drawn.Pad.{Pad}
 use Rattle.ff_graph_dag.specs.declared.graph.Port.{Port}
-use Rattle.ff_graph_dag.specs.ties.Tied.{port_of}
-use Rattle.ff_graph_dag.specs.wiring.Wires.{feeder_at, outputs_at, IsLinked}
+use Rattle.ff_graph_dag.specs.laws.ties.Tied.{port_of}
+use Rattle.ff_graph_dag.specs.laws.wiring.Wires.{feeder_at, outputs_at, IsLinked}
 use Rattle.ff_graph_dag.specs.wiring.Flows.{IsForward, place_in, port_at, port_of_source, placed, placed_pads, placed_counts, source_at, IsDrawing}
 use Rattle.ff_graph_dag.proofs.WiringLemmas.Ordering.{got_source, feeder_placed, place_got, place_is, places_apart}
 use Rattle.ff_graph_dag.proofs.WiringLemmas.Tying.{mapped, unmapped, map_size}

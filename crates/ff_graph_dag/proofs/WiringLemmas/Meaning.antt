@@ -4,19 +4,19 @@ use Rattle.ff_stream.specs.declared.item.Item.{Item}
 use Rattle.ff_stream.specs.Ports.{nothing}
 use Rattle.ff_filter.specs.Joins.{Flow, Ports}
 use Rattle.ff_filter.specs.Views.{View}
-use Rattle.ff_filter.specs.Held.{after_held}
+use Rattle.ff_filter.specs.laws.Held.{after_held}
 use Rattle.ff_graph_dag.specs.declared.graph.Node.{Node}
 use Rattle.ff_graph_dag.specs.declared.graph.Port.{Port}
 use Rattle.ff_graph_dag.specs.declared.graph.Wire.{Wire}
 use Rattle.ff_graph_dag.specs.declared.graph.Plan.{Plan}
-use Rattle.ff_graph_dag.specs.Dags.{Spot, Free, reads, comes, gives, solve_spots}
-use Rattle.ff_graph_dag.specs.Graphs.{no_spot, spot_at, Fits, graph_view}
-use Rattle.ff_graph_dag.specs.Parts.{AreNew, new_at, composed, fit_all, graph_composes}
-use Rattle.ff_graph_dag.specs.Readings.{at_is}
-use Rattle.ff_graph_dag.specs.SettleLaws.{Late, LateFrom, Local, Fresh, solve_done}
-use Rattle.ff_graph_dag.specs.ties.Tied.{port_of, goal_of, start_of, leaves, ins_of, outs_of, edge_in, edge_out, IsTied}
-use Rattle.ff_graph_dag.specs.wiring.Wires.{feeder_at, is_at, edge_of, ends_of, wires_of, IsWired, IsLinked}
-use Rattle.ff_graph_dag.specs.wiring.Meant.{Streams, input_at, stream_to, streams_to, Solves}
+use Rattle.ff_graph_dag.specs.laws.Dags.{Spot, Free, reads, comes, gives, solve_spots}
+use Rattle.ff_graph_dag.specs.laws.Graphs.{no_spot, spot_at, Fits, graph_view}
+use Rattle.ff_graph_dag.specs.laws.Parts.{AreNew, new_at, composed, fit_all, graph_composes}
+use Rattle.ff_graph_dag.specs.laws.Readings.{at_is}
+use Rattle.ff_graph_dag.specs.laws.SettleLaws.{Late, LateFrom, Local, Fresh, solve_done}
+use Rattle.ff_graph_dag.specs.laws.ties.Tied.{port_of, goal_of, start_of, leaves, ins_of, outs_of, edge_in, edge_out, IsTied}
+use Rattle.ff_graph_dag.specs.laws.wiring.Wires.{feeder_at, is_at, edge_of, ends_of, wires_of, IsWired, IsLinked}
+use Rattle.ff_graph_dag.specs.laws.wiring.Meant.{Streams, input_at, stream_to, streams_to, Solves}
 use Rattle.ff_graph_dag.proofs.WiringLemmas.Tying.{at_some, at_itself, wire_is, wire_there, in_edge}
 
 some_same : {A : Type 0} (x y : A) → Some x ≡ Some y → x ≡ y

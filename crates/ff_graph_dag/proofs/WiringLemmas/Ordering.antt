@@ -6,8 +6,8 @@ use Rattle.ff_filter.specs.Joins.{Ports}
 use Rattle.ff_filter.specs.Views.{View}
 use Rattle.ff_graph_links.specs.declared.pads.drawn.Pad.{Pad}
 use Rattle.ff_graph_dag.specs.declared.graph.Port.{Port}
-use Rattle.ff_graph_dag.specs.wiring.Wires.{feeder_at, is_at}
-use Rattle.ff_graph_dag.specs.wiring.Meant.{Streams, input_at, stream_to, streams_to, Solves}
+use Rattle.ff_graph_dag.specs.laws.wiring.Wires.{feeder_at, is_at}
+use Rattle.ff_graph_dag.specs.laws.wiring.Meant.{Streams, input_at, stream_to, streams_to, Solves}
 use Rattle.ff_graph_dag.specs.wiring.Flows.{Flows, same_pad, pad_place, stream_into, streams_into, with_outputs, flows_from, Absent, IsForward, place_in, port_at, port_of_source, placed, placed_pads, pad_at}
 
 some_same : {A : Type 0} (x y : A) → Some x ≡ Some y → x ≡ y

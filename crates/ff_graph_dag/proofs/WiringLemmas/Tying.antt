@@ -5,9 +5,9 @@ use Rattle.ff_graph_dag.specs.declared.graph.Node.{Node}
 use Rattle.ff_graph_dag.specs.declared.graph.Port.{Port}
 use Rattle.ff_graph_dag.specs.declared.graph.Wire.{Wire}
 use Rattle.ff_graph_dag.specs.declared.graph.Plan.{Plan}
-use Rattle.ff_graph_dag.specs.Graphs.{ways_of}
-use Rattle.ff_graph_dag.specs.ties.Tied.{port_of, goal_of, leads_to, start_of, leaves, ins_of, outs_of, edge_in, edge_out, IsUpward, IsReached, IsTied}
-use Rattle.ff_graph_dag.specs.wiring.Wires.{feeder_at, outputs_at, entering, links_at, links_from, wires_of, ends_of, starts_of, is_at, edge_of, edges_up, ins_from, outs_from, numbers, IsWired, IsLinked}
+use Rattle.ff_graph_dag.specs.laws.Graphs.{ways_of}
+use Rattle.ff_graph_dag.specs.laws.ties.Tied.{port_of, goal_of, leads_to, start_of, leaves, ins_of, outs_of, edge_in, edge_out, IsUpward, IsReached, IsTied}
+use Rattle.ff_graph_dag.specs.laws.wiring.Wires.{feeder_at, outputs_at, entering, links_at, links_from, wires_of, ends_of, starts_of, is_at, edge_of, edges_up, ins_from, outs_from, numbers, IsWired, IsLinked}
 
 -- lists ---------------------------------------------------------------------------------------------------------
 

@@ -1,7 +1,7 @@
 -- One more edge at the ports of a filter, and one more number.
 use Rattle.std.proofs.Common.{◌≡◌, ℕ, suc, ◌+◌, ◌-◌, ◌<◌, List, [], ◌∷◌, ◌++◌, Option, ap, sym, ◌∙◌, append_assoc, arith}
 use Rattle.ff_graph_dag.specs.declared.graph.Port.{Port}
-use Rattle.ff_graph_dag.specs.wiring.Wires.{edge_of, edges_up, numbers}
+use Rattle.ff_graph_dag.specs.laws.wiring.Wires.{edge_of, edges_up, numbers}
 
 one_more : (i : ℕ) → i + 1 ≡ suc i
 one_more i = omega arith

@@ -2,10 +2,10 @@
 ghost use Rattle.std.specs.Prelude.{◌≡◌, ◌<◌, ℕ, List, length, slice_index_or};
 ghost use Rattle.ff_graph_dag.specs.declared.graph.Node.{Node};
 ghost use Rattle.ff_graph_dag.specs.declared.graph.Plan.{Plan};
-ghost use Rattle.ff_graph_dag.specs.Dags.{Spot};
-ghost use Rattle.ff_graph_dag.specs.Graphs.{spot_at, Fits, Sound};
-ghost use Rattle.ff_graph_dag.specs.Parts.{AreNew};
-ghost use Rattle.ff_graph_dag.specs.ties.Tied.{IsTied};
+ghost use Rattle.ff_graph_dag.specs.laws.Dags.{Spot};
+ghost use Rattle.ff_graph_dag.specs.laws.Graphs.{spot_at, Fits, Sound};
+ghost use Rattle.ff_graph_dag.specs.laws.Parts.{AreNew};
+ghost use Rattle.ff_graph_dag.specs.laws.ties.Tied.{IsTied};
 
 /// A plan whose edges fit together is sound for filters to which nothing was done. Each filter has as many inputs and
 /// outputs as it has edges there.

@@ -2,8 +2,8 @@
 ghost use Rattle.std.specs.Prelude.{◌≡◌, ◌<◌, ℕ, List, Bool, true, false, Some, length, slice_get, slice_set, replicate, IfOk};
 ghost use Rattle.ff_graph_dag.specs.declared.graph.Port.{Port as APort};
 ghost use Rattle.ff_graph_dag.specs.declared.graph.Wire.{Wire as AWire};
-ghost use Rattle.ff_graph_dag.specs.Graphs.{among};
-ghost use Rattle.ff_graph_dag.specs.ties.Tied.{is_needed as needed_is, wire_needed as wire_is_needed, ways_at, with_feeder, IsReached, IsUpward};
+ghost use Rattle.ff_graph_dag.specs.laws.Graphs.{among};
+ghost use Rattle.ff_graph_dag.specs.laws.ties.Tied.{is_needed as needed_is, wire_needed as wire_is_needed, ways_at, with_feeder, IsReached, IsUpward};
 
 use crate::{Plan, Port, Wire};
 use std::alloc::{AllocError, Global};

@@ -1,6 +1,6 @@
 //! The ports at the two ends of each edge.
 ghost use Rattle.std.specs.Prelude.{◌≡◌, ◌++◌, Some, map, length, IfOk, OnOk};
-ghost use Rattle.ff_graph_dag.specs.wiring.Wires.{ends_of, starts_of, numbers, is_at as is_port_at, edge_of as edge_at_port};
+ghost use Rattle.ff_graph_dag.specs.laws.wiring.Wires.{ends_of, starts_of, numbers, is_at as is_port_at, edge_of as edge_at_port};
 
 use crate::{Port, Wire};
 use std::alloc::{AllocError, Global};

@@ -10,16 +10,16 @@ ghost use Rattle.ff_graph_links.specs.declared.pads.drawn.Pad.{Pad as APad};
 ghost use Rattle.ff_graph_dag.specs.declared.graph.Node.{Node};
 ghost use Rattle.ff_graph_dag.specs.declared.graph.Port.{Port as APort};
 ghost use Rattle.ff_graph_dag.specs.declared.graph.Plan.{Plan};
-ghost use Rattle.ff_graph_dag.specs.Dags.{Spot};
-ghost use Rattle.ff_graph_dag.specs.Graphs.{spot_at, Fits};
-ghost use Rattle.ff_graph_dag.specs.Parts.{AreNew, composed};
+ghost use Rattle.ff_graph_dag.specs.laws.Dags.{Spot};
+ghost use Rattle.ff_graph_dag.specs.laws.Graphs.{spot_at, Fits};
+ghost use Rattle.ff_graph_dag.specs.laws.Parts.{AreNew, composed};
 ghost use Rattle.ff_graph_links.specs.pads.Links.{opens_from};
 ghost use Rattle.ff_graph_links.specs.orders.Orders.{IsOrder};
-ghost use Rattle.ff_graph_dag.specs.ties.Tied.{IsTied};
+ghost use Rattle.ff_graph_dag.specs.laws.ties.Tied.{IsTied};
 ghost use Rattle.ff_graph_dag.specs.wiring.Flows.{no_flows, flows_from, same_pad, pad_place, placed, placed_counts, placed_pads, pad_at, source_at, IsForward, IsDrawing};
 ghost use Rattle.ff_graph_dag.specs.wiring.Limits.{flows_at, cuts_from, AreLimited, Leave};
-ghost use Rattle.ff_graph_dag.specs.wiring.Meant.{Streams, Solves};
-ghost use Rattle.ff_graph_dag.specs.wiring.Wires.{IsLinked, IsWired};
+ghost use Rattle.ff_graph_dag.specs.laws.wiring.Meant.{Streams, Solves};
+ghost use Rattle.ff_graph_dag.specs.laws.wiring.Wires.{IsLinked, IsWired};
 
 /// A plan of filters to which nothing was done stands for the streams that solve its filters, so that they have one solution only.
 pub fn wired_plans_solve()

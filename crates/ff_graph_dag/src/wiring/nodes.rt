@@ -1,6 +1,6 @@
 //! The edges at the ports of each filter.
 ghost use Rattle.std.specs.Prelude.{◌≡◌, length, map, IfOk};
-ghost use Rattle.ff_graph_dag.specs.wiring.Wires.{feeds_in, edges_up, ins_from, outs_from};
+ghost use Rattle.ff_graph_dag.specs.laws.wiring.Wires.{feeds_in, edges_up, ins_from, outs_from};
 
 use crate::wiring::ends::edge_of;
 use crate::{Node, Port};

@@ -1,7 +1,7 @@
 //! Pads and sources by the places of their filters in an order.
 ghost use Rattle.std.specs.Prelude.{◌≡◌, ◌++◌, [], map, slice_index_or, IfOk};
 ghost use Rattle.ff_graph_links.specs.pads.Links.{pads_in};
-ghost use Rattle.ff_graph_dag.specs.wiring.Wires.{feeds_in};
+ghost use Rattle.ff_graph_dag.specs.laws.wiring.Wires.{feeds_in};
 ghost use Rattle.ff_graph_dag.specs.wiring.Flows.{place_in as place_of, port_at as port_of_pad, port_of_source};
 ghost use Rattle.ff_graph_dag.specs.wiring.Flows.{placed as placed_as, placed_pads as pads_placed, placed_counts as counts_placed};
 

@@ -1,9 +1,9 @@
 //! The plan of a drawing of filters.
 ghost use Rattle.std.specs.Prelude.{◌≡◌, ◌-◌, ◌≤◌, ℕ, length, IfOk};
-ghost use Rattle.ff_graph_dag.specs.ties.Tied.{IsTied};
+ghost use Rattle.ff_graph_dag.specs.laws.ties.Tied.{IsTied};
 ghost use Rattle.ff_graph_links.specs.pads.Links.{pads_in};
 ghost use Rattle.ff_graph_dag.specs.wiring.Flows.{placed as feeds_placed, placed_counts as counts_placed, placed_pads as pads_placed, IsDrawing};
-ghost use Rattle.ff_graph_dag.specs.wiring.Wires.{feeds_in, numbers, IsLinked, IsWired};
+ghost use Rattle.ff_graph_dag.specs.laws.wiring.Wires.{feeds_in, numbers, IsLinked, IsWired};
 
 use crate::ties::upward_ways;
 use crate::wiring::ends::{ends, starts};

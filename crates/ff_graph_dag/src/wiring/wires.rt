@@ -1,6 +1,6 @@
 //! The edges that lead to filters.
 ghost use Rattle.std.specs.Prelude.{◌≡◌, ◌++◌, None, Some, map, IfOk, OnOk};
-ghost use Rattle.ff_graph_dag.specs.wiring.Wires.{feeds_in, entering, links_at, links_from, wires_of};
+ghost use Rattle.ff_graph_dag.specs.laws.wiring.Wires.{feeds_in, entering, links_at, links_from, wires_of};
 
 use crate::{Port, Wire};
 use std::alloc::{AllocError, Global};

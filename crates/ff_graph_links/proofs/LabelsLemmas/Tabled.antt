@@ -12,7 +12,7 @@ use Rattle.std.specs.declared.alloc.Global.{Global}
 use Rattle.std.specs.declared.vec.Vec.{Vec}
 use Rattle.ff_lang.specs.declared.graph.Graph.{Graph}
 use Rattle.ff_graph_links.specs.labels.Order.{below, gives_to, feeds, comes_behind, first_on_loop, on_loop, order_by, graph_order, cell, reaches}
-use Rattle.ff_graph_links.specs.labels.Tables.{marks}
+use Rattle.ff_graph_links.specs.laws.labels.Tables.{marks}
 
 pub range_next : (a n : ℕ) → a < n → range_with_len a (n - a) ≡ a ∷ range_with_len (a + 1) (n - (a + 1))
 range_next a n lt = (let e : n - a ≡ suc (n - (a + 1)) = omega arith in ap (λ (k : ℕ). range_with_len a k) e)

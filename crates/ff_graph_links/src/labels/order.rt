@@ -3,7 +3,7 @@ ghost use Rattle.std.specs.Prelude.{◌≡◌, ◌<◌, ◌^◌, ◌||◌, All, 
 ghost use Rattle.ff_graph_links.specs.labels.Order.{below, feeds, cell, reaches, comes_behind, first_on_loop, on_loop};
 ghost use Rattle.ff_graph_links.specs.labels.Order.{feeders_to as fed_from, feeders_by, order_by, graph_order};
 ghost use Rattle.ff_graph_links.specs.orders.Orders.{lists};
-ghost use Rattle.ff_graph_links.specs.labels.Tables.{marks};
+ghost use Rattle.ff_graph_links.specs.laws.labels.Tables.{marks};
 
 use crate::labels::labels::gives_to;
 use crate::orders::in_order;

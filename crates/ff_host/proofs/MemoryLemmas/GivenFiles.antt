@@ -8,8 +8,8 @@ use Rattle.std.specs.Cmp.Lexicographic.{slice_cmp}
 use Rattle.std.specs.Ordering.{nat_cmp}
 use Rattle.std.proofs.lemmas.Map.Text.{btree_map_updates_text}
 use mathlib.Core.Bool.{cond}
-use Rattle.ff_host.specs.memory.Given.{given}
-use Rattle.ff_host.specs.memory.Contents.{file_at}
+use Rattle.ff_host.specs.laws.memory.Given.{given}
+use Rattle.ff_host.specs.laws.memory.Contents.{file_at}
 
 -- the first, and else the second
 abbrev pub either : Option (List ℕ) → Option (List ℕ) → Option (List ℕ)

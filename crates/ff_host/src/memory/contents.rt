@@ -2,9 +2,9 @@
 ghost use Rattle.std.specs.Prelude.{◌≡◌, ℕ, List, [], Option, Some, IfOk, OnOk, OnErr, IsSome};
 ghost use Rattle.std.specs.BTreeMap.{get_by_text};
 ghost use Rattle.std.specs.Option.{option_map};
-ghost use Rattle.ff_host.specs.memory.Contents.{file_at};
+ghost use Rattle.ff_host.specs.laws.memory.Contents.{file_at};
 ghost use Rattle.ff_host.specs.Files.{KeepsFiles, PutsFile, bytes_at};
-ghost use Rattle.ff_host.specs.memory.Given.{given};
+ghost use Rattle.ff_host.specs.laws.memory.Given.{given};
 
 use std::alloc::{AllocError, Global};
 use std::collections::BTreeMap;

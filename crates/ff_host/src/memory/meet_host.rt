@@ -2,11 +2,11 @@
 ghost use Rattle.std.specs.Prelude.{◌≡◌, ◌-◌, ℕ, List, [], Some, is_some, Ok, IfOk, OnOk, OnErr, IsErrOf, IsOk, IsSome};
 ghost use Rattle.std.specs.Option.{option_map};
 ghost use Rattle.ff_host.specs.Files.{KeepsFiles, PutsFile};
-ghost use Rattle.ff_host.specs.memory.Given.{given};
-ghost use Rattle.ff_host.specs.memory.MemHost.{source_closed};
-ghost use Rattle.ff_host.specs.memory.MeetHost.{meet_files, meet_marks, meet_in_faults, meet_offset, meet_sources, meet_sinks, MeetOpened, new_meet_source, MeetNotes, MeetSame, now_opened};
-ghost use Rattle.ff_host.specs.Opens.{CountsOpening};
-ghost use Rattle.ff_host.specs.Tally.{blank};
+ghost use Rattle.ff_host.specs.laws.memory.Given.{given};
+ghost use Rattle.ff_host.specs.laws.memory.MemHost.{source_closed};
+ghost use Rattle.ff_host.specs.laws.memory.MeetHost.{meet_files, meet_marks, meet_in_faults, meet_offset, meet_sources, meet_sinks, MeetOpened, new_meet_source, MeetNotes, MeetSame, now_opened};
+ghost use Rattle.ff_host.specs.laws.Opens.{CountsOpening};
+ghost use Rattle.ff_host.specs.laws.Tally.{blank};
 
 use crate::memory::meet_source::MeetSource;
 use crate::memory::meeting::Meeting;

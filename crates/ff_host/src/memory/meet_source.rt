@@ -1,7 +1,7 @@
 //! A source in memory that waits for another one at an offset.
 ghost use Rattle.std.specs.Prelude.{◌≡◌, ◌+◌, ◌<◌, ◌≤◌, ◌⊎◌, [], ◌++◌, length, take, drop, min, false, Some, IfOk, IsOk, OnOk, OnErr, IsTrue, string_bytes};
 ghost use Rattle.ff_host.specs.Causes.{added, HasCause};
-ghost use Rattle.ff_host.specs.memory.MeetEnds.{new_meeting, most_turns, GoesOn, gave, failed_alone};
+ghost use Rattle.ff_host.specs.laws.memory.MeetEnds.{new_meeting, most_turns, GoesOn, gave, failed_alone};
 
 use crate::memory::meeting::{Meeting, TURNS};
 use crate::memory::plan::one_more;
@@ -25,7 +25,7 @@ pub struct MeetSource {
 }
 
 impl Model for MeetSource {
-    ghost use Rattle.ff_host.specs.memory.MeetEnds.{MeetReading};
+    ghost use Rattle.ff_host.specs.laws.memory.MeetEnds.{MeetReading};
 
     ghost Value = { MeetReading };
 

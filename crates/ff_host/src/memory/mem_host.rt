@@ -3,14 +3,14 @@ ghost use Rattle.std.specs.Prelude.{◌≡◌, ◌-◌, ◌↔◌, ◌⊎◌, �
 ghost use Rattle.std.specs.Option.{option_map};
 ghost use Rattle.ff_host.specs.Causes.{HasCause, HasCauseOf, SameCounts, added};
 ghost use Rattle.ff_host.specs.Files.{KeepsFiles, PutsFile};
-ghost use Rattle.ff_host.specs.memory.Given.{given};
-ghost use Rattle.ff_host.specs.memory.MemHost.{files_of, plan_of, marks_in, in_faults_of, out_faults_of, open_sources_of, open_sinks_of, HasOpened, HasCreated, new_source, new_sink};
-ghost use Rattle.ff_host.specs.memory.MemHost.{OpenFails, CreateFails, CloseFails};
-ghost use Rattle.ff_host.specs.memory.MemHost.{Notes, no_change, one_opened, one_open_failed, one_created, one_create_failed, source_closed, sink_closed, close_failed};
-ghost use Rattle.ff_host.specs.Opens.{CountsOpening};
-ghost use Rattle.ff_host.specs.memory.Plan.{IsPlannedNext};
-ghost use Rattle.ff_host.specs.memory.QuietHost.{quiet_files};
-ghost use Rattle.ff_host.specs.Tally.{blank};
+ghost use Rattle.ff_host.specs.laws.memory.Given.{given};
+ghost use Rattle.ff_host.specs.laws.memory.MemHost.{files_of, plan_of, marks_in, in_faults_of, out_faults_of, open_sources_of, open_sinks_of, HasOpened, HasCreated, new_source, new_sink};
+ghost use Rattle.ff_host.specs.laws.memory.MemHost.{OpenFails, CreateFails, CloseFails};
+ghost use Rattle.ff_host.specs.laws.memory.MemHost.{Notes, no_change, one_opened, one_open_failed, one_created, one_create_failed, source_closed, sink_closed, close_failed};
+ghost use Rattle.ff_host.specs.laws.Opens.{CountsOpening};
+ghost use Rattle.ff_host.specs.laws.memory.Plan.{IsPlannedNext};
+ghost use Rattle.ff_host.specs.laws.memory.QuietHost.{quiet_files};
+ghost use Rattle.ff_host.specs.laws.Tally.{blank};
 
 use crate::memory::mem_sink::MemSink;
 use crate::memory::mem_source::MemSource;

@@ -2,8 +2,8 @@
 ghost use Rattle.std.specs.Prelude.{◌≡◌, ◌+◌, ◌≤◌, ◌↔◌, [], ◌++◌, length, Some, OnOk, OnErr, IsErr, IsErrOf};
 ghost use Rattle.ff_host.specs.Causes.{added, HasCause, HasCauseOf};
 ghost use Rattle.ff_host.specs.Files.{patched};
-ghost use Rattle.ff_host.specs.memory.MemEnds.{new_writing, failed_append, failed_patch};
-ghost use Rattle.ff_host.specs.memory.Plan.{FailsNext};
+ghost use Rattle.ff_host.specs.laws.memory.MemEnds.{new_writing, failed_append, failed_patch};
+ghost use Rattle.ff_host.specs.laws.memory.Plan.{FailsNext};
 
 use crate::memory::plan::{fails_next, one_more};
 use crate::memory::quiet_sink::QuietSink;
@@ -23,7 +23,7 @@ pub struct MemSink {
 }
 
 impl Model for MemSink {
-    ghost use Rattle.ff_host.specs.memory.MemEnds.{MemWriting};
+    ghost use Rattle.ff_host.specs.laws.memory.MemEnds.{MemWriting};
 
     ghost Value = { MemWriting };
 

@@ -1,8 +1,8 @@
 //! A source in memory that fails where it was planned.
 ghost use Rattle.std.specs.Prelude.{◌≡◌, ◌+◌, ◌<◌, ◌↔◌, [], ◌++◌, length, take, drop, min, Some, IfOk, OnErr, IsErr, string_bytes};
 ghost use Rattle.ff_host.specs.Causes.{added, HasCause};
-ghost use Rattle.ff_host.specs.memory.MemEnds.{new_reading, failed_read};
-ghost use Rattle.ff_host.specs.memory.Plan.{FailsNext};
+ghost use Rattle.ff_host.specs.laws.memory.MemEnds.{new_reading, failed_read};
+ghost use Rattle.ff_host.specs.laws.memory.Plan.{FailsNext};
 
 use crate::memory::plan::{fails_next, one_more};
 use crate::memory::quiet_source::QuietSource;
@@ -20,7 +20,7 @@ pub struct MemSource {
 }
 
 impl Model for MemSource {
-    ghost use Rattle.ff_host.specs.memory.MemEnds.{MemReading};
+    ghost use Rattle.ff_host.specs.laws.memory.MemEnds.{MemReading};
 
     ghost Value = { MemReading };
 

@@ -2,7 +2,7 @@
 ghost use Rattle.std.specs.Prelude.{◌≡◌, ◌↔◌, ◌==◌, IfOk, IsTrue};
 ghost use Rattle.std.specs.List.{list_any};
 ghost use Rattle.ff_host.specs.Causes.{added};
-ghost use Rattle.ff_host.specs.memory.Plan.{numbers_of, FailsNext, IsPlannedNext};
+ghost use Rattle.ff_host.specs.laws.memory.Plan.{numbers_of, FailsNext, IsPlannedNext};
 
 use std::alloc::{AllocError, Global};
 

@@ -2,9 +2,9 @@
 ghost use Rattle.std.specs.Prelude.{◌≡◌, ◌-◌, ℕ, List, [], Some, Ok, IfOk, OnOk, OnErr, IsErrOf, IsOk, IsSome, is_some, ⊤};
 ghost use Rattle.std.specs.Option.{option_map};
 ghost use Rattle.ff_host.specs.Files.{bytes_at, KeepsFiles, PutsFile};
-ghost use Rattle.ff_host.specs.memory.Given.{given};
-ghost use Rattle.ff_host.specs.Opens.{CountsOpening};
-ghost use Rattle.ff_host.specs.memory.QuietHost.{quiet_files, quiet_sources, quiet_sinks, one_source_more, one_source_less};
+ghost use Rattle.ff_host.specs.laws.memory.Given.{given};
+ghost use Rattle.ff_host.specs.laws.Opens.{CountsOpening};
+ghost use Rattle.ff_host.specs.laws.memory.QuietHost.{quiet_files, quiet_sources, quiet_sinks, one_source_more, one_source_less};
 
 use crate::memory::contents::{
     Contents, bytes_under, contents_of, copy_under, make_empty, put_bytes,

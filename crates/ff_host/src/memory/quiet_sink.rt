@@ -15,7 +15,7 @@ pub struct QuietSink {
 
 impl Model for QuietSink {
     ghost use Rattle.std.specs.Prelude.{string_bytes};
-    ghost use Rattle.ff_host.specs.memory.QuietEnds.{QuietWriting};
+    ghost use Rattle.ff_host.specs.laws.memory.QuietEnds.{QuietWriting};
 
     ghost Value = { QuietWriting };
 

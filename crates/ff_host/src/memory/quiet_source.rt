@@ -15,7 +15,7 @@ pub struct QuietSource {
 
 impl Model for QuietSource {
     ghost use Rattle.std.specs.Prelude.{◌≤◌, drop, length, string_bytes};
-    ghost use Rattle.ff_host.specs.memory.QuietEnds.{QuietReading};
+    ghost use Rattle.ff_host.specs.laws.memory.QuietEnds.{QuietReading};
 
     ghost Value = { QuietReading };
 

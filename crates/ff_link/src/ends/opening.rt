@@ -1,6 +1,6 @@
 //! New links.
 ghost use Rattle.std.specs.Prelude.{◌≡◌, ◌≤◌, IfOk, true};
-ghost use Rattle.ff_link.specs.Views.{new_sender, new_receiver};
+ghost use Rattle.ff_link.specs.laws.Views.{new_sender, new_receiver};
 
 use super::{Queues, Receiver, Sender};
 use crate::side::{Claims, Down, Fixed, PutsHere, Up};

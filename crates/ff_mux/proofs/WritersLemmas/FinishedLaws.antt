@@ -1,7 +1,7 @@
 -- The finished files of the formats.
 use Rattle.std.proofs.Common.{◌≡◌, ℕ, suc, ◌+◌, List, [], ◌∷◌, ◌++◌, drop, length, Some, None, refl, ap, ◌∙◌, arith, append-nil}
 use Rattle.ff_format.specs.Layouts.{body, bytes_in}
-use Rattle.ff_format.specs.Patched.{behind}
+use Rattle.ff_format.specs.laws.Patched.{behind}
 use Rattle.ff_host.specs.Files.{patched}
 use Rattle.ff_mux.specs.FlacHead.{before_info, info_of, flac_start, unknown}
 use Rattle.ff_mux.specs.CrcTexts.{crc_text}

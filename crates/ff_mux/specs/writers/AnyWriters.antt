@@ -3,7 +3,7 @@ use Rattle.std.specs.Prelude.{◌≡◌, ⊤, ℕ, List, length, Option}
 use Rattle.ff_format.specs.Formats.{taken_by}
 use Rattle.ff_format.specs.Layouts.{Layout, bytes_in}
 use Rattle.ff_format.specs.Outputs.{OutputFormat, WritesTaken, no_layout}
-use Rattle.ff_format.specs.Patches.{IsInside}
+use Rattle.ff_format.specs.laws.Patches.{IsInside}
 use Rattle.ff_format.specs.declared.format.FileFormat.{FileFormat}
 use Rattle.ff_format.specs.declared.format.FileFormat.TheVariants as format
 use Rattle.ff_format.specs.declared.format.OutputOptions.{OutputOptions}
@@ -18,13 +18,13 @@ use Rattle.ff_mux.specs.writers.DigestFiles.{streams_format, streams_layout, str
 use Rattle.ff_mux.specs.writers.FlacFile.{flac_format, flac_inside, flac_layout, flac_writes}
 use Rattle.ff_mux.specs.writers.NullFile.{null_format, null_writes}
 use Rattle.ff_mux.specs.writers.HashFile.{hash_format, hash_layout, hash_writes, md5_writes}
-use Rattle.ff_mux.specs.writers.Writers.{flac_head, hash_kind, hash_heads, crc_heads, joined_kind, HasJoined, HasSummed, streams_kind, streams_heads, HasStreams}
+use Rattle.ff_mux.specs.laws.writers.Writers.{flac_head, hash_kind, hash_heads, crc_heads, joined_kind, HasJoined, HasSummed, streams_kind, streams_heads, HasStreams}
 use Rattle.ff_au.specs.Header as au
 use Rattle.ff_au.specs.Layout.{au_format, au_inside, au_layout, au_writes}
 use Rattle.ff_wav.specs.Header.{written_head, written_mode, body_size}
 use Rattle.ff_wav.specs.Layout.{wav_format, wav_inside, wav_layout, wav_writes}
 use Rattle.ff_y4m.specs.Layout.{y4m_format, y4m_layout, y4m_writes}
-use Rattle.ff_y4m.specs.Writers.{y4m_head}
+use Rattle.ff_y4m.specs.laws.Writers.{y4m_head}
 
 abbrev pub format_of : FileFormat → OutputFormat
 format_of format.Wav = wav_format

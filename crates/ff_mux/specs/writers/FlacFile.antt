@@ -6,7 +6,7 @@ use Rattle.std.specs.Prelude.{IfSome, unwrap_or}
 use Rattle.ff_format.specs.Formats.{taken_by, takes_coding, takes_sound}
 use Rattle.ff_format.specs.Layouts.{Layout, bytes_in, finished}
 use Rattle.ff_format.specs.Outputs.{OutputFormat, HasBits, WritesTaken, of_one}
-use Rattle.ff_format.specs.Patches.{StandsIn}
+use Rattle.ff_format.specs.laws.Patches.{StandsIn}
 use Rattle.ff_format.specs.declared.format.FileFormat.TheVariants as format
 use Rattle.ff_frame.specs.Codecs.{IsFlacCodec, IsFlacCoding, coding_of}
 use Rattle.ff_frame.specs.declared.coding.Coding.{Coding}

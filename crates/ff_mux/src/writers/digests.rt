@@ -2,7 +2,7 @@
 ghost use Rattle.std.specs.Prelude.{◌≡◌, ℕ, List, [], ◌∷◌, ◌++◌, ◌<◌, ◌≤◌, ◌^◌, ◌↔◌, length, IfOk, OnOk, OnErr, IsErr};
 ghost use Rattle.ff_frame.specs.declared.hash.HashKind.{HashKind as Kind};
 ghost use Rattle.ff_frame.specs.declared.packet.Pkt.{Pkt as Packet};
-ghost use Rattle.ff_mux.specs.Hashers.{AllTaken, AreOfKind};
+ghost use Rattle.ff_mux.specs.laws.Hashers.{AllTaken, AreOfKind};
 ghost use Rattle.ff_mux.specs.writers.DigestFiles.{joined_layout, streams_layout, sum_layout};
 
 use crate::adler::{Sums, sums_after};
@@ -20,7 +20,7 @@ pub struct JoinedWriter {
 }
 
 impl JoinedWriter {
-    ghost use Rattle.ff_mux.specs.writers.Writers.{joined_kind, HasJoined};
+    ghost use Rattle.ff_mux.specs.laws.writers.Writers.{joined_kind, HasJoined};
 
     /// With this digest, of no packets.
     pub fn new(alloc: Global, kind: HashKind) -> JoinedWriter
@@ -35,7 +35,7 @@ impl JoinedWriter {
 }
 
 impl Writer for JoinedWriter {
-    ghost use Rattle.ff_mux.specs.writers.Writers.{joined_kind, HasJoined};
+    ghost use Rattle.ff_mux.specs.laws.writers.Writers.{joined_kind, HasJoined};
 
     ghost layout = { λ w. joined_layout (joined_kind w) };
 
@@ -75,7 +75,7 @@ pub struct SumWriter {
 }
 
 impl SumWriter {
-    ghost use Rattle.ff_mux.specs.writers.Writers.{HasSummed};
+    ghost use Rattle.ff_mux.specs.laws.writers.Writers.{HasSummed};
 
     /// Of no packets.
     pub fn new(alloc: Global) -> SumWriter
@@ -89,7 +89,7 @@ impl SumWriter {
 }
 
 impl Writer for SumWriter {
-    ghost use Rattle.ff_mux.specs.writers.Writers.{HasSummed};
+    ghost use Rattle.ff_mux.specs.laws.writers.Writers.{HasSummed};
 
     ghost layout = { λ w. sum_layout };
 
@@ -160,7 +160,7 @@ pub struct StreamsWriter {
 }
 
 impl StreamsWriter {
-    ghost use Rattle.ff_mux.specs.writers.Writers.{streams_kind, streams_heads, HasStreams};
+    ghost use Rattle.ff_mux.specs.laws.writers.Writers.{streams_kind, streams_heads, HasStreams};
 
     /// For the packets of these streams, fewer than 2^32, with this digest; of no packets.
     pub fn new(
@@ -184,7 +184,7 @@ impl StreamsWriter {
 }
 
 impl Writer for StreamsWriter {
-    ghost use Rattle.ff_mux.specs.writers.Writers.{streams_kind, streams_heads, HasStreams};
+    ghost use Rattle.ff_mux.specs.laws.writers.Writers.{streams_kind, streams_heads, HasStreams};
 
     ghost layout = { λ w. streams_layout (streams_kind w) (streams_heads w) };
 

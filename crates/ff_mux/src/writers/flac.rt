@@ -21,7 +21,7 @@ pub struct FlacWriter {
 }
 
 impl FlacWriter {
-    ghost use Rattle.ff_mux.specs.writers.Writers.{flac_head};
+    ghost use Rattle.ff_mux.specs.laws.writers.Writers.{flac_head};
 
     /// For the packets of a stream of FLAC, of 1 to 8 channels, 4 to 24 bits and a rate of at most 1,048,575.
     pub fn new(alloc: Global, head: StreamHead) -> FlacWriter
@@ -33,7 +33,7 @@ impl FlacWriter {
 }
 
 impl Writer for FlacWriter {
-    ghost use Rattle.ff_mux.specs.writers.Writers.{flac_head};
+    ghost use Rattle.ff_mux.specs.laws.writers.Writers.{flac_head};
 
     ghost layout = { λ w. flac_layout (flac_head w) };
 

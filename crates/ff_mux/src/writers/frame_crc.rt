@@ -17,7 +17,7 @@ pub struct CrcWriter {
 }
 
 impl CrcWriter {
-    ghost use Rattle.ff_mux.specs.writers.Writers.{crc_heads};
+    ghost use Rattle.ff_mux.specs.laws.writers.Writers.{crc_heads};
 
     /// For the packets of these streams, fewer than 2^32.
     pub fn new(alloc: Global, heads: Vec<StreamHead>) -> CrcWriter
@@ -29,7 +29,7 @@ impl CrcWriter {
 }
 
 impl Writer for CrcWriter {
-    ghost use Rattle.ff_mux.specs.writers.Writers.{crc_heads};
+    ghost use Rattle.ff_mux.specs.laws.writers.Writers.{crc_heads};
 
     ghost layout = { λ w. crc_layout (crc_heads w) };
 

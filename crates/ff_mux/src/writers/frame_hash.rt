@@ -14,7 +14,7 @@ pub struct HashWriter {
 }
 
 impl HashWriter {
-    ghost use Rattle.ff_mux.specs.writers.Writers.{hash_kind, hash_heads};
+    ghost use Rattle.ff_mux.specs.laws.writers.Writers.{hash_kind, hash_heads};
 
     /// For the packets of these streams, fewer than 2^32, with this digest.
     pub fn new(alloc: Global, kind: HashKind, heads: Vec<StreamHead>) -> HashWriter
@@ -29,7 +29,7 @@ impl HashWriter {
 }
 
 impl Writer for HashWriter {
-    ghost use Rattle.ff_mux.specs.writers.Writers.{hash_kind, hash_heads};
+    ghost use Rattle.ff_mux.specs.laws.writers.Writers.{hash_kind, hash_heads};
 
     ghost layout = { λ w. hash_layout (hash_kind w) (hash_heads w) };
 

@@ -2,7 +2,7 @@
 ghost use Rattle.ff_mux.specs.writers.CrcFile.{CrcsAreTexts};
 ghost use Rattle.ff_mux.specs.writers.DigestFiles.{DigestsAreTexts};
 ghost use Rattle.ff_mux.specs.writers.FlacFile.{FlacsAreStreams};
-ghost use Rattle.ff_mux.specs.writers.FlacWritten.{FieldsAreRead, FilesAreRead, HeadersAreRead};
+ghost use Rattle.ff_mux.specs.laws.writers.FlacWritten.{FieldsAreRead, FilesAreRead, HeadersAreRead};
 ghost use Rattle.ff_mux.specs.writers.HashFile.{HashesAreTexts};
 ghost use Rattle.ff_mux.specs.writers.NullFile.{NullWritesNothing};
 

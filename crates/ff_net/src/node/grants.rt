@@ -1,10 +1,10 @@
 //! The grants by which a source node reads.
 ghost use Rattle.std.specs.Prelude.{◌≡◌, ◌<◌, ◌≤◌, ◌+◌, ◌⊎◌, ℕ, ◌++◌, ◌∷◌, [], length, true, false, None, Some, is_some};
 ghost use Rattle.ff_net.specs.declared.wires.Wires.{Wires};
-ghost use Rattle.ff_net.specs.Logs.{WasChoked, PassStep, tickets_in};
-ghost use Rattle.ff_net.specs.Ports.{AreDone, NoneHeld};
-ghost use Rattle.ff_net.specs.Nodes.{IsOf, IsSound};
-ghost use Rattle.ff_net.specs.Steps.{Stepped, Grants, IsUngranted};
+ghost use Rattle.ff_net.specs.laws.Logs.{WasChoked, PassStep, tickets_in};
+ghost use Rattle.ff_net.specs.laws.Ports.{AreDone, NoneHeld};
+ghost use Rattle.ff_net.specs.laws.Nodes.{IsOf, IsSound};
+ghost use Rattle.ff_net.specs.laws.Steps.{Stepped, Grants, IsUngranted};
 ghost use Rattle.ff_sched.specs.Histories.{logged};
 ghost use Rattle.ff_frame.specs.declared.event.Event.{Event};
 

@@ -1,10 +1,10 @@
 //! The steps of a node at all its ports, one after another.
 ghost use Rattle.std.specs.Prelude.{◌≡◌, ◌<◌, ◌⊎◌, ℕ, length, true, false, None, IsTrue, is_some};
 ghost use Rattle.ff_net.specs.declared.wires.Wires.{Wires};
-ghost use Rattle.ff_net.specs.Ports.{in_at, out_at, AreDone, SomeHeld, NoneHeld};
-ghost use Rattle.ff_net.specs.Nodes.{IsShaped, IsSound, IsSame};
-ghost use Rattle.ff_net.specs.Steps.{Stepped, Acts, Readies};
-ghost use Rattle.ff_net.specs.Worlds.{Wire, Stand, IsFull, IsEmpty};
+ghost use Rattle.ff_net.specs.laws.Ports.{in_at, out_at, AreDone, SomeHeld, NoneHeld};
+ghost use Rattle.ff_net.specs.laws.Nodes.{IsShaped, IsSound, IsSame};
+ghost use Rattle.ff_net.specs.laws.Steps.{Stepped, Acts, Readies};
+ghost use Rattle.ff_net.specs.laws.Worlds.{Wire, Stand, IsFull, IsEmpty};
 
 use crate::machine::Machine;
 use crate::node::Node;

@@ -2,13 +2,13 @@
 ghost use Rattle.std.specs.Prelude.{◌≡◌, ◌<◌, ◌⊎◌, ℕ, length, true, false, Some, IsNone};
 ghost use Rattle.ff_net.specs.declared.wires.Wires.{Wires};
 ghost use Rattle.ff_frame.specs.declared.event.Event.{Event};
-ghost use Rattle.ff_net.specs.Laws.{FaultStep, IsReading};
-ghost use Rattle.ff_net.specs.Logs.{PassStep, tickets_in};
+ghost use Rattle.ff_net.specs.laws.Laws.{FaultStep, IsReading};
+ghost use Rattle.ff_net.specs.laws.Logs.{PassStep, tickets_in};
 ghost use Rattle.ff_net.specs.Pasts.{Past, was_told};
-ghost use Rattle.ff_net.specs.Views.{IsSameShape};
-ghost use Rattle.ff_net.specs.Nodes.{IsOf, IsSound};
-ghost use Rattle.ff_net.specs.Ports.{AreFinished};
-ghost use Rattle.ff_net.specs.Steps.{Stepped, Tells};
+ghost use Rattle.ff_net.specs.laws.Views.{IsSameShape};
+ghost use Rattle.ff_net.specs.laws.Nodes.{IsOf, IsSound};
+ghost use Rattle.ff_net.specs.laws.Ports.{AreFinished};
+ghost use Rattle.ff_net.specs.laws.Steps.{Stepped, Tells};
 ghost use Rattle.ff_sched.specs.Events.{IsInRange, IsTold};
 
 use crate::machine::Machine;

@@ -3,13 +3,13 @@ ghost use Rattle.std.specs.Prelude.{◌≡◌, ◌<◌, ◌≤◌, ◌+◌, ◌�
 ghost use Rattle.ff_stream.specs.Ports.{IsClosed};
 ghost use Rattle.ff_net.specs.declared.wires.Wires.{Wires};
 ghost use Rattle.ff_net.specs.Pasts.{Past};
-ghost use Rattle.ff_net.specs.Ports.{in_at, out_at, AreFinished, SomeHeld, NoneHeld};
-ghost use Rattle.ff_net.specs.Nodes.{IsOf, IsShaped, IsSame, IsSound, IsDone, NodeStands, HasFinished, IsOver};
-ghost use Rattle.ff_net.specs.Nodes.{machine_of, inputs_of, outputs_of, in_wire_of, out_wire_of};
-ghost use Rattle.ff_net.specs.Logs.{tickets_in};
-ghost use Rattle.ff_net.specs.Steps.{Stepped, Acts, Fills, Prepares, Turns};
-ghost use Rattle.ff_net.specs.Turns.{Waits, HasDue, Answers};
-ghost use Rattle.ff_net.specs.Worlds.{Wire, Stand};
+ghost use Rattle.ff_net.specs.laws.Ports.{in_at, out_at, AreFinished, SomeHeld, NoneHeld};
+ghost use Rattle.ff_net.specs.laws.Nodes.{IsOf, IsShaped, IsSame, IsSound, IsDone, NodeStands, HasFinished, IsOver};
+ghost use Rattle.ff_net.specs.laws.Nodes.{machine_of, inputs_of, outputs_of, in_wire_of, out_wire_of};
+ghost use Rattle.ff_net.specs.laws.Logs.{tickets_in};
+ghost use Rattle.ff_net.specs.laws.Steps.{Stepped, Acts, Fills, Prepares, Turns};
+ghost use Rattle.ff_net.specs.laws.Turns.{Waits, HasDue, Answers};
+ghost use Rattle.ff_net.specs.laws.Worlds.{Wire, Stand};
 
 use crate::machine::Machine;
 use crate::node::{Node, Turn, turn_of};

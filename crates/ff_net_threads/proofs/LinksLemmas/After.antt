@@ -1,16 +1,16 @@
 -- What holds of the nodes after a run, by what held before.
 use Rattle.std.proofs.Common.{◌≡◌, ℕ, zero, suc, ◌<◌, inl, inr, List, [], ◌∷◌, length, slice_index_or, refl, ap, sym, ◌∙◌, subst, arith, Option, None, Some}
 use Rattle.ff_stream.specs.declared.item.Lane.{Lane}
-use Rattle.ff_link.specs.Views.{Link}
+use Rattle.ff_link.specs.laws.Views.{Link}
 use Rattle.ff_net.specs.Pasts.{Task, IsIn}
-use Rattle.ff_net.specs.Views.{View}
+use Rattle.ff_net.specs.laws.Views.{View}
 use Rattle.ff_net_threads.specs.declared.links.ends.InEnd.{InEnd}
 use Rattle.ff_net_threads.specs.declared.links.ends.OutEnd.{OutEnd}
 use Rattle.ff_net_threads.specs.declared.links.linked.Linked.{Linked}
-use Rattle.ff_net_threads.specs.links.Ends.{in_link, out_link, in_end_at}
-use Rattle.ff_net_threads.specs.links.Nodes.{in_ends_links, Behind, Follows, ins_of, outs_of}
-use Rattle.ff_net_threads.specs.links.Runs.{AllRan}
-use Rattle.ff_net_threads.specs.links.Settling.{AllBehind, AllEnded, AreLinked, AreJoined, AreMeeting, IsInOf, IsOutOf}
+use Rattle.ff_net_threads.specs.laws.links.Ends.{in_link, out_link, in_end_at}
+use Rattle.ff_net_threads.specs.laws.links.Nodes.{in_ends_links, Behind, Follows, ins_of, outs_of}
+use Rattle.ff_net_threads.specs.laws.links.Runs.{AllRan}
+use Rattle.ff_net_threads.specs.laws.links.Settling.{AllBehind, AllEnded, AreLinked, AreJoined, AreMeeting, IsInOf, IsOutOf}
 use Rattle.ff_net_threads.proofs.LinksLemmas.Linking.{in_nth, out_nth, out_link_nth, count_map}
 
 link_nth : (ends : List InEnd) (p : ℕ) → slice_index_or (in_ends_links ends) p None ≡ in_link (in_end_at ends p)

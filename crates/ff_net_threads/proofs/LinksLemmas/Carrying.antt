@@ -5,22 +5,22 @@ use Rattle.ff_stream.specs.declared.item.Lane.{Lane}
 use Rattle.ff_stream.specs.Stream.{still_open, LiesBelow}
 use Rattle.ff_stream.specs.Items.{Closes, with_item, Leads}
 use Rattle.ff_stream.specs.Lanes.{IsValid}
-use Rattle.ff_stream.specs.Order.{with_item_above, with_item_open, with_item_closed}
+use Rattle.ff_stream.specs.laws.Order.{with_item_above, with_item_open, with_item_closed}
 use Rattle.ff_stream.specs.Ports.{nothing, IsClosed}
-use Rattle.ff_link.specs.Sendings.{stream_from, stream_of, IsSending, Carries}
-use Rattle.ff_link.specs.Views.{Link, Sending, Receiving}
+use Rattle.ff_link.specs.laws.Sendings.{stream_from, stream_of, IsSending, Carries}
+use Rattle.ff_link.specs.laws.Views.{Link, Sending, Receiving}
 use Rattle.ff_link.proofs.Sendings.{stream_from-append, sending_push}
 use Rattle.ff_net.specs.declared.wires.Wires.{Wires}
 use Rattle.ff_net.specs.Ways.{Flow, lane_at, IsValidOn}
 use Rattle.ff_net.specs.Pasts.{Past, start, no_events}
-use Rattle.ff_net.specs.Worlds.{Wire, Stand, lanes_of, put_on, take_on, finish_on}
-use Rattle.ff_net.specs.Nodes.{HeldIs}
+use Rattle.ff_net.specs.laws.Worlds.{Wire, Stand, lanes_of, put_on, take_on, finish_on}
+use Rattle.ff_net.specs.laws.Nodes.{HeldIs}
 use Rattle.ff_net.proofs.Flows.{valid_on_below}
 use Rattle.ff_net.proofs.Moments.{with_wire_same, course_self}
 use Rattle.ff_net.proofs.Changes.{true_not_false, course_put, course_take, course_finish}
 use Rattle.ff_net_threads.specs.declared.links.ends.InEnd.{InEnd}
 use Rattle.ff_net_threads.specs.declared.links.ends.OutEnd.{OutEnd}
-use Rattle.ff_net_threads.specs.links.Ends.{taken_in, InEndStands, OutEndStands, OnWires, claims_of, out_link}
+use Rattle.ff_net_threads.specs.laws.links.Ends.{taken_in, InEndStands, OutEndStands, OnWires, claims_of, out_link}
 
 -- before the last item the stream was open
 leads_open : (s : Flow) (xs : List Item) (x : Item) (t : Flow) → Leads s (xs ++ x ∷ []) t → (stream_from s xs).mark ≡ still_open

@@ -5,20 +5,20 @@ use Rattle.ff_stream.specs.declared.item.Lane.{Lane}
 use Rattle.ff_stream.specs.Stream.{LiesBelow, still_open}
 use Rattle.ff_stream.specs.Items.{with_item}
 use Rattle.ff_stream.specs.declared.item.Item.{Item}
-use Rattle.ff_link.specs.Sendings.{stream_of, IsSending}
+use Rattle.ff_link.specs.laws.Sendings.{stream_of, IsSending}
 use Rattle.ff_link.proofs.Sendings.{nothing_sent}
-use Rattle.ff_link.specs.Views.{Link, Sending, Receiving}
+use Rattle.ff_link.specs.laws.Views.{Link, Sending, Receiving}
 use Rattle.ff_net.specs.declared.node.Node.{Node}
 use Rattle.ff_net.specs.declared.wires.Wires.{Wires}
 use Rattle.ff_net.specs.Ways.{Flow, lane_at, IsValidOn}
-use Rattle.ff_net.specs.Laws.{FaultStep}
-use Rattle.ff_net.specs.Logs.{PassStep}
+use Rattle.ff_net.specs.laws.Laws.{FaultStep}
+use Rattle.ff_net.specs.laws.Logs.{PassStep}
 use Rattle.ff_net.specs.Pasts.{Past, Task, IsIn, start}
-use Rattle.ff_net.specs.Worlds.{Wire, fresh, lanes_of}
-use Rattle.ff_net.specs.Nodes.{HeldIs, NodeStands, IsOf, IsShaped, HaveLanes, AreApart, in_wires_of, out_wires_of}
-use Rattle.ff_sched.specs.Passing.{Scheduler}
-use Rattle.ff_net.specs.Steps.{Stepped}
-use Rattle.ff_net.specs.Views.{View}
+use Rattle.ff_net.specs.laws.Worlds.{Wire, fresh, lanes_of}
+use Rattle.ff_net.specs.laws.Nodes.{HeldIs, NodeStands, IsOf, IsShaped, HaveLanes, AreApart, in_wires_of, out_wires_of}
+use Rattle.ff_sched.specs.laws.Passing.{Scheduler}
+use Rattle.ff_net.specs.laws.Steps.{Stepped}
+use Rattle.ff_net.specs.laws.Views.{View}
 use Rattle.ff_net.proofs.Flows.{same_or_not, there_lane}
 use Rattle.ff_net.proofs.Moments.{fault_self, fault_then, pass_self, pass_then}
 use Rattle.ff_net.proofs.NetSteps.{other_stands}
@@ -27,8 +27,8 @@ use Rattle.ff_net_threads.proofs.LinksLemmas.Carrying.{claimed}
 use Rattle.ff_net_threads.specs.declared.links.ends.InEnd.{InEnd}
 use Rattle.ff_net_threads.specs.declared.links.ends.OutEnd.{OutEnd}
 use Rattle.ff_net_threads.specs.declared.links.linked.Linked.{Linked}
-use Rattle.ff_net_threads.specs.links.Ends.{taken_of, InEndStands, OutEndStands, Draws, Pours, CanPour, claims_of, in_link, out_link, in_end_at, new_in, new_out}
-use Rattle.ff_net_threads.specs.links.Nodes.{in_ends_wires, out_ends_wires, in_ends_links, out_ends_links, IsWired, IsLawful, Behind, Follows, IsBeginning}
+use Rattle.ff_net_threads.specs.laws.links.Ends.{taken_of, InEndStands, OutEndStands, Draws, Pours, CanPour, claims_of, in_link, out_link, in_end_at, new_in, new_out}
+use Rattle.ff_net_threads.specs.laws.links.Nodes.{in_ends_wires, out_ends_wires, in_ends_links, out_ends_links, IsWired, IsLawful, Behind, Follows, IsBeginning}
 
 pub map_set_same : {A B : Type 0} (f : A → B) (xs : List A) (p : ℕ) (x d : A) → p < length xs → f x ≡ f (slice_index_or xs p d) → map f (slice_set xs p x) ≡ map f xs
 map_set_same f [] p x d lt e = refl

@@ -5,28 +5,28 @@ use Rattle.ff_stream.specs.declared.item.Item.{Item}
 use Rattle.ff_stream.specs.declared.item.Lane.{Lane}
 use Rattle.ff_stream.specs.Stream.{LiesBelow}
 use Rattle.ff_stream.specs.Items.{with_item, Leads}
-use Rattle.ff_stream.specs.Order.{below_trans, nothing_below, leads_below}
+use Rattle.ff_stream.specs.laws.Order.{below_trans, nothing_below, leads_below}
 use Rattle.ff_stream.specs.Ports.{nothing, stream_at}
-use Rattle.ff_link.specs.Sendings.{stream_from, stream_of, IsSending}
+use Rattle.ff_link.specs.laws.Sendings.{stream_from, stream_of, IsSending}
 use Rattle.ff_net.specs.declared.node.Node.{Node}
 use Rattle.ff_net.specs.declared.ports.InPort.{InPort}
 use Rattle.ff_net.specs.declared.ports.OutPort.{OutPort}
 use Rattle.ff_net.specs.Ways.{Flow, lane_at, IsValidOn}
 use Rattle.ff_net.specs.Pasts.{Past, Task, IsIn}
-use Rattle.ff_net.specs.Ports.{in_at, out_at}
-use Rattle.ff_net.specs.Worlds.{Wire}
-use Rattle.ff_net.specs.Nodes.{NodeStands, HaveLanes, IsSound, MayClose, in_wires_of, out_wires_of}
-use Rattle.ff_net.specs.Serial.{Moment}
-use Rattle.ff_net.specs.Views.{View}
+use Rattle.ff_net.specs.laws.Ports.{in_at, out_at}
+use Rattle.ff_net.specs.laws.Worlds.{Wire}
+use Rattle.ff_net.specs.laws.Nodes.{NodeStands, HaveLanes, IsSound, MayClose, in_wires_of, out_wires_of}
+use Rattle.ff_net.specs.laws.Serial.{Moment}
+use Rattle.ff_net.specs.laws.Views.{View}
 use Rattle.ff_net.proofs.Flows.{same_or_not}
 use Rattle.ff_net.proofs.PortSteps.{in_keep, out_keep, in_wire_in, out_wire_in}
 use Rattle.ff_net.proofs.Queues.{nothing_valid_on}
 use Rattle.ff_net_threads.specs.declared.links.ends.InEnd.{InEnd}
 use Rattle.ff_net_threads.specs.declared.links.ends.OutEnd.{OutEnd}
 use Rattle.ff_net_threads.specs.declared.links.linked.Linked.{Linked}
-use Rattle.ff_net_threads.specs.links.Ends.{taken_of, in_end_at}
-use Rattle.ff_net_threads.specs.links.Nodes.{Behind, HasEnded, ins_of, in_ends_wires}
-use Rattle.ff_net_threads.specs.links.Settling.{nodes_of, ends_of, IsFed, AllBehind, IsOutOf, IsInOf, AreMeeting, WasSent, AreFed}
+use Rattle.ff_net_threads.specs.laws.links.Ends.{taken_of, in_end_at}
+use Rattle.ff_net_threads.specs.laws.links.Nodes.{Behind, HasEnded, ins_of, in_ends_wires}
+use Rattle.ff_net_threads.specs.laws.links.Settling.{nodes_of, ends_of, IsFed, AllBehind, IsOutOf, IsInOf, AreMeeting, WasSent, AreFed}
 use Rattle.ff_net_threads.proofs.LinksLemmas.Linking.{out_member}
 
 leads_front : (s : Flow) (xs ys : List Item) (t : Flow) → Leads s (xs ++ ys) t → Leads (stream_from s xs) ys t

@@ -1,18 +1,18 @@
 -- Whether each link that leads to a node has its sender in the table.
 use Rattle.std.proofs.Common.{◌≡◌, ℕ, zero, suc, ◌<◌, ◌≤◌, ◌⊎◌, inl, inr, List, [], ◌∷◌, ◌++◌, length, slice_index_or, slice_set, refl, ap, sym, ◌∙◌, subst, arith, Option, None, Some, get_or-set_same, get_or-set_other}
 use Rattle.ff_stream.specs.declared.item.Lane.{Lane}
-use Rattle.ff_link.specs.Views.{Sending}
+use Rattle.ff_link.specs.laws.Views.{Sending}
 use Rattle.ff_net.specs.Nets.{IsUpward}
 use Rattle.ff_net.specs.Pasts.{Task, IsIn}
-use Rattle.ff_net.specs.Nodes.{AreApart, in_wires_of, out_wires_of}
-use Rattle.ff_net.specs.Serial.{parts_of}
-use Rattle.ff_net.specs.Worlds.{lanes_of}
-use Rattle.ff_net.specs.Views.{View}
+use Rattle.ff_net.specs.laws.Nodes.{AreApart, in_wires_of, out_wires_of}
+use Rattle.ff_net.specs.laws.Serial.{parts_of}
+use Rattle.ff_net.specs.laws.Worlds.{lanes_of}
+use Rattle.ff_net.specs.laws.Views.{View}
 use Rattle.ff_net.proofs.Flows.{same_or_not}
 use Rattle.ff_net_threads.specs.declared.links.ends.OutEnd.{OutEnd}
 use Rattle.ff_net_threads.specs.declared.links.linked.Linked.{Linked}
-use Rattle.ff_net_threads.specs.links.Nodes.{in_ends_wires, out_ends_wires, ins_of, outs_of}
-use Rattle.ff_net_threads.specs.links.Settling.{HasSender, ComeAfter, AllBehind, AreMeeting, IsInOf, nodes_of}
+use Rattle.ff_net_threads.specs.laws.links.Nodes.{in_ends_wires, out_ends_wires, ins_of, outs_of}
+use Rattle.ff_net_threads.specs.laws.links.Settling.{HasSender, ComeAfter, AllBehind, AreMeeting, IsInOf, nodes_of}
 use Rattle.ff_net_threads.proofs.LinksLemmas.Linking.{wire_there}
 
 pub sender_there : (table : List (Option Sending)) (w : ℕ) → HasSender table w → w < length table

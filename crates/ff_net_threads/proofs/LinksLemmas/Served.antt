@@ -4,14 +4,14 @@ use Rattle.std.proofs.lemmas.List.{get_or-set_same, get_or-set_other}
 use Rattle.std.proofs.Math.ListN.{length-set}
 use native.Mathlib.Decide.{ℕ_discrete}
 use mathlib.Core.Logic.{dite}
-use Rattle.ff_net.specs.Views.{View}
+use Rattle.ff_net.specs.laws.Views.{View}
 use Rattle.ff_net_threads.specs.declared.links.linked.Linked.{Linked}
 use Rattle.ff_net_threads.specs.declared.links.worker.Worker.{Worker}
-use Rattle.ff_net.specs.Nodes.{IsOf}
-use Rattle.ff_sched.specs.Passing.{Scheduler}
-use Rattle.ff_net_threads.specs.links.Nodes.{node_of}
-use Rattle.ff_net_threads.specs.links.Runs.{AllOf}
-use Rattle.ff_net_threads.specs.links.Workers.{Serves, AllServe}
+use Rattle.ff_net.specs.laws.Nodes.{IsOf}
+use Rattle.ff_sched.specs.laws.Passing.{Scheduler}
+use Rattle.ff_net_threads.specs.laws.links.Nodes.{node_of}
+use Rattle.ff_net_threads.specs.laws.links.Runs.{AllOf}
+use Rattle.ff_net_threads.specs.laws.links.Workers.{Serves, AllServe}
 
 pub each_snoc : {A : Type 0} (P : ℕ → A → Type 0) (xs : List A) (y d : A) → ((k : ℕ) → k < length xs → P k (get_or xs k d)) → P (length xs) y → (k : ℕ) → k < length xs + 1 → P k (get_or (xs ++ y ∷ []) k d)
 each_snoc P [] y d h here zero lt = here

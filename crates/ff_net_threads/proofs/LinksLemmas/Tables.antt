@@ -1,17 +1,17 @@
 -- Senders in a table by the numbers of their links.
 use Rattle.std.proofs.Common.{◌≡◌, ℕ, zero, suc, ◌<◌, inl, inr, List, [], ◌∷◌, length, map, slice_index_or, slice_set, ◌++◌, append_assoc, append-nil, refl, ap, sym, ◌∙◌, subst, arith, Option, None, Some, get_or-set_same, get_or-set_other}
 use Rattle.std.proofs.lemmas.List.{length-set}
-use Rattle.ff_link.specs.Views.{Link, Sending, Receiving, Ended}
+use Rattle.ff_link.specs.laws.Views.{Link, Sending, Receiving, Ended}
 use Rattle.ff_link.specs.declared.answers.Settled.{Settled}
-use Rattle.ff_net.specs.Nodes.{pass_of}
-use Rattle.ff_sched.specs.Passing.{Passing}
+use Rattle.ff_net.specs.laws.Nodes.{pass_of}
+use Rattle.ff_sched.specs.laws.Passing.{Passing}
 use Rattle.ff_net.proofs.Flows.{same_or_not}
 use Rattle.ff_net_threads.specs.declared.links.ends.InEnd.{InEnd}
 use Rattle.ff_net_threads.specs.declared.links.ends.OutEnd.{OutEnd}
 use Rattle.ff_net_threads.specs.declared.links.linked.Linked.{Linked}
-use Rattle.ff_net_threads.specs.links.Ends.{taken_in, taken_of, link_in, in_link}
-use Rattle.ff_net_threads.specs.links.Nodes.{node_of}
-use Rattle.ff_net_threads.specs.links.Settling.{WasSentIn, IsSenderIn, IsTable, IsFed, IsSettled, passes_in}
+use Rattle.ff_net_threads.specs.laws.links.Ends.{taken_in, taken_of, link_in, in_link}
+use Rattle.ff_net_threads.specs.laws.links.Nodes.{node_of}
+use Rattle.ff_net_threads.specs.laws.links.Settling.{WasSentIn, IsSenderIn, IsTable, IsFed, IsSettled, passes_in}
 
 pub table_set : (all : List (List OutEnd)) (links : ℕ → Link) (table : List (Option Sending)) (w : ℕ) (o : Option Sending) → ((s : Sending) → o ≡ Some s → IsSenderIn all w s × (s.link ≡ links w)) → IsTable all links table → IsTable all links (slice_set table w o)
 table_set all links table w o h t = record {

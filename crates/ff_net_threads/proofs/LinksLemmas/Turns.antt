@@ -2,36 +2,36 @@
 use Rattle.std.proofs.Common.{◌≡◌, ◌≢◌, ℕ, zero, suc, ◌<◌, ◌⊎◌, inl, inr, Bool, true, false, ◌||◌, List, [], ◌∷◌, ◌++◌, ◌^◌, length, slice_index_or, slice_set, ◌≤◌, refl, ap, sym, ◌∙◌, subst, arith, Option, None, Some, is_some, get_or-set_other}
 use Rattle.ff_stream.specs.declared.item.Item.{Item}
 use Rattle.ff_stream.specs.Items.{Closes}
-use Rattle.ff_stream.specs.Order.{closed_below}
+use Rattle.ff_stream.specs.laws.Order.{closed_below}
 use Rattle.ff_stream.specs.Ports.{IsClosed}
-use Rattle.ff_link.specs.Sendings.{stream_of}
+use Rattle.ff_link.specs.laws.Sendings.{stream_of}
 use Rattle.ff_net.specs.Ways.{Flow}
 use Rattle.ff_net.proofs.PortSteps.{out_wire_at}
-use Rattle.ff_link.specs.Views.{Sending, Receiving}
+use Rattle.ff_link.specs.laws.Views.{Sending, Receiving}
 use Rattle.ff_net.specs.declared.node.Node.{Node}
 use Rattle.ff_net.specs.declared.ports.InPort.{InPort}
 use Rattle.ff_net.specs.declared.ports.OutPort.{OutPort}
 use Rattle.ff_net.specs.declared.wires.Wires.{Wires}
 use Rattle.ff_net.specs.Pasts.{Past, Task}
-use Rattle.ff_net.specs.Ports.{in_at, in_wires, out_at}
-use Rattle.ff_net.specs.Worlds.{Wire, Stand, IsEmpty, IsFull, lanes_of}
+use Rattle.ff_net.specs.laws.Ports.{in_at, in_wires, out_at}
+use Rattle.ff_net.specs.laws.Worlds.{Wire, Stand, IsEmpty, IsFull, lanes_of}
 use Rattle.ff_net.specs.declared.wires.Queue.{Queue}
-use Rattle.ff_net.specs.Logs.{WasChoked}
-use Rattle.ff_net.specs.Nodes.{IsDone, pass_of}
-use Rattle.ff_sched.specs.Passing.{Passing}
-use Rattle.ff_net.specs.Steps.{Moves, Stepped, HasMoved as HasMovedThere}
-use Rattle.ff_net.specs.Turns.{IsIdle, IsRefused, full, empty, choked}
-use Rattle.ff_net.specs.Views.{View}
+use Rattle.ff_net.specs.laws.Logs.{WasChoked}
+use Rattle.ff_net.specs.laws.Nodes.{IsDone, pass_of}
+use Rattle.ff_sched.specs.laws.Passing.{Passing}
+use Rattle.ff_net.specs.laws.Steps.{Moves, Stepped, HasMoved as HasMovedThere}
+use Rattle.ff_net.specs.laws.Turns.{IsIdle, IsRefused, full, empty, choked}
+use Rattle.ff_net.specs.laws.Views.{View}
 use Rattle.ff_net.proofs.Flows.{same_or_not}
 use Rattle.ff_net.proofs.Moments.{stepped_as, stepped_then, then_moves}
 use Rattle.ff_net.proofs.Changes.{true_not_false}
 use Rattle.ff_net_threads.specs.declared.links.ends.InEnd.{InEnd}
 use Rattle.ff_net_threads.specs.declared.links.ends.OutEnd.{OutEnd}
 use Rattle.ff_net_threads.specs.declared.links.linked.Linked.{Linked}
-use Rattle.ff_net_threads.specs.links.Ends.{taken_in, taken_of, in_end_at}
-use Rattle.ff_net_threads.specs.links.Nodes.{Behind}
+use Rattle.ff_net_threads.specs.laws.links.Ends.{taken_in, taken_of, in_end_at}
+use Rattle.ff_net_threads.specs.laws.links.Nodes.{Behind}
 use Rattle.ff_net_threads.proofs.LinksLemmas.Linking.{in_nth, out_nth, count_map}
-use Rattle.ff_net_threads.specs.links.Turns.{TakesOneAtMost, InMoves, took, ended as in_ended, laid, InRests, FoundEmpty, CannotTake, link_shut, found_empty, Shuts, SendsOneAtMost, OutMoves, sent as was_sent, ended as out_ended, lifted, OutRests, FoundFull, CannotSend, nothing, found_full, spent, HasDrawnNone, due, cannot, HasMoved, at_input, at_output, at_node, at_end, at_pass}
+use Rattle.ff_net_threads.specs.laws.links.Turns.{TakesOneAtMost, InMoves, took, ended as in_ended, laid, InRests, FoundEmpty, CannotTake, link_shut, found_empty, Shuts, SendsOneAtMost, OutMoves, sent as was_sent, ended as out_ended, lifted, OutRests, FoundFull, CannotSend, nothing, found_full, spent, HasDrawnNone, due, cannot, HasMoved, at_input, at_output, at_node, at_end, at_pass}
 
 pub false_if_not : (b : Bool) → (b ≡ true → ⊥) → b ≡ false
 false_if_not true h = absurd (h refl)

@@ -9,12 +9,12 @@ use Rattle.ff_frame.specs.declared.event.Event.TheVariants.{Grant, Sent, Finishe
 use Rattle.ff_frame.specs.declared.event.Ticket.{Ticket}
 use Rattle.ff_sched.specs.declared.logged.Logged.{Logged}
 use Rattle.ff_sched.specs.Histories.{Rises, StandsIn, all_in, logged, numbered, weigh}
-use Rattle.ff_sched.specs.Laws.{IsEntryOf, IsPassOf, events_in}
-use Rattle.ff_sched.specs.Passing.{Passing}
+use Rattle.ff_sched.specs.laws.Laws.{IsEntryOf, IsPassOf, events_in}
+use Rattle.ff_sched.specs.laws.Passing.{Passing}
 use Rattle.ff_sched.proofs.Closing.{hits, there, times, times_other}
 use Rattle.ff_sched.proofs.Histories.{weigh-append}
 use Rattle.ff_sched.proofs.Unchoking.{some_is}
-use Rattle.ff_net.specs.Logs.{GrantsFirst, telling_of, ticket_of, tickets_in, told_in}
+use Rattle.ff_net.specs.laws.Logs.{GrantsFirst, telling_of, ticket_of, tickets_in, told_in}
 use Rattle.ff_net.proofs.Logs.{tickets_append}
 use Rattle.ff_net_threads.proofs.NetworkLemmas.Grants.{HasGrant, above_first, rises_tail, ticket_entry}
 

@@ -7,7 +7,7 @@ use Rattle.ff_stream.specs.declared.item.Lane.{Lane}
 use Rattle.ff_stream.specs.declared.edges.edge.Edge.{Edge}
 use Rattle.ff_stream.specs.edges.Ports.{leads_to, leaves, edge_to, edge_from, at_ports}
 use Rattle.ff_net.specs.Nets.{IsUpward}
-use Rattle.ff_net.specs.Nodes.{AreApart, HaveLanes}
+use Rattle.ff_net.specs.laws.Nodes.{AreApart, HaveLanes}
 use Rattle.ff_net.specs.Pasts.{Task, IsIn}
 use Rattle.ff_net.specs.Ways.{lane_at}
 use Rattle.ff_net_threads.specs.network.Fits.{Ports, edge_lanes, ins_at, outs_at, AreFit, part_at, parts_from, network}

@@ -5,7 +5,7 @@ use Rattle.ff_frame.specs.declared.event.Event.TheVariants.{Grant, Sent, Finishe
 use Rattle.ff_frame.specs.declared.event.Ticket.{Ticket}
 use Rattle.ff_sched.specs.declared.logged.Logged.{Logged}
 use Rattle.ff_sched.specs.Histories.{Rises, StandsIn, logged}
-use Rattle.ff_net.specs.Logs.{ticket_of, tickets_in}
+use Rattle.ff_net.specs.laws.Logs.{ticket_of, tickets_in}
 
 -- an entry of a log is the grant of a ticket
 abbrev pub HasGrant : List Logged → Ticket → Type 0

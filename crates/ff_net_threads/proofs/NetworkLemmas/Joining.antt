@@ -2,11 +2,11 @@
 use Rattle.std.proofs.Common.{◌≡◌, ℕ, suc, ◌<◌, inl, inr, List, [], ◌∷◌, length, slice_index_or, arith}
 use Rattle.ff_stream.specs.declared.item.Lane.{Lane}
 use Rattle.ff_net.specs.Pasts.{IsIn}
-use Rattle.ff_net.specs.Nodes.{in_wires_of, out_wires_of}
+use Rattle.ff_net.specs.laws.Nodes.{in_wires_of, out_wires_of}
 use Rattle.ff_net_threads.specs.declared.links.linked.Linked.{Linked}
-use Rattle.ff_net_threads.specs.links.Nodes.{lanes_on}
-use Rattle.ff_net_threads.specs.links.Settling.{AreJoined, IsInOf, IsOutOf}
-use Rattle.ff_net_threads.specs.network.Networks.{node_at}
+use Rattle.ff_net_threads.specs.laws.links.Nodes.{lanes_on}
+use Rattle.ff_net_threads.specs.laws.links.Settling.{AreJoined, IsInOf, IsOutOf}
+use Rattle.ff_net_threads.specs.laws.network.Networks.{node_at}
 
 module _ {M : Type 0} where
   out_index : (ls : List (Linked M)) (w : ℕ) → IsOutOf ls w → (k : ℕ) × (k < length ls) × ((d : Linked M) → IsIn w (out_wires_of (node_at ls k d)))

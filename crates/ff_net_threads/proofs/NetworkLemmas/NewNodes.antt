@@ -1,21 +1,21 @@
 -- Nodes on new links are lawful.
 use Rattle.std.proofs.Common.{◌≡◌, ℕ, ◌<◌, All, true, List, length, slice_index_or, Some, refl, ap, sym, ◌∙◌, subst}
 use Rattle.ff_stream.specs.declared.item.Lane.{Lane}
-use Rattle.ff_link.specs.Views.{new_sender, new_receiver}
+use Rattle.ff_link.specs.laws.Views.{new_sender, new_receiver}
 use Rattle.ff_net.specs.declared.node.Node.{Node}
 use Rattle.ff_net.specs.declared.wires.Wires.{Wires}
 use Rattle.ff_net.specs.Pasts.{Task, IsIn, start}
-use Rattle.ff_net.specs.Views.{View}
+use Rattle.ff_net.specs.laws.Views.{View}
 use Rattle.ff_net.specs.Ways.{lane_at}
-use Rattle.ff_net.specs.Worlds.{Stand, fresh, lanes_of, sizes_of}
-use Rattle.ff_net.specs.Nodes.{NodeStands, HaveLanes, machine_of, in_wires_of, out_wires_of}
+use Rattle.ff_net.specs.laws.Worlds.{Stand, fresh, lanes_of, sizes_of}
+use Rattle.ff_net.specs.laws.Nodes.{NodeStands, HaveLanes, machine_of, in_wires_of, out_wires_of}
 use Rattle.ff_net_threads.specs.declared.links.ends.InEnd.{InEnd}
 use Rattle.ff_net_threads.specs.declared.links.ends.OutEnd.{OutEnd}
 use Rattle.ff_net_threads.specs.declared.links.linked.Linked.{Linked}
-use Rattle.ff_net_threads.specs.links.Ends.{claims_of, in_end_at, in_link, out_link}
-use Rattle.ff_net_threads.specs.links.Nodes.{AreWired, IsWired, IsBeginning, Behind, node_of, lanes_on, wires_on, ins_of, outs_of}
-use Rattle.ff_net_threads.specs.network.Nodes.{FitsWires, IsNewIn, IsNewOut, AreNewIns, AreNewOuts, IsLinked}
-use Rattle.ff_net_threads.specs.network.Tables.{NewLinks}
+use Rattle.ff_net_threads.specs.laws.links.Ends.{claims_of, in_end_at, in_link, out_link}
+use Rattle.ff_net_threads.specs.laws.links.Nodes.{AreWired, IsWired, IsBeginning, Behind, node_of, lanes_on, wires_on, ins_of, outs_of}
+use Rattle.ff_net_threads.specs.laws.network.Nodes.{FitsWires, IsNewIn, IsNewOut, AreNewIns, AreNewOuts, IsLinked}
+use Rattle.ff_net_threads.specs.laws.network.Tables.{NewLinks}
 
 moved_lanes : (ws ws' : List ℕ) (ports ports' lanes lanes' : List Lane) → ws ≡ ws' → ports ≡ ports' → lanes ≡ lanes' → HaveLanes ws' ports' lanes' → HaveLanes ws ports lanes
 moved_lanes ws ws' ports ports' lanes lanes' e f g h =

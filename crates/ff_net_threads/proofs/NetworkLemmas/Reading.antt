@@ -6,11 +6,11 @@ use Rattle.ff_frame.specs.declared.event.Event.{Event}
 use Rattle.ff_frame.specs.declared.event.Event.TheVariants.{Grant}
 use Rattle.ff_frame.specs.declared.event.Ticket.{Ticket}
 use Rattle.ff_sched.specs.declared.logged.Logged.{Logged}
-use Rattle.ff_net.specs.Laws.{reads_of}
-use Rattle.ff_net.specs.Logs.{AreTicketsOf, tickets_in}
+use Rattle.ff_net.specs.laws.Laws.{reads_of}
+use Rattle.ff_net.specs.laws.Logs.{AreTicketsOf, tickets_in}
 use Rattle.ff_net.specs.Pasts.{Past}
-use Rattle.ff_net.specs.Views.{View}
-use Rattle.ff_net_threads.specs.network.Scheduling.{IsLogOf, ReadsUnderGrants}
+use Rattle.ff_net.specs.laws.Views.{View}
+use Rattle.ff_net_threads.specs.laws.network.Scheduling.{IsLogOf, ReadsUnderGrants}
 
 abbrev places_of : List Ticket → List ℕ
 places_of ts = map (λ t. t.place) ts

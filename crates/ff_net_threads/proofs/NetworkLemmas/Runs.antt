@@ -4,38 +4,38 @@ use Rattle.std.proofs.Common.{refl, ap, sym, ◌∙◌, subst, arith}
 use Rattle.std.proofs.lemmas.List.{length-map}
 use Rattle.ff_stream.specs.declared.item.Lane.{Lane}
 use Rattle.ff_stream.specs.Stream.{LiesBelow, opened}
-use Rattle.ff_stream.specs.Order.{below_trans, closed_below, opened_keeps}
+use Rattle.ff_stream.specs.laws.Order.{below_trans, closed_below, opened_keeps}
 use Rattle.ff_stream.specs.Ports.{stream_at, IsClosed, IsWhole}
 use Rattle.ff_net.specs.declared.fault.Fault.{Fault}
 use Rattle.ff_net.specs.declared.fault.Fault.TheVariants.{Device, Damaged, TooLong, TooLarge, NoMemory}
 use Rattle.ff_net.specs.declared.node.Node.{Node}
 use Rattle.ff_net.specs.declared.ports.InPort.{InPort}
 use Rattle.ff_net.specs.declared.ports.OutPort.{OutPort}
-use Rattle.ff_net.specs.Laws.{FaultStep, IsOfInputs, IsReading}
-use Rattle.ff_net.specs.Logs.{PassStep, hand_of, told_in}
+use Rattle.ff_net.specs.laws.Laws.{FaultStep, IsOfInputs, IsReading}
+use Rattle.ff_net.specs.laws.Logs.{PassStep, hand_of, told_in}
 use Rattle.ff_net.specs.Ways.{lane_at}
 use Rattle.ff_frame.specs.declared.event.Ticket.{Ticket}
 use Rattle.ff_sched.specs.declared.logged.Logged.{Logged}
-use Rattle.ff_sched.specs.Passing.{Passing}
+use Rattle.ff_sched.specs.laws.Passing.{Passing}
 use Rattle.ff_net.specs.Nets.{Part, IsUpward, solve}
 use Rattle.ff_net.specs.Pasts.{Past, Task, IsIn}
-use Rattle.ff_net.specs.Ports.{in_at, in_wires, out_at}
-use Rattle.ff_net.specs.Worlds.{Wire}
-use Rattle.ff_net.specs.Serial.{Moment, granted_parts_of, part_of, parts_of, tried_of}
-use Rattle.ff_net.specs.Theorem.{Settled, AllFare, MeetsSolution}
-use Rattle.ff_net.specs.Views.{View}
-use Rattle.ff_net.specs.Nodes.{NodeStands, LogStands, HaveLanes, IsSound, IsDone, machine_of, pass_of, outputs_of, in_wires_of, out_wires_of}
+use Rattle.ff_net.specs.laws.Ports.{in_at, in_wires, out_at}
+use Rattle.ff_net.specs.laws.Worlds.{Wire}
+use Rattle.ff_net.specs.laws.Serial.{Moment, granted_parts_of, part_of, parts_of, tried_of}
+use Rattle.ff_net.specs.laws.Theorem.{Settled, AllFare, MeetsSolution}
+use Rattle.ff_net.specs.laws.Views.{View}
+use Rattle.ff_net.specs.laws.Nodes.{NodeStands, LogStands, HaveLanes, IsSound, IsDone, machine_of, pass_of, outputs_of, in_wires_of, out_wires_of}
 use Rattle.ff_net.proofs.Whole.{fed_below}
 use Rattle.ff_net.proofs.PortSteps.{in_wire_in}
 use Rattle.ff_net_threads.specs.declared.links.linked.Linked.{Linked}
-use Rattle.ff_net_threads.specs.links.Nodes.{node_of}
-use Rattle.ff_net_threads.specs.links.Runs.{AllRan}
-use Rattle.ff_net_threads.specs.links.Settling.{AllBehind, AreMeeting, nodes_of, passes_in}
+use Rattle.ff_net_threads.specs.laws.links.Nodes.{node_of}
+use Rattle.ff_net_threads.specs.laws.links.Runs.{AllRan}
+use Rattle.ff_net_threads.specs.laws.links.Settling.{AllBehind, AreMeeting, nodes_of, passes_in}
 use Rattle.ff_net_threads.proofs.LinksLemmas.After.{behind_after, meeting_after}
 use Rattle.ff_net_threads.specs.declared.network.run.NodeFault.{NodeFault}
-use Rattle.ff_net_threads.specs.network.Networks.{Begins, node_at, machines_in}
-use Rattle.ff_net_threads.specs.network.Runs.{FirstFault, FedPart, FedAll, AllKept, TellsFault, MeetsNetwork, ReadsSuffice, ins_in, outs_in, read_parts}
-use Rattle.ff_net_threads.specs.network.Scheduling.{AllPassed, AreLogged, IsLogOf, LoggedPart, LoggedAll, LoggedSink, logs_in}
+use Rattle.ff_net_threads.specs.laws.network.Networks.{Begins, node_at, machines_in}
+use Rattle.ff_net_threads.specs.laws.network.Runs.{FirstFault, FedPart, FedAll, AllKept, TellsFault, MeetsNetwork, ReadsSuffice, ins_in, outs_in, read_parts}
+use Rattle.ff_net_threads.specs.laws.network.Scheduling.{AllPassed, AreLogged, IsLogOf, LoggedPart, LoggedAll, LoggedSink, logs_in}
 use Rattle.ff_net_threads.proofs.NetworkLemmas.Each.{some_one}
 
 pub nodes_at : {M : Type 0} (ls : List (Linked M)) (k : ℕ) (d : Node M) (e : Linked M) → k < length ls → slice_index_or (nodes_of ls) k d ≡ node_of (slice_index_or ls k e)

@@ -9,16 +9,16 @@ use Rattle.ff_frame.specs.declared.event.Ticket.{Ticket}
 use Rattle.ff_sched.specs.declared.logged.Logged.{Logged}
 use Rattle.ff_sched.specs.declared.routes.Routes.{Routes}
 use Rattle.ff_sched.specs.Histories.{IsLegal, Rises, StandsIn, StartsWith, all_in, numbered, weigh}
-use Rattle.ff_sched.specs.Passing.{Passing, Scheduler, IsHistory, IsSplit, logs_of}
+use Rattle.ff_sched.specs.laws.Passing.{Passing, Scheduler, IsHistory, IsSplit, logs_of}
 use Rattle.ff_sched.specs.State.{State}
-use Rattle.ff_net.specs.Laws.{Laws}
-use Rattle.ff_net.specs.Logs.{PassStep, tickets_in}
+use Rattle.ff_net.specs.laws.Laws.{Laws}
+use Rattle.ff_net.specs.laws.Logs.{PassStep, tickets_in}
 use Rattle.ff_net.specs.Pasts.{Task}
-use Rattle.ff_net.specs.Views.{View}
+use Rattle.ff_net.specs.laws.Views.{View}
 use Rattle.ff_net.specs.Ways.{Flow}
 use Rattle.ff_net_threads.specs.declared.links.linked.Linked.{Linked}
 use Rattle.ff_net_threads.specs.declared.network.run.NodeFault.{NodeFault}
-use Rattle.ff_net_threads.specs.network.Scheduling.{AllPassed, AreLogged, AreSeated, Scheduled, logs_in, new_pass, node_share}
+use Rattle.ff_net_threads.specs.laws.network.Scheduling.{AllPassed, AreLogged, AreSeated, Scheduled, logs_in, new_pass, node_share}
 use Rattle.ff_net_threads.proofs.NetworkLemmas.Each.{at_before, at_end, some_one, each_next}
 use Rattle.ff_net_threads.proofs.NetworkLemmas.Grants.{grant_stands, tickets_rise}
 use Rattle.ff_net_threads.proofs.NetworkLemmas.Entries.{event_entry, pass_of_list}

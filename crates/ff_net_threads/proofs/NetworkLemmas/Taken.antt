@@ -1,13 +1,13 @@
 -- Ends that were taken out of tables.
 use Rattle.std.proofs.Common.{◌≡◌, ℕ, ◌+◌, ◌<◌, List, [], ◌∷◌, ◌++◌, length, map, take, get_or, Option, Some, ap, sym, ◌∙◌, arith}
 use Rattle.std.proofs.lemmas.List.{map-append, take_more}
-use Rattle.ff_link.specs.Views.{Sending, Receiving, new_sender, new_receiver}
+use Rattle.ff_link.specs.laws.Views.{Sending, Receiving, new_sender, new_receiver}
 use Rattle.ff_net.specs.Ways.{lane_at}
 use Rattle.ff_net_threads.specs.declared.links.ends.InEnd.{InEnd}
 use Rattle.ff_net_threads.specs.declared.links.ends.OutEnd.{OutEnd}
-use Rattle.ff_net_threads.specs.links.Ends.{new_in, new_out}
-use Rattle.ff_net_threads.specs.network.Nodes.{IsNewIn, IsNewOut}
-use Rattle.ff_net_threads.specs.network.Tables.{NewLinks, HasNewSender, HasNewReceiver}
+use Rattle.ff_net_threads.specs.laws.links.Ends.{new_in, new_out}
+use Rattle.ff_net_threads.specs.laws.network.Nodes.{IsNewIn, IsNewOut}
+use Rattle.ff_net_threads.specs.laws.network.Tables.{NewLinks, HasNewSender, HasNewReceiver}
 
 some_same : {A : Type 0} (a b : A) → Some a ≡ Some b → a ≡ b
 some_same a b e = cc

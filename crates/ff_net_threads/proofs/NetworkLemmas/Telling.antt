@@ -6,17 +6,17 @@ use Rattle.ff_frame.specs.declared.event.Event.TheVariants.{Grant}
 use Rattle.ff_frame.specs.declared.event.Ticket.{Ticket}
 use Rattle.ff_sched.specs.declared.logged.Logged.{Logged}
 use Rattle.ff_sched.specs.Histories.{Rises, all_in, logged}
-use Rattle.ff_sched.specs.Laws.{HasAllOf, IsEntryOf, IsPassOf, events_in}
-use Rattle.ff_sched.specs.Passing.{Passing, Scheduler, IsHistory, logs_of}
+use Rattle.ff_sched.specs.laws.Laws.{HasAllOf, IsEntryOf, IsPassOf, events_in}
+use Rattle.ff_sched.specs.laws.Passing.{Passing, Scheduler, IsHistory, logs_of}
 use Rattle.ff_sched.proofs.OneWorker.{one_worker}
-use Rattle.ff_net.specs.Laws.{Laws}
-use Rattle.ff_net.specs.Logs.{tickets_in, told_in}
+use Rattle.ff_net.specs.laws.Laws.{Laws}
+use Rattle.ff_net.specs.laws.Logs.{tickets_in, told_in}
 use Rattle.ff_net.specs.Pasts.{Task}
-use Rattle.ff_net.specs.Views.{View}
+use Rattle.ff_net.specs.laws.Views.{View}
 use Rattle.ff_net.specs.Ways.{Flow}
 use Rattle.ff_net.proofs.Flows.{same_or_not}
 use Rattle.ff_net_threads.specs.declared.network.run.NodeFault.{NodeFault}
-use Rattle.ff_net_threads.specs.network.Scheduling.{AreLogged, IsOnlySource, TellsAlone}
+use Rattle.ff_net_threads.specs.laws.network.Scheduling.{AreLogged, IsOnlySource, TellsAlone}
 use Rattle.ff_net_threads.proofs.NetworkLemmas.Each.{some_one}
 use Rattle.ff_net_threads.proofs.NetworkLemmas.Entries.{all_told, behind_grants, entry_ticket, log_of_entry, no_entry_of, none_before}
 

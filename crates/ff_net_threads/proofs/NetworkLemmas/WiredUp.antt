@@ -4,27 +4,27 @@ use Rattle.std.proofs.lemmas.List.{length-map, map-append, get_or_default}
 use Rattle.ff_stream.specs.declared.item.Lane.{Lane}
 use Rattle.ff_stream.specs.declared.edges.edge.Edge.{Edge}
 use Rattle.ff_stream.specs.edges.Ports.{edge_to, edge_from, at_ports}
-use Rattle.ff_link.specs.Views.{Sending, Receiving, new_sender, new_receiver}
+use Rattle.ff_link.specs.laws.Views.{Sending, Receiving, new_sender, new_receiver}
 use Rattle.ff_net.specs.Nets.{Part, IsUpward, solve}
-use Rattle.ff_net.specs.Nodes.{HaveLanes, machine_of, in_wires_of, out_wires_of}
+use Rattle.ff_net.specs.laws.Nodes.{HaveLanes, machine_of, in_wires_of, out_wires_of}
 use Rattle.ff_net.specs.Pasts.{Task, IsIn, start}
-use Rattle.ff_net.specs.Serial.{part_of, parts_of}
-use Rattle.ff_net.specs.Views.{View}
+use Rattle.ff_net.specs.laws.Serial.{part_of, parts_of}
+use Rattle.ff_net.specs.laws.Views.{View}
 use Rattle.ff_net.specs.Ways.{lane_at}
 use Rattle.ff_net_threads.specs.declared.links.linked.Linked.{Linked}
-use Rattle.ff_net_threads.specs.links.Nodes.{node_of}
-use Rattle.ff_net_threads.specs.links.Runs.{AllOf}
-use Rattle.ff_net_threads.specs.links.Settling.{nodes_of}
+use Rattle.ff_net_threads.specs.laws.links.Nodes.{node_of}
+use Rattle.ff_net_threads.specs.laws.links.Runs.{AllOf}
+use Rattle.ff_net_threads.specs.laws.links.Settling.{nodes_of}
 use Rattle.ff_sched.specs.declared.logged.Logged.{Logged}
 use Rattle.ff_sched.specs.declared.routes.Routes.{Routes}
-use Rattle.ff_sched.specs.Passing.{Passing, Scheduler}
+use Rattle.ff_sched.specs.laws.Passing.{Passing, Scheduler}
 use Rattle.ff_net_threads.specs.network.Fits.{Ports, edge_lanes, ins_at, outs_at, part_at, parts_from, network}
-use Rattle.ff_net_threads.specs.network.Networks.{Fits, AllStart, AreWiredUp, lanes_at, ports_of, node_at, machines_in}
-use Rattle.ff_net_threads.specs.network.Nodes.{FitsWires, IsLinked, in_edges, out_edges}
-use Rattle.ff_net_threads.specs.network.Runs.{FedPart, FedAll, MeetsNetwork, ReadsSuffice, ins_in, outs_in, read_parts}
-use Rattle.ff_net_threads.specs.network.Scheduling.{AllRouted, AreLogged, AreSeated, LoggedPart, LoggedSink}
+use Rattle.ff_net_threads.specs.laws.network.Networks.{Fits, AllStart, AreWiredUp, lanes_at, ports_of, node_at, machines_in}
+use Rattle.ff_net_threads.specs.laws.network.Nodes.{FitsWires, IsLinked, in_edges, out_edges}
+use Rattle.ff_net_threads.specs.laws.network.Runs.{FedPart, FedAll, MeetsNetwork, ReadsSuffice, ins_in, outs_in, read_parts}
+use Rattle.ff_net_threads.specs.laws.network.Scheduling.{AllRouted, AreLogged, AreSeated, LoggedPart, LoggedSink}
 use Rattle.ff_net_threads.specs.declared.network.run.NodeFault.{NodeFault}
-use Rattle.ff_net_threads.specs.network.Tables.{AreTables, NewLinks, HasNewSender, HasNewReceiver, link_of, links_in}
+use Rattle.ff_net_threads.specs.laws.network.Tables.{AreTables, NewLinks, HasNewSender, HasNewReceiver, link_of, links_in}
 use Rattle.ff_net_threads.proofs.NetworkLemmas.Each.{some_one}
 use Rattle.ff_net_threads.proofs.NetworkLemmas.Fitting.{ins_once, outs_once, ins_have, outs_have, own_apart, upward}
 use Rattle.ff_net_threads.proofs.NetworkLemmas.Joining.{joined}

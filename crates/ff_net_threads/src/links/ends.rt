@@ -3,11 +3,11 @@ ghost use Rattle.std.specs.Prelude.{◌≡◌, ◌≢◌, ◌<◌, ◌⊎◌, �
 ghost use Rattle.ff_net.specs.declared.wires.Wires.{Wires};
 ghost use Rattle.ff_net.specs.Pasts.{Past};
 ghost use Rattle.ff_net.specs.Ways.{lane_at};
-ghost use Rattle.ff_net.specs.Worlds.{Wire, Stand, IsEmpty, lanes_of};
-ghost use Rattle.ff_net_threads.specs.links.Ends.{InEndStands, OutEndStands, CanPour, OnWires, Draws, Pours, claims_of, taken_of, in_link, out_link, in_end_at};
+ghost use Rattle.ff_net.specs.laws.Worlds.{Wire, Stand, IsEmpty, lanes_of};
+ghost use Rattle.ff_net_threads.specs.laws.links.Ends.{InEndStands, OutEndStands, CanPour, OnWires, Draws, Pours, claims_of, taken_of, in_link, out_link, in_end_at};
 ghost use Rattle.ff_net_threads.specs.declared.links.ends.OutEnd.{OutEnd};
-ghost use Rattle.ff_net_threads.specs.links.Turns.{Shuts, TakesOneAtMost, InMoves, InRests, FoundEmpty, CannotTake};
-ghost use Rattle.ff_net_threads.specs.links.Turns.{SendsOneAtMost, OutMoves, OutRests, FoundFull, CannotSend};
+ghost use Rattle.ff_net_threads.specs.laws.links.Turns.{Shuts, TakesOneAtMost, InMoves, InRests, FoundEmpty, CannotTake};
+ghost use Rattle.ff_net_threads.specs.laws.links.Turns.{SendsOneAtMost, OutMoves, OutRests, FoundFull, CannotSend};
 
 use ff_link::{Finished, Put, Receiver, Sender, Take};
 use ff_net::{Put as Laid, Take as Lifted, Wires};
@@ -42,7 +42,7 @@ pub struct OutEnd {
 
 impl InEnd {
     ghost use Rattle.std.specs.Prelude.{◌≡◌};
-    ghost use Rattle.ff_net_threads.specs.links.Ends.{new_in};
+    ghost use Rattle.ff_net_threads.specs.laws.links.Ends.{new_in};
 
     /// The end of a link that takes, at the wire of this number.
     pub fn new(wire: usize, receiver: Receiver) -> InEnd
@@ -59,7 +59,7 @@ impl InEnd {
 
 impl OutEnd {
     ghost use Rattle.std.specs.Prelude.{◌≡◌};
-    ghost use Rattle.ff_net_threads.specs.links.Ends.{new_out};
+    ghost use Rattle.ff_net_threads.specs.laws.links.Ends.{new_out};
 
     /// The end of a link that sends, at the wire of this number.
     pub fn new(wire: usize, sender: Sender) -> OutEnd

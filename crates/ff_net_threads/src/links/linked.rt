@@ -1,19 +1,19 @@
 //! A node with the ends of its links.
 ghost use Rattle.std.specs.Prelude.{◌≡◌, ◌<◌, ◌≤◌, ◌+◌, ◌⊎◌, ℕ, length, slice_index_or, true, false, None, Some};
 ghost use Rattle.ff_stream.specs.Ports.{IsClosed};
-ghost use Rattle.ff_net_threads.specs.links.Ends.{in_end_at, taken_of};
+ghost use Rattle.ff_net_threads.specs.laws.links.Ends.{in_end_at, taken_of};
 ghost use Rattle.ff_net_threads.specs.declared.links.ends.OutEnd.{OutEnd};
-ghost use Rattle.ff_net_threads.specs.links.Nodes.{Follows, IsLawful, HasEnded, Behind, IsBeginning, AreWired, IsWired, node_of, wires_on, lanes_on, ins_of, outs_of};
-ghost use Rattle.ff_net_threads.specs.links.Turns.{TakesOneAtMost, InMoves, InRests, CannotTake, Shuts, SendsOneAtMost, OutMoves, OutRests, CannotSend};
-ghost use Rattle.ff_net_threads.specs.links.Turns.{IsWaiting, HasMoved, HasDrawnNone, HasRested};
+ghost use Rattle.ff_net_threads.specs.laws.links.Nodes.{Follows, IsLawful, HasEnded, Behind, IsBeginning, AreWired, IsWired, node_of, wires_on, lanes_on, ins_of, outs_of};
+ghost use Rattle.ff_net_threads.specs.laws.links.Turns.{TakesOneAtMost, InMoves, InRests, CannotTake, Shuts, SendsOneAtMost, OutMoves, OutRests, CannotSend};
+ghost use Rattle.ff_net_threads.specs.laws.links.Turns.{IsWaiting, HasMoved, HasDrawnNone, HasRested};
 ghost use Rattle.ff_net.specs.declared.fault.Fault.{Fault};
-ghost use Rattle.ff_net.specs.Logs.{tickets_in};
-ghost use Rattle.ff_net.specs.Nodes.{IsOf, IsSound, IsDone, NodeStands, HasFinished, IsOver};
-ghost use Rattle.ff_net.specs.Nodes.{machine_of, pass_of, inputs_of, outputs_of, in_wire_of, out_wire_of};
+ghost use Rattle.ff_net.specs.laws.Logs.{tickets_in};
+ghost use Rattle.ff_net.specs.laws.Nodes.{IsOf, IsSound, IsDone, NodeStands, HasFinished, IsOver};
+ghost use Rattle.ff_net.specs.laws.Nodes.{machine_of, pass_of, inputs_of, outputs_of, in_wire_of, out_wire_of};
 ghost use Rattle.ff_net.specs.Pasts.{Past, Task};
-ghost use Rattle.ff_net.specs.Steps.{Stepped, Moves, Fills, IsDue};
-ghost use Rattle.ff_net.specs.Turns.{HasDue, IsIdle};
-ghost use Rattle.ff_net.specs.Worlds.{Wire, Stand, lanes_of, sizes_of};
+ghost use Rattle.ff_net.specs.laws.Steps.{Stepped, Moves, Fills, IsDue};
+ghost use Rattle.ff_net.specs.laws.Turns.{HasDue, IsIdle};
+ghost use Rattle.ff_net.specs.laws.Worlds.{Wire, Stand, lanes_of, sizes_of};
 
 use crate::links::bells::Bells;
 use crate::links::ends::{InEnd, OutEnd, draw_at, pour_at, shut_at};

@@ -52,7 +52,7 @@ fn none_settled(alloc: Global, links: usize) -> Result<Vec<Settled>, AllocError>
 }
 
 impl<M: Drop> Room<M> {
-    ghost use Rattle.ff_net_threads.specs.links.Rooms.{IsUnused, links_of, most_nodes};
+    ghost use Rattle.ff_net_threads.specs.laws.links.Rooms.{IsUnused, links_of, most_nodes};
 
     /// Room for at least so many nodes, and for links with numbers below this. `Err` where memory is refused.
     pub fn new(alloc: Global, nodes: usize, links: usize) -> Result<Room<M>, AllocError>

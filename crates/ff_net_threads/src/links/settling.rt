@@ -3,18 +3,18 @@ ghost use Rattle.std.specs.Prelude.{◌≡◌, ◌<◌, ◌≤◌, ℕ, List, []
 ghost use Rattle.ff_stream.specs.declared.item.Lane.{Lane};
 ghost use Rattle.ff_net.specs.Nets.{IsUpward};
 ghost use Rattle.ff_net.specs.Pasts.{Task, IsIn};
-ghost use Rattle.ff_net.specs.Serial.{Moment, parts_of};
-ghost use Rattle.ff_net.specs.Theorem.{AllFare, MeetsSolution};
+ghost use Rattle.ff_net.specs.laws.Serial.{Moment, parts_of};
+ghost use Rattle.ff_net.specs.laws.Theorem.{AllFare, MeetsSolution};
 ghost use Rattle.ff_net.specs.declared.node.Node.{Node};
-ghost use Rattle.ff_net.specs.Worlds.{Wire};
-ghost use Rattle.ff_net.specs.Nodes.{AreApart, machine_of};
-ghost use Rattle.ff_net_threads.specs.links.Nodes.{in_ends_wires, out_ends_wires, node_of};
-ghost use Rattle.ff_link.specs.Views.{Link};
+ghost use Rattle.ff_net.specs.laws.Worlds.{Wire};
+ghost use Rattle.ff_net.specs.laws.Nodes.{AreApart, machine_of};
+ghost use Rattle.ff_net_threads.specs.laws.links.Nodes.{in_ends_wires, out_ends_wires, node_of};
+ghost use Rattle.ff_link.specs.laws.Views.{Link};
 ghost use Rattle.ff_net_threads.specs.declared.links.ends.OutEnd.{OutEnd};
-ghost use Rattle.ff_net_threads.specs.links.Ends.{in_link, out_link, in_end_at};
-ghost use Rattle.ff_net_threads.specs.links.Rooms.{IsUnused, links_of, most_nodes};
-ghost use Rattle.ff_net_threads.specs.links.Settling.{HasSender, ComeAfter, IsTable, IsSettled, IsSenderIn, AreLinked, AllEnded, AllSettled};
-ghost use Rattle.ff_net_threads.specs.links.Settling.{AllBehind, AreFaultsOf, AreMeeting, ends_of, nodes_of, passes_in};
+ghost use Rattle.ff_net_threads.specs.laws.links.Ends.{in_link, out_link, in_end_at};
+ghost use Rattle.ff_net_threads.specs.laws.links.Rooms.{IsUnused, links_of, most_nodes};
+ghost use Rattle.ff_net_threads.specs.laws.links.Settling.{HasSender, ComeAfter, IsTable, IsSettled, IsSenderIn, AreLinked, AllEnded, AllSettled};
+ghost use Rattle.ff_net_threads.specs.laws.links.Settling.{AllBehind, AreFaultsOf, AreMeeting, ends_of, nodes_of, passes_in};
 
 use crate::links::ends::{InEnd, OutEnd};
 use crate::links::linked::Linked;

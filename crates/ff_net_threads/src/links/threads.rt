@@ -1,8 +1,8 @@
 //! All nodes at once.
 ghost use Rattle.std.specs.Prelude.{◌≡◌, ◌+◌, ◌≤◌, ℕ, [], List, length, vec_len, vec_capacity, IfOk, IfErr};
 ghost use Rattle.ff_net_threads.specs.declared.links.linked.Linked.{Linked};
-ghost use Rattle.ff_net_threads.specs.links.Runs.{AllRan, AllLawful, AllOf};
-ghost use Rattle.ff_net_threads.specs.links.Workers.{AllServe};
+ghost use Rattle.ff_net_threads.specs.laws.links.Runs.{AllRan, AllLawful, AllOf};
+ghost use Rattle.ff_net_threads.specs.laws.links.Workers.{AllServe};
 
 use crate::links::bells::Bells;
 use crate::links::linked::Linked;

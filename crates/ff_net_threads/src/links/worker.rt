@@ -1,10 +1,10 @@
 //! A worker for one node, which the caller turns where no thread can be started.
 ghost use Rattle.std.specs.Prelude.{◌≡◌};
 ghost use Rattle.ff_net_threads.specs.declared.links.linked.Linked.{Linked};
-ghost use Rattle.ff_net.specs.Nodes.{IsOf};
-ghost use Rattle.ff_net_threads.specs.links.Nodes.{IsLawful, node_of};
-ghost use Rattle.ff_net_threads.specs.links.Runs.{Came, Ran};
-ghost use Rattle.ff_net_threads.specs.links.Workers.{Serves};
+ghost use Rattle.ff_net.specs.laws.Nodes.{IsOf};
+ghost use Rattle.ff_net_threads.specs.laws.links.Nodes.{IsLawful, node_of};
+ghost use Rattle.ff_net_threads.specs.laws.links.Runs.{Came, Ran};
+ghost use Rattle.ff_net_threads.specs.laws.links.Workers.{Serves};
 
 use crate::links::bells::Bells;
 use crate::links::linked::Linked;
@@ -31,7 +31,7 @@ pub struct Back<M> {
 pub struct CameFrom<M>(Snapshot<Linked<M>>);
 
 impl<M: Machine> Promise<Back<M>> for CameFrom<M> {
-    ghost use Rattle.ff_net_threads.specs.links.Runs.{Came};
+    ghost use Rattle.ff_net_threads.specs.laws.links.Runs.{Came};
 
     ghost kept_by = { λ p b. Came M.view p.0.value b };
 }

@@ -1,12 +1,12 @@
 //! A machine with any number of ports, on new links.
 ghost use Rattle.std.specs.Prelude.{◌≡◌, ℕ, All, [], length, IfOk, IfErr};
-ghost use Rattle.ff_net.specs.Nodes.{pass_of};
+ghost use Rattle.ff_net.specs.laws.Nodes.{pass_of};
 ghost use Rattle.ff_net.specs.Pasts.{IsIn};
-ghost use Rattle.ff_net.specs.Worlds.{Stand, fresh, lanes_of, sizes_of};
-ghost use Rattle.ff_net_threads.specs.links.Nodes.{node_of};
+ghost use Rattle.ff_net.specs.laws.Worlds.{Stand, fresh, lanes_of, sizes_of};
+ghost use Rattle.ff_net_threads.specs.laws.links.Nodes.{node_of};
 ghost use Rattle.ff_net_threads.specs.network.Fits.{edge_lanes};
-ghost use Rattle.ff_net_threads.specs.network.Nodes.{FitsWires, AreNewIns, AreNewOuts, IsLinked, in_edges, out_edges};
-ghost use Rattle.ff_net_threads.specs.network.Tables.{NewLinks, HasNewSender, HasNewReceiver, HaveNewSenders, HaveNewReceivers};
+ghost use Rattle.ff_net_threads.specs.laws.network.Nodes.{FitsWires, AreNewIns, AreNewOuts, IsLinked, in_edges, out_edges};
+ghost use Rattle.ff_net_threads.specs.laws.network.Tables.{NewLinks, HasNewSender, HasNewReceiver, HaveNewSenders, HaveNewReceivers};
 
 use crate::links::{InEnd, Linked, OutEnd};
 use crate::network::tables::Tables;

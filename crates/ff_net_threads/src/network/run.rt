@@ -2,18 +2,18 @@
 ghost use Rattle.std.specs.Prelude.{◌≡◌, ◌<◌, ◌≤◌, ◌^◌, ◌++◌, ◌∷◌, [], ℕ, All, List, length, sum_by, true};
 ghost use Rattle.std.specs.Prelude.{vec_len, vec_capacity, IfOk, IfErr, IfSome};
 ghost use Rattle.ff_stream.specs.declared.item.Lane.{Lane};
-ghost use Rattle.ff_link.specs.Views.{Link};
+ghost use Rattle.ff_link.specs.laws.Views.{Link};
 ghost use Rattle.ff_net.specs.Nets.{solve};
 ghost use Rattle.ff_net.specs.Pasts.{Task};
-ghost use Rattle.ff_net.specs.Serial.{parts_of};
-ghost use Rattle.ff_net_threads.specs.links.Runs.{AllLawful, AllOf};
-ghost use Rattle.ff_net_threads.specs.links.Settling.{AreLinked, nodes_of};
+ghost use Rattle.ff_net.specs.laws.Serial.{parts_of};
+ghost use Rattle.ff_net_threads.specs.laws.links.Runs.{AllLawful, AllOf};
+ghost use Rattle.ff_net_threads.specs.laws.links.Settling.{AreLinked, nodes_of};
 ghost use Rattle.ff_net_threads.specs.network.Fits.{ins_at, outs_at, network};
-ghost use Rattle.ff_net_threads.specs.network.Networks.{Begins, Fits, AllStart, machines_in, ports_of};
-ghost use Rattle.ff_net_threads.specs.network.Runs.{FirstFault, AllKept, TellsFault, MeetsNetwork, ReadsSuffice, ins_in, outs_in};
-ghost use Rattle.ff_net_threads.specs.network.Scheduling.{AllPassed, AllRouted, AreLogged, Scheduled, logs_in};
-ghost use Rattle.ff_sched.specs.Passing.{IsHistory};
-ghost use Rattle.ff_sched.specs.Routes.{AreRoutes};
+ghost use Rattle.ff_net_threads.specs.laws.network.Networks.{Begins, Fits, AllStart, machines_in, ports_of};
+ghost use Rattle.ff_net_threads.specs.laws.network.Runs.{FirstFault, AllKept, TellsFault, MeetsNetwork, ReadsSuffice, ins_in, outs_in};
+ghost use Rattle.ff_net_threads.specs.laws.network.Scheduling.{AllPassed, AllRouted, AreLogged, Scheduled, logs_in};
+ghost use Rattle.ff_sched.specs.laws.Passing.{IsHistory};
+ghost use Rattle.ff_sched.specs.laws.Routes.{AreRoutes};
 
 use crate::links::{Linked, Room, run_threads, settle_all};
 use crate::network::wiring::{into_machines, wire_up};

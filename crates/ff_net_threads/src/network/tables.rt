@@ -1,6 +1,6 @@
 //! New links, one for each edge.
 ghost use Rattle.std.specs.Prelude.{◌≡◌, ◌≤◌, Some, IfOk};
-ghost use Rattle.ff_net_threads.specs.network.Tables.{AreEnds, AreTables};
+ghost use Rattle.ff_net_threads.specs.laws.network.Tables.{AreEnds, AreTables};
 
 use ff_link::{Claims, Receiver, Sender, link_claiming};
 use ff_stream::{Edge, Lane};

@@ -1,9 +1,9 @@
 //! The link ends of one node, taken out of the tables.
 ghost use Rattle.std.specs.Prelude.{◌≡◌, ◌<◌, ◌≤◌, ℕ, [], length, slice_index_or, vec_capacity, Option, Some};
-ghost use Rattle.ff_net.specs.Nodes.{AreApart};
+ghost use Rattle.ff_net.specs.laws.Nodes.{AreApart};
 ghost use Rattle.ff_net.specs.Pasts.{IsIn};
-ghost use Rattle.ff_net_threads.specs.network.Nodes.{AreNewIns, AreNewOuts};
-ghost use Rattle.ff_net_threads.specs.network.Tables.{NewLinks, HasNewSender, HasNewReceiver, HaveNewSenders, HaveNewReceivers};
+ghost use Rattle.ff_net_threads.specs.laws.network.Nodes.{AreNewIns, AreNewOuts};
+ghost use Rattle.ff_net_threads.specs.laws.network.Tables.{NewLinks, HasNewSender, HasNewReceiver, HaveNewSenders, HaveNewReceivers};
 
 use crate::links::{InEnd, OutEnd};
 use ff_link::{Receiver, Sender};

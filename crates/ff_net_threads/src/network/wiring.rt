@@ -1,9 +1,9 @@
 //! Machines as nodes on new links, one for each edge.
 ghost use Rattle.std.specs.Prelude.{◌≡◌, ◌≤◌, ◌<◌, ◌+◌, ◌^◌, [], ◌∷◌, ◌++◌, length, vec_capacity, IfOk, IfErr};
 ghost use Rattle.std.specs.Vec.Iter.{into_iter_items};
-ghost use Rattle.ff_sched.specs.Passing.{IsFirst};
-ghost use Rattle.ff_net_threads.specs.network.Networks.{Fits, AreWiredUp, machines_in};
-ghost use Rattle.ff_net_threads.specs.network.Scheduling.{AreSeated};
+ghost use Rattle.ff_sched.specs.laws.Passing.{IsFirst};
+ghost use Rattle.ff_net_threads.specs.laws.network.Networks.{Fits, AreWiredUp, machines_in};
+ghost use Rattle.ff_net_threads.specs.laws.network.Scheduling.{AreSeated};
 
 use crate::links::Linked;
 use crate::network::node::wire_node;

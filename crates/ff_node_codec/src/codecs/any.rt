@@ -1,6 +1,6 @@
 //! The decoder and the encoder of any codec.
 ghost use Rattle.std.specs.Prelude.{◌≡◌};
-ghost use Rattle.ff_node_codec.specs.codecs.AnyCoders.{any_head, any_takes, any_frame, any_decoded, any_serves, any_coded, any_accepts, any_packet, any_encoded, any_times};
+ghost use Rattle.ff_node_codec.specs.laws.codecs.AnyCoders.{any_head, any_takes, any_frame, any_decoded, any_serves, any_coded, any_accepts, any_packet, any_encoded, any_times};
 
 use crate::codecs::decoder::Decoder;
 use crate::codecs::encoder::Encoder;

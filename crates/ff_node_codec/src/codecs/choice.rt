@@ -1,6 +1,6 @@
 //! The decoder and the encoder for a head.
 ghost use Rattle.std.specs.Prelude.{◌≡◌};
-ghost use Rattle.ff_node_codec.specs.codecs.AnyCoders.{any_head, any_frame, any_serves, any_coded, any_packet};
+ghost use Rattle.ff_node_codec.specs.laws.codecs.AnyCoders.{any_head, any_frame, any_serves, any_coded, any_packet};
 ghost use Rattle.ff_node_codec.specs.codecs.Choices.{CanDecode, CanDecodeSound, CanEncode, frame_made, sound_made, packet_made};
 
 use crate::codecs::any::{AnyDecoder, AnyEncoder};

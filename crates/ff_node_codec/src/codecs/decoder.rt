@@ -5,7 +5,7 @@ ghost use Rattle.ff_frame.specs.declared.packet.Pkt.{Pkt};
 ghost use Rattle.ff_stream.specs.declared.item.Item.{Item};
 ghost use Rattle.ff_stream.specs.declared.item.Item.TheVariants.{Packet};
 ghost use Rattle.ff_stream.specs.Lanes.{FitsPackets};
-ghost use Rattle.ff_node_codec.specs.codecs.Made.{IsDecoded};
+ghost use Rattle.ff_node_codec.specs.laws.codecs.Made.{IsDecoded};
 
 use ff_frame::Pkt;
 use ff_stream::Item;

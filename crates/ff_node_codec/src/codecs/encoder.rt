@@ -4,7 +4,7 @@ ghost use Rattle.ff_frame.specs.declared.head.StreamHead.{StreamHead};
 ghost use Rattle.ff_frame.specs.declared.packet.Pkt.{Pkt};
 ghost use Rattle.ff_stream.specs.declared.item.Item.{Item};
 ghost use Rattle.ff_stream.specs.Lanes.{FitsFrames};
-ghost use Rattle.ff_node_codec.specs.codecs.Made.{HasSameTimes, IsEncoded};
+ghost use Rattle.ff_node_codec.specs.laws.codecs.Made.{HasSameTimes, IsEncoded};
 
 use ff_frame::Pkt;
 use ff_stream::Item;

@@ -4,11 +4,11 @@ ghost use Rattle.ff_frame.specs.declared.packet.Pkt.{Pkt};
 ghost use Rattle.ff_frame.specs.declared.audio.AFrame.{AFrame};
 ghost use Rattle.ff_frame.specs.declared.head.StreamHead.{StreamHead};
 ghost use Rattle.ff_flac_frame.specs.Frame.{IsStream};
-ghost use Rattle.ff_flac_frame.specs.Parts.{frame_of};
+ghost use Rattle.ff_flac_frame.specs.laws.Parts.{frame_of};
 ghost use Rattle.ff_flac_dec.specs.Streams.{stream_of};
 ghost use Rattle.ff_stream.specs.declared.item.Item.TheVariants.{Audio};
 ghost use Rattle.ff_node_codec.specs.codecs.Decoding.{flac_frame, IsFlacPacket};
-ghost use Rattle.ff_node_codec.specs.codecs.FlacLaws.{HoldsSound, IsFoundIn, flac_decoded};
+ghost use Rattle.ff_node_codec.specs.laws.codecs.FlacLaws.{HoldsSound, IsFoundIn, flac_decoded};
 
 use crate::codecs::decoder::Decoder;
 use crate::codecs::pcm::sample_frames;
@@ -29,7 +29,7 @@ pub struct FlacDecoder {
 }
 
 impl FlacDecoder {
-    ghost use Rattle.ff_node_codec.specs.codecs.Coders.{flac_head};
+    ghost use Rattle.ff_node_codec.specs.laws.codecs.Coders.{flac_head};
 
     /// For the packets of a stream of FLAC.
     pub fn new(alloc: Global, head: StreamHead) -> FlacDecoder
@@ -133,7 +133,7 @@ fn sound_in(
 }
 
 impl Decoder for FlacDecoder {
-    ghost use Rattle.ff_node_codec.specs.codecs.Coders.{flac_head};
+    ghost use Rattle.ff_node_codec.specs.laws.codecs.Coders.{flac_head};
 
     ghost head = { flac_head };
 

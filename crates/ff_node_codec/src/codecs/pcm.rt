@@ -3,12 +3,12 @@ ghost use Rattle.std.specs.Prelude.{◌≡◌, ◌↔◌, ◌*◌, ◌/◌, ◌<
 ghost use Rattle.ff_frame.specs.Audio.{IsAudio};
 ghost use Rattle.ff_frame.specs.Codecs.{IsPcmCodec, sample_bytes};
 ghost use Rattle.ff_frame.specs.Heads.{IsSoundHead};
-ghost use Rattle.ff_frame.specs.PcmLaws.{IsPcmCodec-prop};
+ghost use Rattle.ff_frame.specs.laws.PcmLaws.{IsPcmCodec-prop};
 ghost use Rattle.ff_pcm.specs.Frames.{IsPcmHead, HasBlocks, frame_of};
-ghost use Rattle.ff_node_codec.specs.codecs.Props.{IsPcmHead-prop};
+ghost use Rattle.ff_node_codec.specs.laws.codecs.Props.{IsPcmHead-prop};
 ghost use Rattle.ff_node_codec.specs.codecs.Decoding.{octets, pcm_frame};
 ghost use Rattle.ff_node_codec.specs.codecs.Encoding.{coded_head, packet_of, pcm_packet_of, IsSound};
-ghost use Rattle.ff_node_codec.specs.codecs.PcmLaws.{pcm_decoded, pcm_encoded, pcm_times};
+ghost use Rattle.ff_node_codec.specs.laws.codecs.PcmLaws.{pcm_decoded, pcm_encoded, pcm_times};
 
 use crate::codecs::decoder::Decoder;
 use crate::codecs::encoder::Encoder;
@@ -27,7 +27,7 @@ pub struct PcmDecoder {
 }
 
 impl PcmDecoder {
-    ghost use Rattle.ff_node_codec.specs.codecs.Coders.{pcm_head};
+    ghost use Rattle.ff_node_codec.specs.laws.codecs.Coders.{pcm_head};
 
     /// For the packets of a stream of linear PCM.
     pub fn new(alloc: Global, head: StreamHead) -> PcmDecoder
@@ -49,7 +49,7 @@ fn frame(alloc: Global, head: &StreamHead, packet: &Pkt) -> Result<AFrame, Alloc
 }
 
 impl Decoder for PcmDecoder {
-    ghost use Rattle.ff_node_codec.specs.codecs.Coders.{pcm_head};
+    ghost use Rattle.ff_node_codec.specs.laws.codecs.Coders.{pcm_head};
 
     ghost head = { pcm_head };
 
@@ -80,7 +80,7 @@ pub struct PcmEncoder {
 }
 
 impl PcmEncoder {
-    ghost use Rattle.ff_node_codec.specs.codecs.Coders.{pcm_codec};
+    ghost use Rattle.ff_node_codec.specs.laws.codecs.Coders.{pcm_codec};
 
     /// To a codec of linear PCM.
     pub fn new(alloc: Global, codec: Codec) -> PcmEncoder
@@ -119,7 +119,7 @@ fn packet(codec: Codec, mut frame: AFrame, mut bytes: Vec<u8>) -> Pkt
 }
 
 impl Encoder for PcmEncoder {
-    ghost use Rattle.ff_node_codec.specs.codecs.Coders.{pcm_codec};
+    ghost use Rattle.ff_node_codec.specs.laws.codecs.Coders.{pcm_codec};
 
     ghost serves = { λ e head. IsSoundHead head };
 

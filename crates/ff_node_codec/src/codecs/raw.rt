@@ -1,11 +1,11 @@
 //! The decoder and the encoder of raw video packets.
 ghost use Rattle.std.specs.Prelude.{◌≡◌, ◌↔◌, ◌≤◌, Some, length, IsTrue};
 ghost use Rattle.ff_frame.specs.Video.{IsVideo};
-ghost use Rattle.ff_pcm.specs.Raw.{HasFrame};
-ghost use Rattle.ff_node_codec.specs.codecs.Props.{IsPictureHead-prop};
+ghost use Rattle.ff_pcm.specs.laws.Raw.{HasFrame};
+ghost use Rattle.ff_node_codec.specs.laws.codecs.Props.{IsPictureHead-prop};
 ghost use Rattle.ff_node_codec.specs.codecs.Decoding.{raw_frame, IsPictureHead};
 ghost use Rattle.ff_node_codec.specs.codecs.Encoding.{raw_packet_of, IsPicture, IsPictures};
-ghost use Rattle.ff_node_codec.specs.codecs.RawLaws.{raw_decoded, raw_encoded, raw_times};
+ghost use Rattle.ff_node_codec.specs.laws.codecs.RawLaws.{raw_decoded, raw_encoded, raw_times};
 
 use crate::codecs::decoder::Decoder;
 use crate::codecs::encoder::Encoder;
@@ -20,7 +20,7 @@ pub struct RawDecoder {
 }
 
 impl RawDecoder {
-    ghost use Rattle.ff_node_codec.specs.codecs.Coders.{raw_head};
+    ghost use Rattle.ff_node_codec.specs.laws.codecs.Coders.{raw_head};
 
     /// For the packets of a video stream.
     pub fn new(head: StreamHead) -> RawDecoder
@@ -41,7 +41,7 @@ fn are_planes(format: Format, width: u32, height: u32, bytes: &[u8]) -> bool
 }
 
 impl Decoder for RawDecoder {
-    ghost use Rattle.ff_node_codec.specs.codecs.Coders.{raw_head};
+    ghost use Rattle.ff_node_codec.specs.laws.codecs.Coders.{raw_head};
 
     ghost head = { raw_head };
 

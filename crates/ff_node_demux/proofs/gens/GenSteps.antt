@@ -14,13 +14,13 @@ use Rattle.ff_stream.specs.Items.{Closes, with_item}
 use Rattle.ff_stream.specs.Lanes.{AreInShape, IsItemFor, FitsFrames}
 use Rattle.ff_stream.specs.Ports.{stream_at}
 use Rattle.ff_stream.specs.Within.{before_pass, passes_limits}
-use Rattle.ff_net.specs.Laws.{IsPending}
+use Rattle.ff_net.specs.laws.Laws.{IsPending}
 use Rattle.ff_net.specs.Ways.{Flow}
 use Rattle.ff_net.specs.Pasts.{Past, start, due, gave_item, was_asked, was_allowed, was_stopped, was_told}
 use Rattle.ff_node_demux.specs.Exiting.{Exits}
-use Rattle.ff_node_demux.specs.Sources.{source_gives, source_ends, source_waits, source_over}
+use Rattle.ff_node_demux.specs.laws.SourceLaws.{source_gives, source_ends, source_waits, source_over}
 use Rattle.ff_node_demux.specs.gens.Generating.{limited_frames, are_too_long, frames_task, GenStands}
-use Rattle.ff_node_demux.specs.gens.GenLaws.{frames_closed}
+use Rattle.ff_node_demux.specs.laws.gens.GenLaws.{frames_closed}
 use Rattle.ff_node_demux.proofs.LimitSteps.{before_get, before_stop, before_all}
 
 on_port : (P : ℕ → Type 0) (port : ℕ) → port < 1 → P 0 → P port

@@ -2,10 +2,10 @@
 ghost use Rattle.std.specs.Prelude.{◌≡◌, ◌∷◌, [], Some, None};
 ghost use Rattle.ff_stream.specs.declared.item.Lane.TheVariants.{Frames};
 ghost use Rattle.ff_net.specs.Pasts.{start};
-ghost use Rattle.ff_source.specs.Left.{left as left_of};
+ghost use Rattle.ff_source.specs.laws.Left.{left as left_of};
 ghost use Rattle.ff_source.specs.Sources.{CanGive, head_of};
 ghost use Rattle.ff_node_demux.specs.gens.Generating.{gen_task};
-ghost use Rattle.ff_node_demux.specs.gens.Generators.{gen_out_lanes, gen_source, gen_fault, gen_stands};
+ghost use Rattle.ff_node_demux.specs.laws.gens.Generators.{gen_out_lanes, gen_source, gen_fault, gen_stands};
 
 use crate::gens::generator::Gen;
 use ff_source::{GenSource, Made, sources_give_valid_streams};

@@ -19,7 +19,7 @@ pub trait FrameSource {
 }
 
 impl FrameSource for GenSource {
-    ghost use Rattle.ff_source.specs.Left.{left as left_of};
+    ghost use Rattle.ff_source.specs.laws.Left.{left as left_of};
 
     ghost left = { left_of };
 

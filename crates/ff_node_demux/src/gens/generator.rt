@@ -36,7 +36,7 @@ impl<G: FrameSource + Drop> Gen<G> {
     ghost use Rattle.ff_stream.specs.Ports.{stream_at};
     ghost use Rattle.ff_net.specs.Pasts.{Past, start};
     ghost use Rattle.ff_node_demux.specs.gens.Generating.{frames_task};
-    ghost use Rattle.ff_node_demux.specs.gens.Generators.{gen_out_lanes, gen_source, gen_fault, gen_tried, gen_stands};
+    ghost use Rattle.ff_node_demux.specs.laws.gens.Generators.{gen_out_lanes, gen_source, gen_fault, gen_tried, gen_stands};
 
     /// Over what gives frames in shape for this head, the source of this number.
     pub fn new(number: u32, head: StreamHead, frames: G) -> Gen<G>
@@ -84,11 +84,11 @@ impl<G: FrameSource + Drop> Machine for Gen<G> {
     ghost use Rattle.ff_stream.specs.Stream.{still_open, LiesBelow};
     ghost use Rattle.ff_stream.specs.Items.{with_item};
     ghost use Rattle.ff_stream.specs.Ports.{stream_at};
-    ghost use Rattle.ff_net.specs.Laws.{FaultStep, GoesOn, IsReading};
+    ghost use Rattle.ff_net.specs.laws.Laws.{FaultStep, GoesOn, IsReading};
     ghost use Rattle.ff_net.specs.Pasts.{Past, IsIn, gave_item, was_allowed, was_asked, was_stopped, was_told, due};
-    ghost use Rattle.ff_net.specs.Views.{IsSameShape};
-    ghost use Rattle.ff_node_demux.specs.gens.Generators.{gen_source, gen_fault, gen_holds, gen_stands};
-    ghost use Rattle.ff_node_demux.specs.gens.GenViews.{gen_view, gen_laws};
+    ghost use Rattle.ff_net.specs.laws.Views.{IsSameShape};
+    ghost use Rattle.ff_node_demux.specs.laws.gens.Generators.{gen_source, gen_fault, gen_holds, gen_stands};
+    ghost use Rattle.ff_node_demux.specs.laws.gens.GenViews.{gen_view, gen_laws};
 
     ghost view = { gen_view G.left };
 

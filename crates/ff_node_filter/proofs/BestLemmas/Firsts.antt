@@ -7,11 +7,11 @@ use Rattle.std.specs.Ordering.{is_lt, ordering_reverse}
 use Rattle.std.specs.declared.cmp.Ordering.{Ordering}
 use Rattle.std.specs.declared.cmp.Ordering.TheVariants.{Less, Equal, Greater}
 use Rattle.ff_time.specs.Fraction.{Fraction, IsBase, IsBase-unit}
-use Rattle.ff_time.specs.Laws.{Moment, moment_cmp}
+use Rattle.ff_time.specs.laws.Laws.{Moment, moment_cmp}
 use Rattle.ff_time.proofs.TimeOrder.{moment_cmp_total}
 use Rattle.ff_net.specs.Ways.{Flow}
 use Rattle.ff_node_filter.specs.best.Bests.{base_at, end_in, closed_in, is_earlier, earlier_of, earliest_to, best_of}
-use Rattle.ff_node_filter.specs.best.Laws.{ends_before, IsOpen, IsFirst}
+use Rattle.ff_node_filter.specs.laws.best.Laws.{ends_before, IsOpen, IsFirst}
 
 less_is : (o : Ordering) → is_lt o ≡ true → o ≡ Less
 less_is Less e = refl

@@ -3,10 +3,10 @@ use Rattle.std.proofs.Common.{◌≡◌, List, length, ap, sym, ◌∙◌, subst
 use Rattle.ff_stream.specs.declared.item.Lane.{Lane}
 use Rattle.ff_frame.specs.declared.event.Event.{Event}
 use Rattle.ff_net.specs.Pasts.{Task, Past, Feed}
-use Rattle.ff_net.specs.Views.{View, IsSameShape}
+use Rattle.ff_net.specs.laws.Views.{View, IsSameShape}
 use Rattle.ff_node_filter.specs.declared.best.lead.Lead.{Lead}
-use Rattle.ff_node_filter.specs.best.Leads.{Tells}
-use Rattle.ff_node_filter.specs.best.Views.{quiet, LeadStands}
+use Rattle.ff_node_filter.specs.laws.best.Leads.{Tells}
+use Rattle.ff_node_filter.specs.laws.best.Views.{quiet, LeadStands}
 
 -- the inputs are as many as before
 pub same_count : (v w : View) (lead : Lead) (past : Past) (s : LeadStands v lead past) → IsSameShape v w → length s.bases ≡ length w.in_lanes

@@ -10,7 +10,7 @@ use Rattle.ff_frame.specs.declared.event.Event.TheVariants.{Best}
 use Rattle.ff_net.specs.Ways.{Flow, with_item_at}
 use Rattle.ff_net.specs.Pasts.{Feed}
 use Rattle.ff_node_filter.specs.best.Bests.{base_at, end_in, closed_in, earlier_of, earliest_to, best_of, best_on, streams_on, turned, events_on, best_after, best_events}
-use Rattle.ff_node_filter.specs.best.Laws.{IsBestOf, AreTurns, last_named}
+use Rattle.ff_node_filter.specs.laws.best.Laws.{IsBestOf, AreTurns, last_named}
 use Rattle.ff_node_filter.proofs.BestLemmas.Noting.{events_on-append}
 
 all_none : (P : Event → Type 0) → All P []

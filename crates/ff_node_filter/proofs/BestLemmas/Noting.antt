@@ -15,8 +15,8 @@ use Rattle.ff_node_filter.specs.declared.best.input.Input.{Input}
 use Rattle.ff_node_filter.specs.declared.best.lead.Lead.{Lead}
 use Rattle.ff_node_filter.specs.best.Bests.{last_end, end_in, closed_in, is_over, base_at, earliest_to, best_of, streams_on, best_on, events_on, turned, best_after, best_events}
 use Rattle.ff_node_filter.specs.best.Inputs.{bases_of, end_at, closed_at, kept_to, Keeps}
-use Rattle.ff_node_filter.specs.best.Leads.{Tells, IsSame}
-use Rattle.ff_node_filter.specs.best.Ends.{ends_at, end_behind, closed_behind}
+use Rattle.ff_node_filter.specs.laws.best.Leads.{Tells, IsSame}
+use Rattle.ff_node_filter.specs.laws.best.Ends.{ends_at, end_behind, closed_behind}
 use Rattle.ff_node_filter.proofs.BestLemmas.Placing.{bases_long}
 
 pub streams_on-more : (ss : List Flow) (fs : List Feed) (f : Feed) → streams_on ss (fs ++ f ∷ []) ≡ with_item_at (streams_on ss fs) f.port f.item

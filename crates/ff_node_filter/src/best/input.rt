@@ -3,7 +3,7 @@ ghost use Rattle.std.specs.Prelude.{◌≡◌, ◌<◌, ◌/◌, ◌^◌, pos, �
 ghost use Rattle.std.specs.Option.{ForSome};
 ghost use Rattle.ff_frame.specs.Heads.{base_of_head};
 ghost use Rattle.ff_node_filter.specs.best.Bests.{is_earlier as is_earlier_of};
-ghost use Rattle.ff_node_filter.specs.best.Ends.{IsNear, ends_at, end_behind, closed_behind};
+ghost use Rattle.ff_node_filter.specs.laws.best.Ends.{IsNear, ends_at, end_behind, closed_behind};
 
 use ff_frame::StreamHead;
 use ff_stream::{Item, shared, time_base};

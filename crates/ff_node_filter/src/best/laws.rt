@@ -6,8 +6,8 @@ ghost use Rattle.ff_frame.specs.declared.event.Event.TheVariants.{Best};
 ghost use Rattle.ff_net.specs.Ways.{Flow};
 ghost use Rattle.ff_net.specs.Pasts.{Feed};
 ghost use Rattle.ff_node_filter.specs.best.Bests.{best_of, best_after, best_events};
-ghost use Rattle.ff_node_filter.specs.best.Examples.{parts_of_a_second, two_bases, three_bases, up_to_a_tie, up_to_the_end, one_each, ends, shows};
-ghost use Rattle.ff_node_filter.specs.best.Laws.{IsOpen, IsFirst, IsBestOf, AreTurns, last_named};
+ghost use Rattle.ff_node_filter.specs.laws.best.Examples.{parts_of_a_second, two_bases, three_bases, up_to_a_tie, up_to_the_end, one_each, ends, shows};
+ghost use Rattle.ff_node_filter.specs.laws.best.Laws.{IsOpen, IsFirst, IsBestOf, AreTurns, last_named};
 
 /// Where an input hasn't closed, the best one is the first of those that haven't. None of them ends before it, and
 /// each of a lower number ends after it. There is one such input. Where all have closed the best one stays.

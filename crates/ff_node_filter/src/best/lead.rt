@@ -8,7 +8,7 @@ ghost use Rattle.ff_net.specs.Pasts.{Feed};
 ghost use Rattle.ff_net.specs.Ways.{Flow, with_item_at};
 ghost use Rattle.ff_node_filter.specs.best.Bests.{turned};
 ghost use Rattle.ff_node_filter.specs.best.Inputs.{bases_of, bases_of_heads, kept_to, Keeps};
-ghost use Rattle.ff_node_filter.specs.best.Ends.{IsNear, ends_at};
+ghost use Rattle.ff_node_filter.specs.laws.best.Ends.{IsNear, ends_at};
 
 use crate::best::choosing::earliest;
 use crate::best::input::Input;
@@ -41,7 +41,7 @@ fn inputs_of(alloc: Global, heads: &[StreamHead]) -> Result<Vec<Input>, AllocErr
 }
 
 impl Lead {
-    ghost use Rattle.ff_node_filter.specs.best.Leads.{Tells, IsSame};
+    ghost use Rattle.ff_node_filter.specs.laws.best.Leads.{Tells, IsSame};
 
     /// Nothing came yet: input 0 is the best one.
     pub(crate) fn new(alloc: Global, graph: u32, heads: &[StreamHead]) -> Result<Lead, AllocError>

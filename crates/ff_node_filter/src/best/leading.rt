@@ -2,10 +2,10 @@
 ghost use Rattle.std.specs.Prelude.{◌≡◌, ◌≤◌, ◌^◌, map, length, None, IfOk, IfErr};
 ghost use Rattle.ff_stream.specs.declared.item.Lane.TheVariants.{Frames};
 ghost use Rattle.ff_net.specs.Pasts.{Task, Past, start, no_events};
-ghost use Rattle.ff_net.specs.Views.{IsSameShape};
+ghost use Rattle.ff_net.specs.laws.Views.{IsSameShape};
 ghost use Rattle.ff_node_filter.specs.best.Bests.{best_events};
 ghost use Rattle.ff_node_filter.specs.best.Inputs.{bases_of_heads};
-ghost use Rattle.ff_node_filter.specs.best.Laws.{last_named};
+ghost use Rattle.ff_node_filter.specs.laws.best.Laws.{last_named};
 
 use crate::best::input::end_of_item;
 use crate::best::lead::Lead;
@@ -35,7 +35,7 @@ fn told_after(told: u32, event: Option<Event>) -> u32 {
 }
 
 impl<M: Machine + Drop> Leading<M> {
-    ghost use Rattle.ff_node_filter.specs.best.Leaders.{leading_shown};
+    ghost use Rattle.ff_node_filter.specs.laws.best.Leaders.{leading_shown};
 
     /// A machine that is no source and to which nothing was done, as that of the graph of this number. Its inputs
     /// carry frames of these heads. For want of memory it comes back.
@@ -80,8 +80,8 @@ impl<M: Machine + Drop> Leading<M> {
 }
 
 impl<M: Machine + Drop> Machine for Leading<M> {
-    ghost use Rattle.ff_node_filter.specs.best.Leaders.{leading_shown};
-    ghost use Rattle.ff_node_filter.specs.best.LeadLaws.{leading_laws};
+    ghost use Rattle.ff_node_filter.specs.laws.best.Leaders.{leading_shown};
+    ghost use Rattle.ff_node_filter.specs.laws.best.LeadLaws.{leading_laws};
 
     ghost view = { leading_shown };
 

@@ -17,8 +17,8 @@ use Rattle.ff_filter.specs.Views.{closes}
 use Rattle.ff_node_mux.specs.declared.merge.queue.PacketQueue.{PacketQueue}
 use Rattle.ff_node_mux.specs.merge.Merges.{Placed, is_some, packets_in, merge_to, decided, interleaved}
 use Rattle.ff_node_mux.specs.merge.Queues.{Waiting, waiting_of, waiting_at, came, all_came, base_at, bases_of, merging, IsNew, Same, Fed, Gave, Waits}
-use Rattle.ff_node_mux.specs.merge.Fronts.{head_of, first_to, base_of, waits_of, next_of, AreNew, known_to}
-use Rattle.ff_node_mux.specs.merge.Fronting.{tail_of, tail_if, without, nexts, Leads, IsLed, led, first-same, interleaved-step, interleaved-unknown}
+use Rattle.ff_node_mux.specs.laws.merge.Fronts.{head_of, first_to, base_of, waits_of, next_of, AreNew, known_to}
+use Rattle.ff_node_mux.specs.laws.merge.Fronting.{tail_of, tail_if, without, nexts, Leads, IsLed, led, first-same, interleaved-step, interleaved-unknown}
 use Rattle.ff_node_mux.proofs.MergeLemmas.Placing.{waiting_there, set_here, set_others, set_bases, long_bases}
 
 pub same_rest : (m n : ℕ) (bs cs : List Fraction) (rs ss : ℕ → Stream Pkt) → m ≡ n → bs ≡ cs → ((p : ℕ) → rs p ≡ ss p)

@@ -9,7 +9,7 @@ use Rattle.ff_filter.specs.Made.{mark_after}
 use Rattle.ff_node_mux.specs.declared.merge.queue.PacketQueue.{PacketQueue}
 use Rattle.ff_node_mux.specs.merge.Merges.{is_sooner, is_some}
 use Rattle.ff_node_mux.specs.merge.Queues.{Waiting, no_packets, waiting_of, waiting_at, bases_of}
-use Rattle.ff_node_mux.specs.merge.Fronts.{head_of, sooner_of, first_to, base_of, waits_of, next_of, IsFront, IsFirst, TellsSooner, AreNew, known_to}
+use Rattle.ff_node_mux.specs.laws.merge.Fronts.{head_of, sooner_of, first_to, base_of, waits_of, next_of, IsFront, IsFirst, TellsSooner, AreNew, known_to}
 
 pub waiting_there : (qs : List PacketQueue) (p : ℕ) (q : PacketQueue) → p < length qs → q ≡ get_or qs p q → waiting_at qs p ≡ waiting_of q
 waiting_there [] p q lt e = absurd (omega (arith, lt))

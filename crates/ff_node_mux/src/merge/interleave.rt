@@ -1,7 +1,7 @@
 //! The merge of several streams of packets.
 ghost use Rattle.std.specs.Prelude.{◌≡◌, ◌<◌, ◌^◌, ◌+◌, length, false, true, IfOk, OnOk, OnErr, IfErr, Ok, Some, None};
 ghost use Rattle.ff_node_mux.specs.merge.Merges.{Placed};
-ghost use Rattle.ff_node_mux.specs.merge.Fronts.{IsFirst, known_to};
+ghost use Rattle.ff_node_mux.specs.laws.merge.Fronts.{IsFirst, known_to};
 ghost use Rattle.ff_node_mux.specs.merge.Queues.{merging, IsNew, Same, Fed, Gave, Waits};
 
 use crate::merge::queue::PacketQueue;

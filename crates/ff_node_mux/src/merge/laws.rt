@@ -5,7 +5,7 @@ ghost use Rattle.ff_time.specs.Fraction.{Fraction};
 ghost use Rattle.ff_frame.specs.declared.packet.Pkt.{Pkt as APkt};
 ghost use Rattle.ff_stream.specs.Stream.{Stream, whole};
 ghost use Rattle.ff_node_mux.specs.merge.Merges.{placed, merge_to, interleaved};
-ghost use Rattle.ff_node_mux.specs.merge.Orders.{InOrder, of_stream, AllBelow};
+ghost use Rattle.ff_node_mux.specs.laws.merge.Orders.{InOrder, of_stream, AllBelow};
 
 /// The packets of each stream stand in the merge, all of them, in their own order.
 pub fn a_merge_has_each_stream()

@@ -5,7 +5,7 @@ ghost use Rattle.ff_filter.specs.Joins.{Flow, before};
 ghost use Rattle.ff_filter.specs.Made.{is_over, mark_after};
 ghost use Rattle.ff_filter.specs.Views.{closes};
 ghost use Rattle.ff_node_mux.specs.merge.Merges.{is_some};
-ghost use Rattle.ff_node_mux.specs.merge.Fronts.{TellsSooner};
+ghost use Rattle.ff_node_mux.specs.laws.merge.Fronts.{TellsSooner};
 ghost use Rattle.ff_node_mux.specs.merge.Queues.{came, waiting_of};
 ghost use Rattle.ff_stream.specs.Stream.{is_whole};
 

@@ -6,7 +6,7 @@ use Rattle.std.proofs.Math.Nat.{one-le-mul, div-mul-le_self, mul-div_cancel, mul
 use Rattle.std.proofs.lemmas.Bool.Decides.{nat_tests}
 use Rattle.std.proofs.lemmas.List.{length-take, take-take}
 use Rattle.ff_frame.specs.Codecs.{sample_bytes}
-use Rattle.ff_frame.specs.PcmLaws.{few_sample_bytes}
+use Rattle.ff_frame.specs.laws.PcmLaws.{few_sample_bytes}
 use Rattle.ff_frame.specs.declared.head.Codec.{Codec}
 use Rattle.ff_frame.specs.declared.head.StreamHead.{StreamHead}
 use Rattle.ff_frame.specs.declared.head.StreamHead.TheVariants.{Audio, Video}

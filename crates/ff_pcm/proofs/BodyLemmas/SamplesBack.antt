@@ -12,7 +12,7 @@ use Rattle.std.proofs.lemmas.List.Folds.{flat_map-map}
 use Rattle.ff_time.specs.Fraction.{Fraction}
 use Rattle.ff_frame.specs.Audio.{FitsBits}
 use Rattle.ff_frame.specs.Codecs.{IsPcmCodec, IsPcmCoding, coding_of, coding_bytes, depth_bytes, sample_bytes}
-use Rattle.ff_frame.specs.PcmLaws.{few_sample_bytes}
+use Rattle.ff_frame.specs.laws.PcmLaws.{few_sample_bytes}
 use Rattle.ff_frame.specs.declared.audio.AFrame.{AFrame}
 use Rattle.ff_frame.specs.declared.coding.Coding.{Coding}
 use Rattle.ff_frame.specs.declared.coding.Coding.TheVariants.{Pcm, Flac, RawVideo}
@@ -29,7 +29,7 @@ use Rattle.ff_pcm.proofs.DepthLaws.{all_shifted_fit}
 use Rattle.ff_pcm.proofs.SampleLaws.{stand_samples}
 use Rattle.ff_reader.proofs.AgreeLaws.{bool_cases}
 use Rattle.ff_pcm.specs.body.Packets.{IsPcmSound, IsStream, block_of, frames as count_frames, packet_at, packet_count, packets_of}
-use Rattle.ff_pcm.specs.body.Written.{Container, IsFrame, samples_at, body_at, SamplesComeBack, BodiesComeBack}
+use Rattle.ff_pcm.specs.laws.body.Written.{Container, IsFrame, samples_at, body_at, SamplesComeBack, BodiesComeBack}
 
 -- ---- the bytes of a part of some samples are that part of their bytes
 

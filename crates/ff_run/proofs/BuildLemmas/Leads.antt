@@ -1,9 +1,9 @@
 -- What a machine that tells its best input shows, and heads by open output pads.
 use Rattle.std.proofs.Common.{◌≡◌, List, [], ◌∷◌, map, refl, ap, subst, sym}
-use Rattle.ff_net.specs.Views.{View}
+use Rattle.ff_net.specs.laws.Views.{View}
 use Rattle.ff_net.specs.declared.machine.Machine.{Ghosts as MachineGhosts}
 use Rattle.ff_node_filter.specs.declared.best.leading.Leading.{Leading}
-use Rattle.ff_node_filter.specs.best.Leaders.{leading_shown}
+use Rattle.ff_node_filter.specs.laws.best.Leaders.{leading_shown}
 
 -- the same machine shows the same
 pub shown_as : {M : Type 0} {G : MachineGhosts M} (l k : Leading M G) → l ≡ k → (P : View → Type 0) → P (leading_shown k) → P (leading_shown l)

@@ -8,7 +8,7 @@ use Rattle.ff_frame.specs.declared.head.StreamHead.{StreamHead}
 use Rattle.ff_frame.specs.declared.totals.Totals.{Totals}
 use Rattle.ff_stream.specs.Ports.{stream_at}
 use Rattle.ff_node_mux.specs.merge.Queues.{base_at}
-use Rattle.ff_node_mux.specs.Mixing.{bases_long, mixed_alike, totals_alike}
+use Rattle.ff_node_mux.specs.laws.Mixing.{bases_long, mixed_alike, totals_alike}
 use Rattle.ff_node_mux.specs.Muxing.{file, file_for, head_bases, mixed, text_for, totals_in, unpatched}
 use Rattle.ff_node_mux.specs.StreamEvents.{events_of, is_event_of}
 use Rattle.ff_net.specs.Ways.{Flow}

@@ -39,20 +39,20 @@ pub enum Part<Src: Source + Drop, Snk: Sink + Drop> {
 }
 
 impl<Src: Source + Drop, Snk: Sink + Drop> Machine for Part<Src, Snk> {
-    ghost use Rattle.ff_run.specs.build.PartViews.{part_view};
+    ghost use Rattle.ff_run.specs.laws.build.PartViews.{part_view};
     ghost use Rattle.ff_run.specs.declared.build.part.Part.TheVariants as part;
-    ghost use Rattle.ff_node_codec.specs.codecs.AnyCoders.{any_head, any_frame, any_serves, any_coded, any_packet};
+    ghost use Rattle.ff_node_codec.specs.laws.codecs.AnyCoders.{any_head, any_frame, any_serves, any_coded, any_packet};
     ghost use Rattle.ff_input.specs.Formats.{any_owes};
-    ghost use Rattle.ff_node_demux.specs.DemuxViews.{demux_laws};
-    ghost use Rattle.ff_node_demux.specs.gens.GenViews.{gen_laws};
-    ghost use Rattle.ff_source.specs.Left.{left as frames_left};
-    ghost use Rattle.ff_node_codec.specs.Kinds.{dec_laws, enc_laws};
-    ghost use Rattle.ff_node_flac.specs.Machines as flac;
-    ghost use Rattle.ff_node_mux.specs.Kinds.{mux_laws};
-    ghost use Rattle.ff_node_filter.specs.best.LeadLaws.{leading_laws};
-    ghost use Rattle.ff_graph.specs.composed.Machines.{graph_laws};
+    ghost use Rattle.ff_node_demux.specs.laws.DemuxViews.{demux_laws};
+    ghost use Rattle.ff_node_demux.specs.laws.gens.GenViews.{gen_laws};
+    ghost use Rattle.ff_source.specs.laws.Left.{left as frames_left};
+    ghost use Rattle.ff_node_codec.specs.laws.Kinds.{dec_laws, enc_laws};
+    ghost use Rattle.ff_node_flac.specs.laws.Machines as flac;
+    ghost use Rattle.ff_node_mux.specs.laws.Kinds.{mux_laws};
+    ghost use Rattle.ff_node_filter.specs.laws.best.LeadLaws.{leading_laws};
+    ghost use Rattle.ff_graph.specs.laws.composed.Machines.{graph_laws};
     ghost use Rattle.ff_filters.specs.contracts.any.AnyFilterFilter.TheImpl.Laws.{grows-law, quiet-law, spent_only-law};
-    ghost use Rattle.ff_node_sync.specs.Joints.{joint_laws};
+    ghost use Rattle.ff_node_sync.specs.laws.Joints.{joint_laws};
 
     ghost view = { part_view Src.left Src.name Src.faults };
 

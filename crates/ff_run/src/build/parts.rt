@@ -86,15 +86,15 @@ fn share_frames<Src: Source + Drop>(
 pub struct Parts;
 
 impl<Src: Source + Send + Drop, Snk: Sink + Send + Drop> Kinds<Src, Snk, Part<Src, Snk>> for Parts {
-    ghost use Rattle.ff_run.specs.build.Events.{parts_tell_of_themselves};
-    ghost use Rattle.ff_run.specs.build.Exits.{parts_exit};
-    ghost use Rattle.ff_run.specs.build.Graphs.{graphs_are_had};
-    ghost use Rattle.ff_run.specs.build.Held.{parts_are_held};
+    ghost use Rattle.ff_run.specs.laws.build.Events.{parts_tell_of_themselves};
+    ghost use Rattle.ff_run.specs.laws.build.Exits.{parts_exit};
+    ghost use Rattle.ff_run.specs.laws.build.Graphs.{graphs_are_had};
+    ghost use Rattle.ff_run.specs.laws.build.Held.{parts_are_held};
     ghost use Rattle.ff_run.specs.build.Parts.{all_kinds};
-    ghost use Rattle.ff_run.specs.build.Sources.{sources_are_had};
+    ghost use Rattle.ff_run.specs.laws.build.Sources.{sources_are_had};
     ghost use Rattle.ff_plan_rules.proofs.Holds.{are_rules};
     ghost use Rattle.ff_plan_rules.proofs.Keeping.{keep_heads};
-    ghost use Rattle.ff_run.specs.build.Takes.{heads_decode, heads_fit, heads_encode, heads_are_written};
+    ghost use Rattle.ff_run.specs.laws.build.Takes.{heads_decode, heads_fit, heads_encode, heads_are_written};
 
     type Head = InputHead;
 

@@ -29,7 +29,7 @@ impl<M: Machine + Drop> Through<M> {
 }
 
 impl<M: Machine + Drop> Machine for Through<M> {
-    ghost use Rattle.ff_run.specs.build.Throughs.{through_shown};
+    ghost use Rattle.ff_run.specs.laws.build.Throughs.{through_shown};
 
     ghost view = { through_shown };
 

@@ -2,7 +2,7 @@
 ghost use Rattle.std.specs.Prelude.{◌≡◌, ◌≤◌, false, Some, None, All, length, IfOk, OnOk};
 ghost use Rattle.ff_frame.specs.Audio.{FitsBits, IsAudio};
 ghost use Rattle.ff_flac_enc.specs.Gathered.{format_of};
-ghost use Rattle.ff_flac_enc.specs.Cuts.{IsLike, has_ended, format_in};
+ghost use Rattle.ff_flac_enc.specs.laws.Cuts.{IsLike, has_ended, format_in};
 
 use ff_flac_enc::Blocks;
 use ff_frame::{AFrame, Samples};

@@ -7,20 +7,20 @@ use Rattle.ff_stream.specs.Stream.{whole_stream}
 use Rattle.ff_time.specs.Fraction.{Fraction}
 use Rattle.ff_test_machines.specs.Packets.{IsWhole, byte_lane, byte_packets}
 use Rattle.ff_test_machines.proofs.Stream.{valid}
-use Rattle.ff_link.specs.Views.{Link, Sending, Receiving}
+use Rattle.ff_link.specs.laws.Views.{Link, Sending, Receiving}
 use Rattle.ff_net.specs.declared.node.Node.{Node}
 use Rattle.ff_net.specs.declared.wires.Wires.{Wires}
 use Rattle.ff_net.specs.Pasts.{Task, IsIn, start}
 use Rattle.ff_net.specs.Ways.{lane_at}
-use Rattle.ff_net.specs.Worlds.{Stand, fresh, lanes_of}
-use Rattle.ff_net.specs.Nodes.{NodeStands, HaveLanes, IsOf, in_wires_of, out_wires_of, machine_of}
-use Rattle.ff_sched.specs.Passing.{Scheduler}
+use Rattle.ff_net.specs.laws.Worlds.{Stand, fresh, lanes_of}
+use Rattle.ff_net.specs.laws.Nodes.{NodeStands, HaveLanes, IsOf, in_wires_of, out_wires_of, machine_of}
+use Rattle.ff_sched.specs.laws.Passing.{Scheduler}
 use Rattle.ff_net_threads.specs.declared.links.ends.InEnd.{InEnd}
 use Rattle.ff_net_threads.specs.declared.links.ends.OutEnd.{OutEnd}
 use Rattle.ff_net_threads.specs.declared.links.linked.Linked.{Linked}
-use Rattle.ff_net_threads.specs.links.Ends.{in_link, out_link, in_end_at, new_in, new_out}
-use Rattle.ff_net_threads.specs.links.Nodes.{Behind, IsBeginning, node_of, lanes_on, ins_of, outs_of}
-use Rattle.ff_net_threads.specs.links.Runs.{AllLawful, AllOf, AllRan}
+use Rattle.ff_net_threads.specs.laws.links.Ends.{in_link, out_link, in_end_at, new_in, new_out}
+use Rattle.ff_net_threads.specs.laws.links.Nodes.{Behind, IsBeginning, node_of, lanes_on, ins_of, outs_of}
+use Rattle.ff_net_threads.specs.laws.links.Runs.{AllLawful, AllOf, AllRan}
 use Rattle.ff_net_threads.proofs.LinksLemmas.After.{linked_after}
 use Rattle.ff_test_machines.specs.declared.plain.Plain.{Plain}
 use Rattle.ff_test_machines.specs.declared.plain.Plain.TheVariants.{Source, Relay}

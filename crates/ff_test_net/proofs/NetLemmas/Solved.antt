@@ -7,15 +7,15 @@ use Rattle.ff_net.specs.declared.node.Node.{Node}
 use Rattle.ff_net.specs.declared.ports.InPort.{InPort}
 use Rattle.ff_net.specs.Nets.{Part, IsUpward, solve}
 use Rattle.ff_net.specs.Pasts.{Task, IsIn}
-use Rattle.ff_net.specs.Ports.{in_at, in_wires}
-use Rattle.ff_net.specs.Serial.{Moment, parts_of}
-use Rattle.ff_net.specs.Theorem.{AllFare, MeetsSolution}
-use Rattle.ff_net.specs.Worlds.{Wire}
+use Rattle.ff_net.specs.laws.Ports.{in_at, in_wires}
+use Rattle.ff_net.specs.laws.Serial.{Moment, parts_of}
+use Rattle.ff_net.specs.laws.Theorem.{AllFare, MeetsSolution}
+use Rattle.ff_net.specs.laws.Worlds.{Wire}
 use Rattle.ff_net.proofs.Moments.{fault_self}
-use Rattle.ff_net.specs.Nodes.{IsSound, machine_of, outputs_of, in_wires_of, out_wires_of}
+use Rattle.ff_net.specs.laws.Nodes.{IsSound, machine_of, outputs_of, in_wires_of, out_wires_of}
 use Rattle.ff_net_threads.specs.declared.links.linked.Linked.{Linked}
-use Rattle.ff_net_threads.specs.links.Nodes.{node_of}
-use Rattle.ff_net_threads.specs.links.Settling.{AllBehind, AllEnded, AreMeeting, IsInOf, IsOutOf, nodes_of}
+use Rattle.ff_net_threads.specs.laws.links.Nodes.{node_of}
+use Rattle.ff_net_threads.specs.laws.links.Settling.{AllBehind, AllEnded, AreMeeting, IsInOf, IsOutOf, nodes_of}
 use Rattle.ff_net_threads.proofs.LinksLemmas.Linking.{count_map}
 use Rattle.ff_test_machines.specs.declared.plain.Plain.{Plain}
 use Rattle.ff_test_machines.specs.Plains.{plain_view}

@@ -4,14 +4,14 @@ use Rattle.std.proofs.lemmas.List.{length-map}
 use Rattle.ff_stream.specs.declared.item.Lane.{Lane}
 use Rattle.ff_stream.specs.declared.edges.edge.Edge.{Edge}
 use Rattle.ff_stream.specs.edges.Ports.{edge_to, edge_from, at_ports}
-use Rattle.ff_net.specs.Views.{View}
+use Rattle.ff_net.specs.laws.Views.{View}
 use Rattle.ff_net.specs.Ways.{lane_at}
 use Rattle.ff_test_machines.specs.declared.plain.Plain.{Plain}
 use Rattle.ff_test_machines.specs.Plains.{IsBelow, plain_view}
 use Rattle.ff_sched.specs.declared.routes.Routes.{Routes}
 use Rattle.ff_net_threads.specs.network.Fits.{Ports, AreFit, edge_lanes}
-use Rattle.ff_net_threads.specs.network.Networks.{Fits, lanes_at, ports_of}
-use Rattle.ff_net_threads.specs.network.Scheduling.{AllRouted}
+use Rattle.ff_net_threads.specs.laws.network.Networks.{Fits, lanes_at, ports_of}
+use Rattle.ff_net_threads.specs.laws.network.Scheduling.{AllRouted}
 use Rattle.ff_test_net.specs.network.Five.{HasPorts, IsOneSource, AreFive, five_ins, five_outs, five_edges}
 
 -- ports by lists of lanes

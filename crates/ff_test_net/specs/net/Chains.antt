@@ -4,16 +4,16 @@ use Rattle.ff_stream.specs.declared.item.Lane.{Lane}
 use Rattle.ff_stream.specs.Ports.{stream_at}
 use Rattle.ff_stream.specs.Stream.{whole_stream}
 use Rattle.ff_test_machines.specs.Packets.{byte_packets}
-use Rattle.ff_link.specs.Views.{Link, Sending, Receiving}
+use Rattle.ff_link.specs.laws.Views.{Link, Sending, Receiving}
 use Rattle.ff_net.specs.Pasts.{Past, Task, IsIn, start}
-use Rattle.ff_net.specs.Nodes.{AreApart, IsSound, in_wires_of, out_wires_of}
+use Rattle.ff_net.specs.laws.Nodes.{AreApart, IsSound, in_wires_of, out_wires_of}
 use Rattle.ff_net.specs.Ways.{lane_at}
 use Rattle.ff_net_threads.specs.declared.links.ends.InEnd.{InEnd}
 use Rattle.ff_net_threads.specs.declared.links.ends.OutEnd.{OutEnd}
 use Rattle.ff_net_threads.specs.declared.links.linked.Linked.{Linked}
-use Rattle.ff_net_threads.specs.links.Ends.{in_end_at, new_in, new_out}
-use Rattle.ff_net_threads.specs.links.Nodes.{Behind, in_ends_wires, out_ends_wires, node_of, lanes_on, ins_of, outs_of}
-use Rattle.ff_net_threads.specs.links.Settling.{AreLinked}
+use Rattle.ff_net_threads.specs.laws.links.Ends.{in_end_at, new_in, new_out}
+use Rattle.ff_net_threads.specs.laws.links.Nodes.{Behind, in_ends_wires, out_ends_wires, node_of, lanes_on, ins_of, outs_of}
+use Rattle.ff_net_threads.specs.laws.links.Settling.{AreLinked}
 use Rattle.ff_test_machines.specs.declared.plain.Plain.{Plain}
 use Rattle.ff_test_machines.specs.Relays.{stopped_at}
 use Rattle.ff_test_machines.specs.Starts.{list_task, relay_task}

@@ -1,6 +1,6 @@
 -- Passes of a cell with one source.
 use Rattle.std.specs.Prelude.{◌≡◌, ◌<◌, []}
-use Rattle.ff_sched.specs.Passing.{Passing, Scheduler}
+use Rattle.ff_sched.specs.laws.Passing.{Passing, Scheduler}
 
 -- a pass of this cell that has added nothing; the cell has a source
 pub record IsSeat (cell : Scheduler) (pass : Passing) : Type 0 where

@@ -5,7 +5,7 @@ use Rattle.ff_stream.specs.declared.edges.edge.Edge.{Edge}
 use Rattle.ff_test_machines.specs.declared.plain.Plain.{Plain}
 use Rattle.ff_test_machines.specs.Plains.{IsBelow, plain_view}
 use Rattle.ff_sched.specs.declared.routes.Routes.{Routes}
-use Rattle.ff_sched.specs.Routes.{AreRoutes}
+use Rattle.ff_sched.specs.laws.Routes.{AreRoutes}
 
 -- the machine has so many inputs and outputs, all of this lane
 abbrev pub HasPorts : Lane → ℕ → ℕ → Plain → Type 0

@@ -1,7 +1,7 @@
 -- A cell of two streams on two sources, and its passes.
 use Rattle.std.specs.Prelude.{◌≡◌, length}
 use Rattle.ff_sched.specs.declared.routes.Routes.{Routes}
-use Rattle.ff_sched.specs.Passing.{Scheduler, Passing}
+use Rattle.ff_sched.specs.laws.Passing.{Scheduler, Passing}
 
 abbrev pub IsTwo : Routes → Type 0
 IsTwo r = (r.sources ≡ 2) × (length r.streams ≡ 2)

@@ -1,6 +1,6 @@
 //! A source, a relay and a sink, in a chain.
 ghost use Rattle.std.specs.Prelude.{◌≡◌, ◌≤◌, ◌^◌, IfOk};
-ghost use Rattle.ff_net_threads.specs.links.Runs.{AllOf};
+ghost use Rattle.ff_net_threads.specs.laws.links.Runs.{AllOf};
 ghost use Rattle.ff_test_machines.specs.Packets.{IsWhole, byte_lane};
 ghost use Rattle.ff_test_machines.specs.Plains.{plain_view};
 ghost use Rattle.ff_test_net.specs.net.Chains.{IsNewSender, IsNewReceiver, IsChain, chain_tasks};

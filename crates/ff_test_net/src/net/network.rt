@@ -1,10 +1,10 @@
 //! Tests of a network of five nodes in one thread.
 ghost use Rattle.std.specs.Prelude.{◌≡◌, ◌<◌, ◌≤◌, ◌+◌, ℕ, length, replicate, IfOk, [], ◌∷◌};
 ghost use Rattle.ff_net.specs.declared.wires.Wires.{Wires};
-ghost use Rattle.ff_net.specs.Worlds.{lanes_of};
-ghost use Rattle.ff_net.specs.Nodes.{IsOf, machine_of, in_wires_of, out_wires_of};
-ghost use Rattle.ff_net.specs.Serial.{AreOf, AreShaped};
-ghost use Rattle.ff_sched.specs.Passing.{Scheduler};
+ghost use Rattle.ff_net.specs.laws.Worlds.{lanes_of};
+ghost use Rattle.ff_net.specs.laws.Nodes.{IsOf, machine_of, in_wires_of, out_wires_of};
+ghost use Rattle.ff_net.specs.laws.Serial.{AreOf, AreShaped};
+ghost use Rattle.ff_sched.specs.laws.Passing.{Scheduler};
 ghost use Rattle.ff_test_machines.specs.Networks.{Fits};
 ghost use Rattle.ff_test_machines.specs.Plains.{IsBelow, plain_view};
 ghost use Rattle.ff_test_machines.specs.Trials.{trial_lane};

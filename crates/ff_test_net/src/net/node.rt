@@ -1,13 +1,13 @@
 //! Nodes over new links. All have two wires, of which wire 0 leads from the source and wire 1 to the sink.
 ghost use Rattle.std.specs.Prelude.{◌≡◌, ◌≤◌, ◌^◌, ◌∷◌, [], IfOk};
 ghost use Rattle.ff_test_machines.specs.Packets.{IsWhole, byte_lane, byte_packets};
-ghost use Rattle.ff_net.specs.Nodes.{IsOf};
+ghost use Rattle.ff_net.specs.laws.Nodes.{IsOf};
 ghost use Rattle.ff_net.specs.Pasts.{Task};
-ghost use Rattle.ff_sched.specs.Passing.{Scheduler};
-ghost use Rattle.ff_net_threads.specs.links.Nodes.{node_of};
+ghost use Rattle.ff_sched.specs.laws.Passing.{Scheduler};
+ghost use Rattle.ff_net_threads.specs.laws.links.Nodes.{node_of};
 ghost use Rattle.ff_test_machines.specs.Plains.{IsBelow, plain_view};
 ghost use Rattle.ff_test_net.specs.net.Seats.{IsSeat};
-ghost use Rattle.ff_net_threads.specs.links.Ends.{new_in, new_out};
+ghost use Rattle.ff_net_threads.specs.laws.links.Ends.{new_in, new_out};
 ghost use Rattle.ff_test_machines.specs.Starts.{list_task, relay_task};
 ghost use Rattle.ff_test_net.specs.net.Chains.{IsNewSender, IsNewReceiver, IsNewMachine, AreNewEnds, IsNewNode, sink_task};
 

@@ -1,7 +1,7 @@
 //! Tests of a relay between two wires.
 ghost use Rattle.std.specs.Prelude.{◌≡◌, ◌<◌, ◌≤◌, ◌+◌, ℕ, length, IfOk, []};
-ghost use Rattle.ff_net.specs.Worlds.{lanes_of};
-ghost use Rattle.ff_net.specs.Serial.{AreOf, AreShaped};
+ghost use Rattle.ff_net.specs.laws.Worlds.{lanes_of};
+ghost use Rattle.ff_net.specs.laws.Serial.{AreOf, AreShaped};
 ghost use Rattle.ff_test_machines.specs.Kinds.{relay_view};
 ghost use Rattle.ff_test_machines.specs.Trials.{trial_lane};
 

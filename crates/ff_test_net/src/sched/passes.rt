@@ -1,6 +1,6 @@
 //! Tests of passes of one cell that work at once, with two streams on two sources.
 ghost use Rattle.std.specs.Prelude.{◌≡◌, ◌-◌, ◌<◌, ◌≤◌, ◌^◌, [], ◌∷◌, All, length, sum_by, IfOk};
-ghost use Rattle.ff_sched.specs.Passing.{Scheduler, Passing};
+ghost use Rattle.ff_sched.specs.laws.Passing.{Scheduler, Passing};
 ghost use Rattle.ff_test_net.specs.sched.Two.{IsTwo, IsOf, AreOf, IsLike};
 
 use crate::sched::reader::{Lane, STEP, read};

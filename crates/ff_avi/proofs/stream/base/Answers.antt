@@ -1,5 +1,5 @@
 use Rattle.std.proofs.Common.{arith}
-use Rattle.ff_avi.specs.BaseLaws.{zero_scale, zero_rate, some_base, no_base_scale, no_base_rate}
+use Rattle.ff_avi.specs.laws.BaseLaws.{zero_scale, zero_rate, some_base, no_base_scale, no_base_rate}
 use Rattle.ff_avi.proofs.stream.base.Goals as goal
 
 pub returns-then-scale-eq0 : goal.returns-then-scale-eq0

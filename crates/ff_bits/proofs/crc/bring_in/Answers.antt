@@ -1,7 +1,7 @@
 use Rattle.std.proofs.Common.{◌≡◌, ◌+◌, ◌*◌, ℕ, List, length, take, drop, refl, subst, ◌∙◌, arith, length-set}
 use Rattle.ff_bits.specs.Bits.{bits}
 use Rattle.ff_bits.specs.Crc.{remainder_from}
-use Rattle.ff_bits.specs.Carried.{carried}
+use Rattle.ff_bits.specs.laws.Carried.{carried}
 use Rattle.ff_bits.proofs.Carried.{bring_on}
 use Rattle.ff_bits.proofs.crc.bring_in.Goals as goal
 

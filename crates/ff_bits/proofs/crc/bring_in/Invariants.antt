@@ -1,7 +1,7 @@
 use Rattle.std.proofs.Common.{◌≡◌, ◌*◌, length, take, drop}
 use Rattle.ff_bits.specs.Bits.{bits}
 use Rattle.ff_bits.specs.Crc.{remainder_from}
-use Rattle.ff_bits.specs.Carried.{carried}
+use Rattle.ff_bits.specs.laws.Carried.{carried}
 use Rattle.ff_bits.proofs.crc.bring_in.Given as goal
 
 abbrev pub invariant-loop-i : goal.invariant-loop-i

@@ -1,6 +1,6 @@
 use Rattle.std.proofs.Common.{◌≡◌, ◌∙◌, ℕ, List, take, ap, bit_xor}
 use Rattle.ff_bits.specs.Crc.{remainder_from, crc16_of}
-use Rattle.ff_bits.specs.Carried.{word_bits, carried}
+use Rattle.ff_bits.specs.laws.Carried.{word_bits, carried}
 use Rattle.ff_bits.proofs.Carried.{sum_on}
 use Rattle.ff_bits.proofs.crc.carried_to_16.Goals as goal
 

@@ -1,7 +1,7 @@
 use Rattle.std.proofs.Common.{◌≡◌, length}
 use Rattle.ff_bits.specs.Bits.{bits}
 use Rattle.ff_bits.specs.Crc.{remainder_from, crc16_of}
-use Rattle.ff_bits.specs.Carried.{carried}
+use Rattle.ff_bits.specs.laws.Carried.{carried}
 use Rattle.ff_bits.proofs.crc.many_to_16.Given as goal
 
 abbrev pub invariant-loop-left : goal.invariant-loop-left

@@ -2,7 +2,7 @@ use Rattle.std.proofs.Common.{◌≡◌, ℕ, List, get_or, take, refl, ap, ◌�
 use Rattle.std.specs.Int.{to_be_bytes, w64}
 use Rattle.ff_bits.specs.Bits.{bits}
 use Rattle.ff_bits.specs.Crc.{remainder_from}
-use Rattle.ff_bits.specs.Carried.{word_bits}
+use Rattle.ff_bits.specs.laws.Carried.{word_bits}
 use Rattle.ff_bits.proofs.BitsOf.{bits-to_be_bytes}
 use Rattle.ff_bits.proofs.Carried.{word_on}
 use Rattle.ff_bits.proofs.crc.words_to_16.Goals as goal

@@ -1,6 +1,6 @@
 use Rattle.std.proofs.Common.{◌≡◌, take}
 use Rattle.ff_bits.specs.Crc.{remainder_from}
-use Rattle.ff_bits.specs.Carried.{word_bits}
+use Rattle.ff_bits.specs.laws.Carried.{word_bits}
 use Rattle.ff_bits.proofs.crc.words_to_16.Given as goal
 
 abbrev pub invariant-loop-word : goal.invariant-loop-word

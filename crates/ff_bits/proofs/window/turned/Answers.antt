@@ -1,7 +1,7 @@
 use Rattle.std.proofs.Common.{◌+◌, ◌-◌, ℕ, sym, subst, drop, bit_and, ◌*◌, ◌%◌, ◌^◌}
 use lib.Count.{count_leading_zeros}
-use Rattle.ff_bits.specs.Reads.{IsCoded}
-use Rattle.ff_bits.specs.Window.{IsFront}
+use Rattle.ff_bits.specs.laws.Reads.{IsCoded}
+use Rattle.ff_bits.specs.laws.Window.{IsFront}
 use Rattle.ff_bits.proofs.Fronts.{turned_front, turned_read}
 use Rattle.ff_bits.proofs.window.turned.Goals as goal
 

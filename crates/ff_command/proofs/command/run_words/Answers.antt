@@ -2,7 +2,7 @@ use Rattle.std.proofs.Common.{Ok, inl, inr, refl, sym, ◌∙◌, subst}
 use Rattle.ff_files.specs.Counts.{counted}
 use Rattle.ff_words.specs.Words.{texts}
 use Rattle.ff_words.specs.declared.job.Solo.TheVariants.{SelfRun}
-use Rattle.ff_words.specs.Reading.{Answers}
+use Rattle.ff_words.specs.laws.Reading.{Answers}
 use Rattle.ff_command.specs.Command.{AskSolo, ReportsHistory, HoldsTrace}
 use Rattle.ff_command.specs.Histories.{LogHas}
 use Rattle.ff_command.proofs.Reports.{has_more, if_some_more, never_fine}

@@ -1,4 +1,4 @@
-use Rattle.ff_host.specs.memory.QuietHost.{quiet_files}
+use Rattle.ff_host.specs.laws.memory.QuietHost.{quiet_files}
 use Rattle.ff_command.specs.Histories.{LogHas}
 use Rattle.ff_command.proofs.Generated.{own_ran, own_ended, own_there, own_told, own_logged, own_none}
 use Rattle.ff_command.proofs.told.run_generated.Goals as goal

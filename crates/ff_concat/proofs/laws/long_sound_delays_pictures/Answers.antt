@@ -1,4 +1,4 @@
-use Rattle.ff_concat.specs.Examples.{long_video, long_audio}
+use Rattle.ff_concat.specs.laws.Examples.{long_video, long_audio}
 use Rattle.ff_concat.proofs.laws.long_sound_delays_pictures.Goals as goal
 
 pub returns-clause-video : goal.returns-clause-video

@@ -1,4 +1,4 @@
-use Rattle.ff_concat.specs.Examples.{short_video, short_audio}
+use Rattle.ff_concat.specs.laws.Examples.{short_video, short_audio}
 use Rattle.ff_concat.proofs.laws.short_sound_is_filled.Goals as goal
 
 pub returns-clause-video : goal.returns-clause-video

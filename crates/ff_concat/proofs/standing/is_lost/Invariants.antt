@@ -1,5 +1,5 @@
 use Rattle.std.proofs.Common.{◌≡◌}
-use Rattle.ff_concat.specs.Standing.{lost_from}
+use Rattle.ff_concat.specs.laws.Standing.{lost_from}
 use Rattle.ff_concat.proofs.standing.is_lost.Given as goal
 
 abbrev pub invariant-segments : goal.invariant-segments

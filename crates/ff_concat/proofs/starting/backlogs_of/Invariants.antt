@@ -1,6 +1,6 @@
 use Rattle.std.proofs.Common.{◌≡◌, ◌≤◌, length}
 use Rattle.std.specs.Prelude.{vec_capacity}
-use Rattle.ff_concat.specs.Fresh.{AreEmpty}
+use Rattle.ff_concat.specs.laws.Fresh.{AreEmpty}
 use Rattle.ff_concat.proofs.starting.backlogs_of.Given as goal
 
 abbrev pub invariant-segments : goal.invariant-segments

@@ -1,6 +1,6 @@
 use Rattle.std.proofs.Common.{◌≡◌, ◌++◌, ◌∷◌, [], ◌∙◌, ℕ, List, ap}
 use Rattle.ff_concat.specs.declared.track.Track.{Track}
-use Rattle.ff_concat.specs.Tracks.{view_of}
+use Rattle.ff_concat.specs.laws.Tracks.{view_of}
 use Rattle.ff_concat.proofs.Startings.{start_one}
 use Rattle.ff_concat.proofs.starting.of_one.Goals as goal
 

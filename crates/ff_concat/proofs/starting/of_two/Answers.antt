@@ -1,7 +1,7 @@
 use Rattle.std.proofs.Common.{◌≡◌, ◌++◌, ◌∷◌, [], ◌*◌, ◌∙◌, ℕ, List, ap}
 use Rattle.ff_frame.specs.Heads.{base_of_head}
 use Rattle.ff_concat.specs.declared.track.Track.{Track}
-use Rattle.ff_concat.specs.Tracks.{view_of}
+use Rattle.ff_concat.specs.laws.Tracks.{view_of}
 use Rattle.ff_concat.proofs.Startings.{start_two}
 use Rattle.ff_concat.proofs.starting.of_two.Goals as goal
 

@@ -1,6 +1,6 @@
 use Rattle.std.proofs.Common.{◌≡◌, ◌≤◌, length}
 use Rattle.std.specs.Prelude.{vec_capacity}
-use Rattle.ff_concat.specs.Fresh.{AreNew}
+use Rattle.ff_concat.specs.laws.Fresh.{AreNew}
 use Rattle.ff_concat.proofs.starting.reaches_of.Given as goal
 
 abbrev pub invariant-inputs : goal.invariant-inputs

@@ -2,7 +2,7 @@ use Rattle.std.proofs.Common.{◌≡◌, ◌<◌, ◌≤◌, ◌+◌, ◌-◌, �
 use Rattle.std.specs.Prelude.{IfSome}
 use Rattle.std.specs.Vec.Iter.{into_iter_len}
 use Rattle.ff_files.specs.Names.{Name, files_of, name_at, named_before, one_named, KeepsBeside, HoldsUnder}
-use Rattle.ff_files.specs.Targets.{target_holds, target_faults, target_name}
+use Rattle.ff_files.specs.laws.Targets.{target_holds, target_faults, target_name}
 use Rattle.ff_files.specs.Counts.{RoseUnder, SameUnder, SameBeside}
 use Rattle.ff_files.specs.Outputs.{FailsAt, AreClosed, first_failed}
 use Rattle.ff_files.proofs.Lists.{rest_next, first_next, one_more, files_len}

@@ -2,9 +2,9 @@ use Rattle.std.proofs.Common.{◌≡◌, ◌≤◌, ◌+◌, ◌-◌, ◌<◌, �
 use Rattle.std.specs.Vec.Iter.{into_iter_items, into_iter_len}
 use Rattle.ff_host.specs.Causes.{SameCounts}
 use Rattle.ff_files.specs.Names.{files_of, name_at, named_before, KeepsAllBut, HoldsUnder}
-use Rattle.ff_files.specs.Targets.{target_holds, target_faults}
+use Rattle.ff_files.specs.laws.Targets.{target_holds, target_faults}
 use Rattle.ff_files.specs.Counts.{KeepsCounts, KeepsCountsBut, AreUnfailed, RoseUnder}
-use Rattle.ff_files.specs.Hosts.{Later}
+use Rattle.ff_files.specs.laws.Hosts.{Later}
 use Rattle.ff_files.specs.Outputs.{FailsAt, AreClosed}
 use Rattle.ff_files.proofs.closing.close_sinks.Given as goal
 

@@ -4,7 +4,7 @@ use Rattle.ff_host.specs.Causes.{Rose}
 use Rattle.ff_host.specs.declared.begun.Begun.{Begun}
 use Rattle.ff_files.specs.Names.{Name, names_of, name_at}
 use Rattle.ff_files.specs.Counts.{RoseUnder, SameUnder, SameBeside}
-use Rattle.ff_files.specs.Inputs.{begun_name, begun_faults}
+use Rattle.ff_files.specs.laws.Inputs.{begun_name, begun_faults}
 use Rattle.ff_files.proofs.Lists.{rest_next, first_next, one_more, names_len}
 use Rattle.ff_files.proofs.Steps.{files_on, later_on, under_on, later_now, counts_on}
 use Rattle.ff_files.proofs.closing.close_sources.Goals as goal

@@ -4,8 +4,8 @@ use Rattle.ff_host.specs.Causes.{SameCounts}
 use Rattle.ff_host.specs.Files.{KeepsFiles}
 use Rattle.ff_files.specs.Names.{names_of, name_at}
 use Rattle.ff_files.specs.Counts.{KeepsCounts, AreUnfailed, RoseUnder}
-use Rattle.ff_files.specs.Hosts.{Later}
-use Rattle.ff_files.specs.Inputs.{begun_faults}
+use Rattle.ff_files.specs.laws.Hosts.{Later}
+use Rattle.ff_files.specs.laws.Inputs.{begun_faults}
 use Rattle.ff_files.proofs.closing.close_sources.Given as goal
 
 abbrev pub invariant-loop-src : goal.invariant-loop-src

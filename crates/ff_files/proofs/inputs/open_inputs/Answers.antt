@@ -3,7 +3,7 @@ use Rattle.std.proofs.lemmas.Grind.{common_steps}
 use Rattle.ff_host.specs.Files.{bytes_at}
 use Rattle.ff_files.specs.Names.{Name, names_of, name_at}
 use Rattle.std.specs.Prelude.{IfSome, unwrap_or}
-use Rattle.ff_files.specs.Inputs.{IsRead, begun_left, begun_name, begun_faults}
+use Rattle.ff_files.specs.laws.Inputs.{IsRead, begun_left, begun_name, begun_faults}
 use Rattle.ff_files.specs.declared.head.InputEnd.{InputEnd}
 use Rattle.ff_files.proofs.Lists.{names_len, name_here, each_pushed, at_pushed, pushed_len}
 use Rattle.ff_files.proofs.Steps.{files_on, later_on, open_more}

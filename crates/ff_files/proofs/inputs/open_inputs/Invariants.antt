@@ -5,8 +5,8 @@ use Rattle.ff_host.specs.Files.{Files, KeepsFiles, bytes_at}
 use Rattle.ff_files.specs.Names.{names_of}
 use Rattle.ff_files.specs.Counts.{AreUnfailed}
 use Rattle.ff_files.specs.Heads.{heads_of}
-use Rattle.ff_files.specs.Hosts.{Later, AreOpen}
-use Rattle.ff_files.specs.Inputs.{begun_left, begun_name, begun_faults}
+use Rattle.ff_files.specs.laws.Hosts.{Later, AreOpen}
+use Rattle.ff_files.specs.laws.Inputs.{begun_left, begun_name, begun_faults}
 use Rattle.ff_files.proofs.inputs.open_inputs.Given as goal
 
 abbrev pub invariant-loop-k : goal.invariant-loop-k

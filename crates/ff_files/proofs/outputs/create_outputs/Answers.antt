@@ -3,7 +3,7 @@ use Rattle.std.specs.Prelude.{IfSome}
 use Rattle.std.proofs.lemmas.Grind.{common_steps}
 use Rattle.ff_host.specs.Files.{HoldsNothing}
 use Rattle.ff_files.specs.Names.{Name, files_of, name_at, named_before, one_named, KeepsBeside}
-use Rattle.ff_files.specs.Targets.{target_holds, target_faults, target_name}
+use Rattle.ff_files.specs.laws.Targets.{target_holds, target_faults, target_name}
 use Rattle.ff_files.proofs.Lists.{files_len, each_pushed, pushed_len}
 use Rattle.ff_files.proofs.Steps.{but_more, later_on, named_more, open_more}
 use Rattle.ff_files.proofs.Wholes.{empty_but}

@@ -1,9 +1,9 @@
 use Rattle.std.proofs.Common.{◌≡◌, ◌≤◌, ◌+◌, length, vec_len, vec_capacity}
 use Rattle.ff_host.specs.Causes.{SameCounts}
 use Rattle.ff_files.specs.Names.{files_of, named_before, KeepsAllBut}
-use Rattle.ff_files.specs.Targets.{target_holds, target_faults, target_name}
+use Rattle.ff_files.specs.laws.Targets.{target_holds, target_faults, target_name}
 use Rattle.ff_files.specs.Counts.{AreUnfailed}
-use Rattle.ff_files.specs.Hosts.{Later, AreOpen}
+use Rattle.ff_files.specs.laws.Hosts.{Later, AreOpen}
 use Rattle.ff_files.specs.Outputs.{AreEmpty}
 use Rattle.ff_files.proofs.outputs.create_outputs.Given as goal
 

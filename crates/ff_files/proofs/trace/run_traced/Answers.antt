@@ -1,5 +1,5 @@
 use Rattle.std.proofs.Common.{◌≡◌, List, [], ◌∷◌, ◌++◌, length, option_to_list, Option, Some, None, sym, ap, ◌∙◌, subst, append-nil}
-use Rattle.ff_files.specs.Runs.{IsRun}
+use Rattle.ff_files.specs.laws.Runs.{IsRun}
 use Rattle.ff_files.proofs.Tracing.{plain_run}
 use Rattle.ff_files.proofs.trace.run_traced.Goals as goal
 

@@ -1,7 +1,7 @@
 use Rattle.std.proofs.Common.{◌≡◌, ◌⊎◌, List, [], ◌∷◌, ◌++◌, length, vec_len, sym, subst, arith}
 use Rattle.ff_host.specs.Causes.{Rose}
 use Rattle.ff_files.specs.declared.work.WorkEnd.TheVariants as work_end
-use Rattle.ff_files.specs.Runs.{GoesOn, IsRun}
+use Rattle.ff_files.specs.laws.Runs.{GoesOn, IsRun}
 use Rattle.ff_files.proofs.Tracing.{plain_run, traced_run}
 use Rattle.ff_files.proofs.trace.run_with_trace.Goals as goal
 

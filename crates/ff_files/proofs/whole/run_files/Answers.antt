@@ -1,8 +1,8 @@
 use Rattle.std.proofs.Common.{◌≡◌, inl, List, length, arith, sym, ◌∙◌, subst}
-use Rattle.ff_files.specs.Targets.{target_name, target_faults}
+use Rattle.ff_files.specs.laws.Targets.{target_name, target_faults}
 use Rattle.ff_files.specs.Names.{names_of, files_of}
 use Rattle.ff_files.specs.Counts.{counted, KeepsCounts}
-use Rattle.ff_files.specs.Inputs.{AreBegun, begun_left, begun_faults, sound_before}
+use Rattle.ff_files.specs.laws.Inputs.{AreBegun, begun_left, begun_faults, sound_before}
 use Rattle.ff_files.specs.Works.{command_of, told_bytes, HasLog, HoldMeaning, HoldWritten}
 use Rattle.ff_files.specs.Ends.{Ends, end_of_output, sound_inputs}
 use Rattle.ff_files.proofs.Lists.{names_len, files_len}

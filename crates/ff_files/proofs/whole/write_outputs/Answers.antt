@@ -1,8 +1,8 @@
 use Rattle.std.proofs.Common.{◌≡◌, ◌<◌, ◌≤◌, inl, inr, ℕ, length, vec_len, arith, sym, ◌∙◌, subst}
-use Rattle.ff_files.specs.Targets.{target_holds, target_name, target_faults}
+use Rattle.ff_files.specs.laws.Targets.{target_holds, target_name, target_faults}
 use Rattle.ff_files.specs.Names.{names_of, files_of, name_at, KeepsAllBut}
 use Rattle.ff_files.specs.Counts.{counted, KeepsCounts}
-use Rattle.ff_files.specs.Inputs.{begun_left, begun_name, begun_faults}
+use Rattle.ff_files.specs.laws.Inputs.{begun_left, begun_name, begun_faults}
 use Rattle.ff_files.specs.Outputs.{FailsAt}
 use Rattle.ff_files.specs.Works.{AreTold, FailNoMore, GainTexts, HoldTrace, command_of, sound_sources, told_bytes}
 use Rattle.ff_files.proofs.Tracing.{if_some_more}

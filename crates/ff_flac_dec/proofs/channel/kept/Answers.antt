@@ -1,5 +1,5 @@
 use Rattle.std.proofs.Common.{◌≡◌, arith}
-use Rattle.ff_flac_frame.specs.Parts.{part_of}
+use Rattle.ff_flac_frame.specs.laws.Parts.{part_of}
 use Rattle.ff_flac_dec.proofs.ChannelLemmas.{kept_channel}
 use Rattle.ff_flac_dec.proofs.channel.kept.Goals as goal
 

@@ -1,5 +1,5 @@
 use Rattle.std.proofs.Common.{◌≤◌, ◌-◌, ◌^◌, ◌∙◌, List, ℤ, pos, ◌*ℤ◌, map, sym, ap, subst, length, arith}
-use Rattle.ff_flac_frame.specs.Parts.{part_of}
+use Rattle.ff_flac_frame.specs.laws.Parts.{part_of}
 use Rattle.ff_flac_frame.specs.Prediction.{AllInDepth}
 use Rattle.ff_flac_frame.proofs.PredictionLemmas.{all_wider}
 use Rattle.ff_flac_dec.proofs.ChannelLemmas.{raised_channel, raised_length}

@@ -1,7 +1,7 @@
 use Rattle.std.proofs.Common.{◌≡◌, ◌∙◌, ℕ, List, length, take, Err, sym, ap, subst, arith}
 use Rattle.std.proofs.lemmas.List.{length-take-le}
 use Rattle.ff_flac_frame.specs.Frame.{Begins}
-use Rattle.ff_flac_frame.specs.Parts.{frame_of}
+use Rattle.ff_flac_frame.specs.laws.Parts.{frame_of}
 use Rattle.ff_flac_frame.proofs.LawLemmas.{alone}
 use Rattle.ff_flac_dec.specs.declared.front.Front.TheVariants.{Whole}
 use Rattle.ff_flac_dec.proofs.UnitLaws.{unit_begins, begins_bounds, wait_is, other_is}

@@ -1,4 +1,4 @@
-use Rattle.ff_flac_dec.specs.Joins.{items_of}
+use Rattle.ff_flac_dec.specs.laws.Joins.{items_of}
 use Rattle.ff_flac_dec.proofs.SoundLemmas.{interleave_goes_on}
 use Rattle.ff_flac_dec.proofs.interleave.interleave_any.Goals as goal
 

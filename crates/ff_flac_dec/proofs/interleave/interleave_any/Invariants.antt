@@ -1,6 +1,6 @@
 use Rattle.std.proofs.Common.{◌≡◌, ◌++◌, ◌-◌}
 use Rattle.ff_flac_dec.specs.Channels.{interleaved_from}
-use Rattle.ff_flac_dec.specs.Joins.{items_of}
+use Rattle.ff_flac_dec.specs.laws.Joins.{items_of}
 use Rattle.ff_flac_dec.proofs.interleave.interleave_any.Given as goal
 
 abbrev pub invariant-loop-place : goal.invariant-loop-place

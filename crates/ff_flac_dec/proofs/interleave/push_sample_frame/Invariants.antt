@@ -1,6 +1,6 @@
 use Rattle.std.proofs.Common.{◌≡◌, ◌++◌, drop}
 use Rattle.ff_flac_dec.specs.Channels.{sample_frame}
-use Rattle.ff_flac_dec.specs.Joins.{items_of}
+use Rattle.ff_flac_dec.specs.laws.Joins.{items_of}
 use Rattle.ff_flac_dec.proofs.interleave.push_sample_frame.Given as goal
 
 abbrev pub invariant-loop-channel : goal.invariant-loop-channel

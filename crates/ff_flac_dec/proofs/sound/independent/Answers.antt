@@ -2,11 +2,11 @@ use Rattle.std.proofs.Common.{◌≡◌, ◌++◌, ◌∷◌, [], ◌+◌, ◌�
 use Rattle.std.specs.List.{AllByRecursion}
 use Rattle.std.proofs.lemmas.List.{map_push}
 use Rattle.ff_flac_frame.specs.Frame.{Part}
-use Rattle.ff_flac_frame.specs.Facts.{IsPart}
-use Rattle.ff_flac_frame.specs.Parts.{part_of}
+use Rattle.ff_flac_frame.specs.laws.Facts.{IsPart}
+use Rattle.ff_flac_frame.specs.laws.Parts.{part_of}
 use Rattle.ff_flac_dec.specs.Values.{channel_samples}
 use Rattle.ff_flac_dec.specs.Channels.{AllChannels, IsCoded}
-use Rattle.ff_flac_dec.specs.Joins.{items_of}
+use Rattle.ff_flac_dec.specs.laws.Joins.{items_of}
 use Rattle.ff_flac_dec.proofs.SoundLemmas.{next_part, channels_go_on, channels_push}
 use Rattle.ff_flac_dec.proofs.sound.independent.Goals as goal
 

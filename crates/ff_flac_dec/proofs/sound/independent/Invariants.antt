@@ -1,10 +1,10 @@
 use Rattle.std.proofs.Common.{◌≡◌, ◌++◌, map, drop}
 use Rattle.std.specs.List.{AllByRecursion}
-use Rattle.ff_flac_frame.specs.Facts.{IsPart}
-use Rattle.ff_flac_frame.specs.Parts.{part_of}
+use Rattle.ff_flac_frame.specs.laws.Facts.{IsPart}
+use Rattle.ff_flac_frame.specs.laws.Parts.{part_of}
 use Rattle.ff_flac_dec.specs.Values.{channel_samples}
 use Rattle.ff_flac_dec.specs.Channels.{AllChannels, IsCoded}
-use Rattle.ff_flac_dec.specs.Joins.{items_of}
+use Rattle.ff_flac_dec.specs.laws.Joins.{items_of}
 use Rattle.ff_flac_dec.proofs.sound.independent.Given as goal
 
 abbrev pub invariant-loop-subframe : goal.invariant-loop-subframe

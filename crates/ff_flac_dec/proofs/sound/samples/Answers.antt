@@ -3,8 +3,8 @@ use Rattle.std.specs.List.{AllByRecursion}
 use Rattle.std.proofs.lemmas.Result.{err_from_is_err_and}
 use Rattle.std.proofs.lemmas.List.{length-map}
 use Rattle.ff_flac_frame.specs.declared.subframe.Subframe.{Subframe}
-use Rattle.ff_flac_frame.specs.Facts.{IsPart}
-use Rattle.ff_flac_frame.specs.Parts.{part_of, frame_of}
+use Rattle.ff_flac_frame.specs.laws.Facts.{IsPart}
+use Rattle.ff_flac_frame.specs.laws.Parts.{part_of, frame_of}
 use Rattle.ff_flac_dec.specs.Values.{channel_samples}
 use Rattle.ff_flac_dec.specs.Channels.{IsCoded, AllChannels, interleaved}
 use Rattle.ff_flac_dec.proofs.FrameLemmas.{frame_alone, channels_alone, within_alone, alone_within, frame_two, pair_parts, frame_first, frame_second, channels_joint, within_joint, first_within, second_within, joint_within}

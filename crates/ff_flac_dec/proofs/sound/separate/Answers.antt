@@ -3,8 +3,8 @@ use Rattle.std.specs.Prelude.{IfOk}
 use Rattle.std.specs.List.{AllByRecursion}
 use Rattle.std.proofs.lemmas.List.{length-map}
 use Rattle.ff_flac_frame.specs.Frame.{Part}
-use Rattle.ff_flac_frame.specs.Facts.{IsPart}
-use Rattle.ff_flac_frame.specs.Parts.{part_of}
+use Rattle.ff_flac_frame.specs.laws.Facts.{IsPart}
+use Rattle.ff_flac_frame.specs.laws.Parts.{part_of}
 use Rattle.ff_flac_dec.specs.Values.{channel_samples}
 use Rattle.ff_flac_dec.specs.Channels.{interleaved}
 use Rattle.ff_flac_dec.proofs.ChannelLemmas.{length-channel}

@@ -4,7 +4,7 @@ use Rattle.std.proofs.lemmas.Int.{to_z-of_z}
 use Rattle.ff_frame.specs.Audio.{IsAudio}
 use Rattle.ff_frame.specs.Frame.{audio_frame}
 use Rattle.ff_frame.specs.declared.audio.AFrame.{AFrame}
-use Rattle.ff_flac_frame.specs.Parts.{frame_of}
+use Rattle.ff_flac_frame.specs.laws.Parts.{frame_of}
 use Rattle.ff_flac_frame.proofs.LawLemmas.{in_shape}
 use Rattle.ff_flac_dec.specs.Channels.{decoded}
 use Rattle.ff_flac_dec.proofs.FrameLemmas.{is_audio, frame_again}

@@ -1,4 +1,4 @@
-use Rattle.ff_flac_enc.specs.Choice.{AreKnown}
+use Rattle.ff_flac_enc.specs.laws.Choice.{AreKnown}
 use Rattle.ff_flac_enc.proofs.pair.choose.Given as goal
 
 abbrev pub invariant-loop-turn : goal.invariant-loop-turn

@@ -1,6 +1,6 @@
 use Rattle.std.proofs.Common.{subst}
-use Rattle.ff_flac_enc.specs.Choice.{IsChoice}
-use Rattle.ff_flac_enc.specs.Signal.{CanWrite}
+use Rattle.ff_flac_enc.specs.laws.Choice.{IsChoice}
+use Rattle.ff_flac_enc.specs.laws.Signal.{CanWrite}
 use Rattle.ff_flac_enc.proofs.Forms.{mid_alike}
 use Rattle.ff_flac_enc.proofs.pair.write_alike.Goals as goal
 

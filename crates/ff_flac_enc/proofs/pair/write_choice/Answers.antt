@@ -1,8 +1,8 @@
 use Rattle.std.proofs.Common.{ℕ, ℤ, ◌+◌, ◌++◌, List, [], ◌∷◌, ap, ◌∙◌, subst}
-use Rattle.ff_flac_enc.specs.Choice.{fewest}
+use Rattle.ff_flac_enc.specs.laws.Choice.{fewest}
 use Rattle.ff_flac_enc.specs.Head.{opened}
 use Rattle.ff_flac_enc.specs.Layout.{body, mid_of}
-use Rattle.ff_flac_enc.specs.Shape.{Chooses, pair_layout}
+use Rattle.ff_flac_enc.specs.laws.Shape.{Chooses, pair_layout}
 use Rattle.ff_flac_enc.proofs.Forms.{best_form}
 use Rattle.ff_flac_enc.proofs.pair.write_choice.Goals as goal
 

@@ -1,5 +1,5 @@
 use Rattle.std.proofs.Common.{arith}
-use Rattle.ff_flac_frame.specs.Rules.{passes}
+use Rattle.ff_flac_frame.specs.laws.Rules.{passes}
 use Rattle.ff_flac_frame.proofs.FieldLemmas.{more_comes, none_comes, has_room}
 use Rattle.ff_flac_frame.proofs.field.in_part.Goals as goal
 

@@ -1,5 +1,5 @@
 use Rattle.std.proofs.Common.{◌∙◌, sym}
-use Rattle.ff_flac_frame.specs.Rules.{passes}
+use Rattle.ff_flac_frame.specs.laws.Rules.{passes}
 use Rattle.ff_flac_frame.proofs.FieldLemmas.{took, refused}
 use Rattle.ff_flac_frame.proofs.field.read_field.Goals as goal
 

@@ -1,6 +1,6 @@
 use Rattle.std.proofs.Common.{◌-◌, ◌<◌, ℤ, pos, length, sym, subst, arith}
 use Rattle.std.specs.Prelude.{slice_index_or}
-use Rattle.ff_flac_frame.specs.Bounds.{IsSmall}
+use Rattle.ff_flac_frame.specs.laws.Bounds.{IsSmall}
 use Rattle.ff_flac_frame.proofs.PredictionLemmas.{IsSmall-in_depth, small_same}
 use Rattle.ff_flac_frame.proofs.fixed.look_back.Goals as goal
 

@@ -1,7 +1,7 @@
 use Rattle.std.proofs.Common.{◌≡◌, ℤ, ◌+ℤ◌, to_z, of_z, sym, ap, subst, ◌∙◌, arith}
 use Rattle.std.specs.Int.{w32, w64}
 use Rattle.std.proofs.lemmas.Int.{ints, to_z-of_z}
-use Rattle.ff_flac_frame.specs.Bounds.{IsSmall}
+use Rattle.ff_flac_frame.specs.laws.Bounds.{IsSmall}
 use Rattle.ff_flac_frame.proofs.PredictionLemmas.{IsSmall-last, small_same64, wide_same}
 use Rattle.ff_flac_frame.proofs.fixed.next_fixed.Goals as goal
 

@@ -2,8 +2,8 @@ use Rattle.std.proofs.Common.{◌-◌, ◌∙◌, List, Bool, length, map, sym, 
 use Rattle.std.proofs.lemmas.Result.{err_from_is_err_and}
 use Rattle.ff_flac_frame.specs.Frame.{frame, Begins}
 use Rattle.ff_flac_frame.specs.declared.subframe.Subframe.{Subframe}
-use Rattle.ff_flac_frame.specs.Gives.{Fails}
-use Rattle.ff_flac_frame.specs.Parts.{header_of, part_of, read_of}
+use Rattle.ff_flac_frame.specs.laws.Gives.{Fails}
+use Rattle.ff_flac_frame.specs.laws.Parts.{header_of, part_of, read_of}
 use Rattle.ff_flac_frame.proofs.Seals.{not_yet_from, never_from, begins}
 use Rattle.ff_flac_frame.proofs.frame.frame_at.Goals as goal
 

@@ -1,7 +1,7 @@
 use Rattle.std.proofs.Common.{ap, sym, ◌∙◌, List, Bool}
 use Rattle.std.proofs.lemmas.Result.{err_from_is_err_and}
 use Rattle.ff_flac_frame.specs.Frame.{unpadded, frame}
-use Rattle.ff_flac_frame.specs.Parts.{read_of}
+use Rattle.ff_flac_frame.specs.laws.Parts.{read_of}
 use Rattle.ff_flac_frame.proofs.Seals.{pad_first, frame_first}
 use Rattle.ff_flac_frame.proofs.frame.read_frame.Goals as goal
 

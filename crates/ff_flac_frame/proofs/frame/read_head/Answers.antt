@@ -1,5 +1,5 @@
 use Rattle.std.proofs.lemmas.Result.{err_from_is_err_and}
-use Rattle.ff_flac_frame.specs.Parts.{header_of}
+use Rattle.ff_flac_frame.specs.laws.Parts.{header_of}
 use Rattle.ff_flac_frame.proofs.Seals.{head_first, head_done, head_fails, header_left}
 use Rattle.ff_flac_frame.proofs.frame.read_head.Goals as goal
 

@@ -1,7 +1,7 @@
 use Rattle.std.proofs.Common.{◌≡◌, map, drop}
-use Rattle.ff_flac_frame.specs.Front.{with_front}
+use Rattle.ff_flac_frame.specs.laws.Front.{with_front}
 use Rattle.ff_flac_frame.specs.Frame.{subframes}
-use Rattle.ff_flac_frame.specs.Parts.{part_of}
+use Rattle.ff_flac_frame.specs.laws.Parts.{part_of}
 use Rattle.ff_flac_frame.proofs.frame.read_subframes.Given as goal
 
 abbrev pub invariant-loop-depth : goal.invariant-loop-depth

@@ -1,5 +1,5 @@
 use Rattle.std.proofs.Common.{ℕ, sym, subst}
-use Rattle.ff_flac_frame.specs.Gives.{Gives}
+use Rattle.ff_flac_frame.specs.laws.Gives.{Gives}
 use Rattle.ff_flac_frame.specs.Frame.{rate_of}
 use Rattle.ff_flac_frame.proofs.header.read_rate.Goals as goal
 

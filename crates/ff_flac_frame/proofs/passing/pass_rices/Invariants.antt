@@ -1,7 +1,7 @@
 use Rattle.std.proofs.Common.{◌≡◌}
 use Rattle.ff_bits.specs.Reading.{times}
 use Rattle.ff_flac_frame.specs.Frame.{rice}
-use Rattle.ff_flac_frame.specs.Passed.{passed}
+use Rattle.ff_flac_frame.specs.laws.Passed.{passed}
 use Rattle.ff_flac_frame.proofs.passing.pass_rices.Given as goal
 
 abbrev pub invariant-loop-left : goal.invariant-loop-left

@@ -1,7 +1,7 @@
 use Rattle.std.proofs.Common.{◌≡◌, ◌∙◌, [], ◌∷◌, List, ℤ, ap, refl, arith, rules, to_z, of_z}
 use Rattle.std.specs.Int.{w32}
 use Rattle.ff_flac_frame.specs.Prediction.{restored}
-use Rattle.ff_flac_frame.specs.Restoring.{predicted}
+use Rattle.ff_flac_frame.specs.laws.Restoring.{predicted}
 use Rattle.ff_flac_frame.proofs.predictor.restore_four.Goals as goal
 
 pub returns-clause-next : goal.returns-clause-next

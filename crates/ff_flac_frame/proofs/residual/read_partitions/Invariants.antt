@@ -1,7 +1,7 @@
 use Rattle.std.proofs.Common.{◌≡◌, ◌-◌}
 use Rattle.ff_flac_frame.specs.Frame.{partitions}
-use Rattle.ff_flac_frame.specs.Front.{with_front}
-use Rattle.ff_flac_frame.specs.Restoring.{Follows}
+use Rattle.ff_flac_frame.specs.laws.Front.{with_front}
+use Rattle.ff_flac_frame.specs.laws.Restoring.{Follows}
 use Rattle.ff_flac_frame.proofs.residual.read_partitions.Given as goal
 
 abbrev pub invariant-loop-i : goal.invariant-loop-i

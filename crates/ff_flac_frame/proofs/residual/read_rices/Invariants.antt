@@ -1,7 +1,7 @@
 use Rattle.std.proofs.Common.{◌≡◌, ◌+◌, ◌≤◌, vec_len, vec_capacity}
 use Rattle.ff_bits.specs.Reading.{times}
 use Rattle.ff_flac_frame.specs.Frame.{rice}
-use Rattle.ff_flac_frame.specs.Front.{with_front}
+use Rattle.ff_flac_frame.specs.laws.Front.{with_front}
 use Rattle.ff_flac_frame.proofs.residual.read_rices.Given as goal
 
 abbrev pub invariant-loop-left : goal.invariant-loop-left

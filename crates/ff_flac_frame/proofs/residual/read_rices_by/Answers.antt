@@ -3,7 +3,7 @@ use Rattle.std.proofs.Common.{to_z, of_z}
 use Rattle.std.specs.Int.{w32}
 use Rattle.std.proofs.lemmas.Int.{to_z-of_z}
 use Rattle.ff_bits.specs.Reading.{Done, times}
-use Rattle.ff_flac_frame.specs.Front.{with_front}
+use Rattle.ff_flac_frame.specs.laws.Front.{with_front}
 use Rattle.ff_flac_frame.specs.Frame.{rice}
 use Rattle.ff_flac_frame.proofs.Loops.{times_go_on, times_next}
 use Rattle.ff_flac_frame.proofs.RestoringLemmas.{Restores-more, newest_same}

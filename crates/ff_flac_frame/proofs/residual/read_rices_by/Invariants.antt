@@ -1,9 +1,9 @@
 use Rattle.std.proofs.Common.{◌≡◌, ◌+◌, ◌≤◌, true, vec_len, vec_capacity}
 use Rattle.ff_bits.specs.Reading.{times}
 use Rattle.ff_flac_frame.specs.Frame.{rice}
-use Rattle.ff_flac_frame.specs.Front.{with_front}
+use Rattle.ff_flac_frame.specs.laws.Front.{with_front}
 use Rattle.ff_flac_frame.specs.Prediction.{ago}
-use Rattle.ff_flac_frame.specs.Restoring.{Restores}
+use Rattle.ff_flac_frame.specs.laws.Restoring.{Restores}
 use Rattle.ff_flac_frame.proofs.residual.read_rices_by.Given as goal
 
 abbrev pub invariant-loop-left : goal.invariant-loop-left

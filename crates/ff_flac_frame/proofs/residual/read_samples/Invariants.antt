@@ -1,7 +1,7 @@
 use Rattle.std.proofs.Common.{◌≡◌, ◌-◌}
 use Rattle.ff_bits.specs.Reading.{times}
 use Rattle.ff_flac_frame.specs.Frame.{sample}
-use Rattle.ff_flac_frame.specs.Front.{with_front}
+use Rattle.ff_flac_frame.specs.laws.Front.{with_front}
 use Rattle.ff_flac_frame.proofs.residual.read_samples.Given as goal
 
 abbrev pub invariant-loop-i : goal.invariant-loop-i

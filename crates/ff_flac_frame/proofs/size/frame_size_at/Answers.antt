@@ -1,8 +1,8 @@
 use Rattle.std.proofs.Common.{◌∙◌, List, Bool, sym, ap, subst}
 use Rattle.std.proofs.lemmas.Result.{err_from_is_err_and}
 use Rattle.ff_flac_frame.specs.Frame.{Header, frame}
-use Rattle.ff_flac_frame.specs.Gives.{Fails}
-use Rattle.ff_flac_frame.specs.Parts.{header_of}
+use Rattle.ff_flac_frame.specs.laws.Gives.{Fails}
+use Rattle.ff_flac_frame.specs.laws.Parts.{header_of}
 use Rattle.ff_flac_frame.proofs.PassedLemmas.{fails_of, frame_behind}
 use Rattle.ff_flac_frame.proofs.Seals.{not_yet_from, never_from, begins}
 use Rattle.ff_flac_frame.proofs.size.frame_size_at.Goals as goal

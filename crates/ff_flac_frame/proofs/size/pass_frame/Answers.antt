@@ -2,7 +2,7 @@ use Rattle.std.proofs.Common.{List, Bool, sym, ap, ◌∙◌}
 use Rattle.std.proofs.lemmas.Result.{err_from_is_err_and}
 use Rattle.ff_bits.specs.Reading.{give}
 use Rattle.ff_flac_frame.specs.Frame.{unpadded, frame}
-use Rattle.ff_flac_frame.specs.Parts.{header_of}
+use Rattle.ff_flac_frame.specs.laws.Parts.{header_of}
 use Rattle.ff_flac_frame.proofs.PassedLemmas.{fails_on, fails_of, frame_behind}
 use Rattle.ff_flac_frame.proofs.Seals.{pad_first, frame_first}
 use Rattle.ff_flac_frame.proofs.size.pass_frame.Goals as goal

@@ -1,5 +1,5 @@
 use Rattle.std.proofs.Common.{ℕ, ◌+◌, get_or, sym, subst, Ok, ap, ◌∙◌, arith}
-use Rattle.ff_flac_subframe.specs.Leads.{so_far, Leads}
+use Rattle.ff_flac_subframe.specs.laws.Leads.{so_far, Leads}
 use Rattle.ff_flac_subframe.proofs.Plans.{leads_none, leads_more, leads_on}
 use Rattle.ff_flac_subframe.proofs.subframe.best_before.Goals as goal
 use Rattle.ff_flac_subframe.proofs.subframe.best_before.Goals.{then-floors-order+in_ok-new+in-Some, then-floors-order+in_ok-new+in_default, else-floors-order}

@@ -1,4 +1,4 @@
-use Rattle.ff_flac_subframe.specs.Leads.{so_far, Leads}
+use Rattle.ff_flac_subframe.specs.laws.Leads.{so_far, Leads}
 use Rattle.ff_flac_subframe.proofs.subframe.best_before.Given as goal
 
 abbrev pub invariant-loop-order : goal.invariant-loop-order

@@ -2,7 +2,7 @@ use Rattle.std.proofs.Common.{◌≡◌, ℕ, ◌+◌, ◌-◌, ◌<◌, ◌≤�
 use Rattle.std.specs.List.{All}
 use Rattle.ff_flac_subframe.specs.rice.Rice.{zigzagged}
 use Rattle.ff_flac_subframe.specs.Subframe.{rest_of, magnitude}
-use Rattle.ff_flac_subframe.specs.Leads.{IsFloor}
+use Rattle.ff_flac_subframe.specs.laws.Leads.{IsFloor}
 use Rattle.ff_flac_subframe.proofs.subframe.outlook_of.Given as goal
 
 abbrev pub invariant-loop-order : goal.invariant-loop-order

@@ -4,7 +4,7 @@ use Rattle.std.proofs.lemmas.Result.{IfOk-at_ok}
 use Rattle.ff_flac_subframe.specs.rice.Least.{least}
 use Rattle.ff_flac_subframe.specs.rice.Rice.{is_allowed}
 use Rattle.ff_flac_subframe.specs.Subframe.{fixed_of}
-use Rattle.ff_flac_subframe.specs.Plan.{spelling_of, size, PlanFits}
+use Rattle.ff_flac_subframe.specs.laws.Plan.{spelling_of, size, PlanFits}
 use Rattle.ff_flac_subframe.proofs.Plans.{magnitudes, count_us, floor_below, least-fixed_of, cost-fixed}
 use Rattle.ff_flac_subframe.proofs.subframe.plan_below.Goals as goal
 

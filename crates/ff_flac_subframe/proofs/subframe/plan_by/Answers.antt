@@ -1,6 +1,6 @@
 use Rattle.std.proofs.Common.{◌≡◌, ◌*◌, ◌≤◌, min, Some, length, arith, refl}
 use Rattle.std.proofs.lemmas.Nat.{mul-le}
-use Rattle.ff_flac_subframe.specs.Leads.{so_far}
+use Rattle.ff_flac_subframe.specs.laws.Leads.{so_far}
 use Rattle.ff_flac_subframe.proofs.Plans.{so_far-more, same_spellings, known_next, plan_last}
 use Rattle.ff_flac_subframe.proofs.Outlooks.{bound_holds}
 use Rattle.ff_flac_subframe.proofs.subframe.plan_by.Goals as goal

@@ -1,6 +1,6 @@
 use Rattle.std.proofs.Common.{Some, ◌≤◌, length}
-use Rattle.ff_flac_subframe.specs.Plan.{IsBestPlan}
-use Rattle.ff_flac_subframe.specs.Leads.{so_far}
+use Rattle.ff_flac_subframe.specs.laws.Plan.{IsBestPlan}
+use Rattle.ff_flac_subframe.specs.laws.Leads.{so_far}
 use Rattle.ff_flac_subframe.proofs.subframe.plan_by.Given as goal
 
 abbrev pub invariant-loop-order : goal.invariant-loop-order

@@ -2,7 +2,7 @@ use Rattle.std.proofs.Common.{◌∙◌, ap, ◌++◌, ℤ, w32, rules}
 use Rattle.std.specs.Prelude.{FitsSigned}
 use Rattle.std.proofs.lemmas.Int.{to_z-of_z}
 use Rattle.ff_flac_subframe.specs.Subframe.{subframe_bits, sample_bits, first_or_zero}
-use Rattle.ff_flac_subframe.specs.Plan.{spelling_of}
+use Rattle.ff_flac_subframe.specs.laws.Plan.{spelling_of}
 use Rattle.ff_flac_subframe.proofs.Plans.{two_parts, subframe-constant, subframe-verbatim}
 use Rattle.ff_flac_subframe.proofs.subframe.write_plan.Goals as goal
 

@@ -1,8 +1,8 @@
 use Rattle.std.proofs.Common.{◌<◌, ◌∙◌, List, ap, arith, length, slice_set}
 use Rattle.std.proofs.lemmas.List.{length-set}
 use Rattle.ff_frame.specs.declared.video.VFrame.{VFrame}
-use Rattle.ff_fsync.specs.Inputs.{all_back}
-use Rattle.ff_fsync.specs.Syncs.{sides_of}
+use Rattle.ff_fsync.specs.laws.Inputs.{all_back}
+use Rattle.ff_fsync.specs.laws.Syncs.{sides_of}
 use Rattle.ff_fsync.proofs.GivenBack.{begun_there, back_more}
 use Rattle.ff_fsync.proofs.lending.lend.Goals as goal
 

@@ -2,9 +2,9 @@ use Rattle.std.proofs.Common.{◌<◌, List, ◌∙◌, ap, arith, length, subst
 use Rattle.std.proofs.lemmas.List.{length-set}
 use Rattle.ff_frame.specs.declared.video.VFrame.{VFrame}
 use Rattle.ff_stream.specs.declared.item.Lane.{Lane}
-use Rattle.ff_fsync.specs.Inputs.{all_back}
+use Rattle.ff_fsync.specs.laws.Inputs.{all_back}
 use Rattle.ff_fsync.specs.Sides.{Side, Sound}
-use Rattle.ff_fsync.specs.Syncs.{sides_of}
+use Rattle.ff_fsync.specs.laws.Syncs.{sides_of}
 use Rattle.ff_fsync.proofs.GivenBack.{fills_there, back_less}
 use Rattle.ff_fsync.proofs.lending.restore.Goals as goal
 

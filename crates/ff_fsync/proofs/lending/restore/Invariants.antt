@@ -1,6 +1,6 @@
 use Rattle.std.proofs.Common.{◌≡◌, ◌≤◌, length, vec_len}
-use Rattle.ff_fsync.specs.Inputs.{all_back}
-use Rattle.ff_fsync.specs.Syncs.{sides_of}
+use Rattle.ff_fsync.specs.laws.Inputs.{all_back}
+use Rattle.ff_fsync.specs.laws.Syncs.{sides_of}
 use Rattle.ff_fsync.proofs.lending.restore.Given as goal
 
 abbrev pub invariant-pictures : goal.invariant-pictures

@@ -1,6 +1,6 @@
 use Rattle.std.proofs.Common.{◌≡◌, drop}
 use Rattle.ff_graph.specs.Configured.{heads_into}
-use Rattle.ff_graph.specs.Pads.{heads_in}
+use Rattle.ff_graph.specs.laws.Pads.{heads_in}
 use Rattle.ff_graph.proofs.Behind.{prefixed}
 use Rattle.ff_graph.proofs.heads.heads_into.Given as goal
 

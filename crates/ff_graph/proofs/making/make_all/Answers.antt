@@ -6,7 +6,7 @@ use Rattle.ff_filters.specs.contracts.any.AnyFilterFilter.TheImpl.{ghosts}
 use Rattle.ff_graph_links.specs.pads.Links.{all_seen}
 use Rattle.ff_graph.specs.declared.refusal.Refusal.{Refusal}
 use Rattle.ff_graph.specs.Configured.{made_of, make_from, none_made}
-use Rattle.ff_graph.specs.Pads.{heads_in, made_by, IsRefusal}
+use Rattle.ff_graph.specs.laws.Pads.{heads_in, made_by, IsRefusal}
 use Rattle.ff_graph.proofs.Behind.{refused_there}
 use Rattle.ff_graph.proofs.making.make_all.Goals as goal
 

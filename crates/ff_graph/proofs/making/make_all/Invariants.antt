@@ -2,7 +2,7 @@ use Rattle.std.proofs.Common.{◌≡◌, drop, length}
 use Rattle.ff_filters.specs.contracts.any.AnyFilterFilter.TheImpl.{ghosts}
 use Rattle.ff_graph_links.specs.pads.Links.{all_seen}
 use Rattle.ff_graph.specs.Configured.{make_from, none_made}
-use Rattle.ff_graph.specs.Pads.{made_by}
+use Rattle.ff_graph.specs.laws.Pads.{made_by}
 use Rattle.ff_graph.proofs.making.make_all.Given as goal
 
 abbrev pub invariant-order : goal.invariant-order

@@ -1,5 +1,5 @@
 use Rattle.std.proofs.Common.{◌≡◌, length, replicate, []}
-use Rattle.ff_graph.specs.Pads.{heads_in}
+use Rattle.ff_graph.specs.laws.Pads.{heads_in}
 use Rattle.ff_graph.proofs.making.no_heads.Given as goal
 
 abbrev pub invariant-filters : goal.invariant-filters

@@ -1,7 +1,7 @@
 use Rattle.std.proofs.Common.{◌≡◌, ◌++◌, drop, map}
 use Rattle.ff_graph_links.specs.pads.Links.{all_seen}
 use Rattle.ff_graph.specs.Opens.{open_ins_at}
-use Rattle.ff_graph.specs.Pads.{input_of}
+use Rattle.ff_graph.specs.laws.Pads.{input_of}
 use Rattle.ff_graph.proofs.opening.open_inputs.Given as goal
 
 abbrev pub invariant-pads : goal.invariant-pads

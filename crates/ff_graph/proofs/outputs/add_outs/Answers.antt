@@ -1,6 +1,6 @@
 use Rattle.std.proofs.Common.{map}
 use Rattle.ff_graph_links.specs.pads.Links.{pads_in}
-use Rattle.ff_graph.specs.Pads.{output_of}
+use Rattle.ff_graph.specs.laws.Pads.{output_of}
 use Rattle.ff_graph.proofs.Behind.{more_outs}
 use Rattle.ff_graph.proofs.outputs.add_outs.Goals as goal
 

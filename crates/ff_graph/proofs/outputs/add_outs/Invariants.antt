@@ -1,7 +1,7 @@
 use Rattle.std.proofs.Common.{◌≡◌, ◌++◌, drop, map}
 use Rattle.ff_graph_links.specs.pads.Links.{pads_in}
 use Rattle.ff_graph.specs.Configured.{outs_at}
-use Rattle.ff_graph.specs.Pads.{output_of}
+use Rattle.ff_graph.specs.laws.Pads.{output_of}
 use Rattle.ff_graph.proofs.outputs.add_outs.Given as goal
 
 abbrev pub invariant-pads : goal.invariant-pads

@@ -1,7 +1,7 @@
 use Rattle.std.proofs.Common.{◌≡◌, ◌++◌, drop, map}
 use Rattle.ff_graph_links.specs.pads.Links.{all_seen, pads_in}
 use Rattle.ff_graph.specs.Configured.{outs_from}
-use Rattle.ff_graph.specs.Pads.{heads_in, output_of}
+use Rattle.ff_graph.specs.laws.Pads.{heads_in, output_of}
 use Rattle.ff_graph.proofs.outputs.open_outs.Given as goal
 
 abbrev pub invariant-filters : goal.invariant-filters

@@ -1,6 +1,6 @@
 use Rattle.std.proofs.Common.{◌<◌, length, false, sym, ◌∙◌, arith}
-use Rattle.ff_graph_dag.specs.Over.{true_all, not_all}
-use Rattle.ff_graph_dag.specs.Readings.{at_is}
+use Rattle.ff_graph_dag.specs.laws.Over.{true_all, not_all}
+use Rattle.ff_graph_dag.specs.laws.Readings.{at_is}
 use Rattle.ff_graph_dag.proofs.dag.are_true.Goals as goal
 
 pub returns-then-not-index : goal.returns-then-not-index

@@ -1,6 +1,6 @@
 use Rattle.std.proofs.Common.{sym, subst}
 use Rattle.ff_input.specs.declared.walk.InputWalk.{InputWalk}
-use Rattle.ff_input.specs.Places.{IsReached}
+use Rattle.ff_input.specs.laws.Places.{IsReached}
 use Rattle.ff_input.proofs.Walking.{named_reached, other_reached}
 use Rattle.ff_input.proofs.walk.begin.Goals as goal
 

@@ -1,6 +1,6 @@
 use Rattle.std.proofs.Common.{◌≡◌, ◌≤◌, length}
 use Rattle.std.specs.Prelude.{vec_capacity}
-use Rattle.ff_joins.specs.Segmented.{AreNew}
+use Rattle.ff_joins.specs.laws.Segmented.{AreNew}
 use Rattle.ff_joins.proofs.concat_options.inlets_of.Given as goal
 
 abbrev pub invariant-inlets : goal.invariant-inlets

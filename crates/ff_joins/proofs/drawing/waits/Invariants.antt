@@ -1,5 +1,5 @@
 use Rattle.std.proofs.Common.{◌≡◌, ◌+◌, drop}
-use Rattle.ff_joins.specs.Segmented.{waits_in}
+use Rattle.ff_joins.specs.laws.Segmented.{waits_in}
 use Rattle.ff_joins.proofs.drawing.waits.Given as goal
 
 abbrev pub invariant-inlets : goal.invariant-inlets

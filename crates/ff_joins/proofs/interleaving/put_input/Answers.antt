@@ -1,7 +1,7 @@
 use Rattle.std.proofs.Common.{◌≡◌, ◌<◌, ◌≤◌, ◌+◌, ◌-◌, ◌*◌, ◌++◌, ℕ, ℤ, List, inl, inr, length, take, drop, arith, ap, sym, ◌∙◌, subst}
 use Rattle.std.proofs.lemmas.Bool.{cases_lt}
 use Rattle.ff_joins.specs.JoinOptions.{channels_of}
-use Rattle.ff_joins.specs.Lots.{lot_of, cell}
+use Rattle.ff_joins.specs.laws.Lots.{lot_of, cell}
 use Rattle.ff_joins.proofs.RowSteps.{patch, patch_long, row_there, row_before, row_here, rows_left, cell_long}
 use Rattle.ff_joins.proofs.interleaving.put_input.Goals as goal
 

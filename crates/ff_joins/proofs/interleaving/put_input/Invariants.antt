@@ -1,6 +1,6 @@
 use Rattle.std.proofs.Common.{◌≡◌, ◌<◌, ◌+◌, ◌*◌, ◌++◌, ℕ, length, take, drop}
 use Rattle.ff_joins.specs.JoinOptions.{channels_of}
-use Rattle.ff_joins.specs.Lots.{lot_of, cell}
+use Rattle.ff_joins.specs.laws.Lots.{lot_of, cell}
 use Rattle.ff_joins.proofs.interleaving.put_input.Given as goal
 
 abbrev pub invariant-rows : goal.invariant-rows

@@ -1,8 +1,8 @@
 use Rattle.std.proofs.Common.{◌≡◌, ◌<◌, ◌≤◌, ◌+◌, ◌*◌, ◌++◌, ℕ, suc, ℤ, List, length, take, drop, arith, ap, sym, ◌∙◌, ◌^◌}
 use Rattle.ff_joins.specs.declared.sound_inlet.SoundInlet.{SoundInlet}
 use Rattle.ff_joins.specs.JoinOptions.{channels_of}
-use Rattle.ff_joins.specs.JoinCuts.{width_to}
-use Rattle.ff_joins.specs.Lots.{Lot, lots, lot_of, cell, row_to}
+use Rattle.ff_joins.specs.laws.JoinCuts.{width_to}
+use Rattle.ff_joins.specs.laws.Lots.{Lot, lots, lot_of, cell, row_to}
 use Rattle.ff_joins.proofs.Framing.{lots_there}
 use Rattle.ff_joins.proofs.RowSteps.{width_there, all_cells}
 use Rattle.ff_joins.proofs.interleaving.put_inputs.Goals as goal

@@ -1,6 +1,6 @@
 use Rattle.std.proofs.Common.{◌≡◌, ◌<◌, ◌*◌, ℕ, length, take, drop}
-use Rattle.ff_joins.specs.JoinCuts.{width_to}
-use Rattle.ff_joins.specs.Lots.{lots, row_to}
+use Rattle.ff_joins.specs.laws.JoinCuts.{width_to}
+use Rattle.ff_joins.specs.laws.Lots.{lots, row_to}
 use Rattle.ff_joins.proofs.interleaving.put_inputs.Given as goal
 
 abbrev pub invariant-inputs : goal.invariant-inputs

@@ -5,7 +5,7 @@ use Rattle.ff_filter.specs.declared.after.After.TheVariants.{More}
 use Rattle.ff_joins.specs.declared.sound_inlet.SoundInlet.{SoundInlet}
 use Rattle.ff_joins.specs.JoinOptions.{channels_of}
 use Rattle.ff_joins.specs.JoinView.{AreEmpty}
-use Rattle.ff_joins.specs.Lots.{Lot, lot_of}
+use Rattle.ff_joins.specs.laws.Lots.{Lot, lot_of}
 use Rattle.ff_joins.proofs.JoinStarting.{long_more, heads_next, empty_more}
 use Rattle.ff_joins.proofs.join_configured.inlets_of.Goals as goal
 

@@ -1,4 +1,4 @@
-use Rattle.ff_joins.specs.JoinRule.{side-breaks}
+use Rattle.ff_joins.specs.laws.JoinRule.{side-breaks}
 use Rattle.ff_joins.proofs.laws.joined_sound_keeps_the_broken_rule.Goals as goal
 
 pub returns : goal.returns

@@ -1,4 +1,4 @@
-use Rattle.ff_joins.specs.JoinRule.{side-keeps}
+use Rattle.ff_joins.specs.laws.JoinRule.{side-keeps}
 use Rattle.ff_joins.proofs.laws.sound_further_on_is_joined_further_on.Goals as goal
 
 pub returns : goal.returns

@@ -1,5 +1,5 @@
-use Rattle.ff_joins.specs.ConcatBreaks.{broken_stands}
-use Rattle.ff_joins.specs.JoinBreaks.{lost_by}
+use Rattle.ff_joins.specs.laws.ConcatBreaks.{broken_stands}
+use Rattle.ff_joins.specs.laws.JoinBreaks.{lost_by}
 use Rattle.ff_joins.specs.Joined.{row_stream}
 use Rattle.ff_joins.proofs.laws.unbroken_inputs_make_no_break.Goals as goal
 

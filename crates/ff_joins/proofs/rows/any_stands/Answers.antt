@@ -1,6 +1,6 @@
 use Rattle.std.proofs.Common.{◌≡◌, ◌<◌, ℕ, inl, inr, length, arith, ap, sym, ◌∙◌}
 use Rattle.std.proofs.lemmas.Bool.{cases_lt}
-use Rattle.ff_joins.specs.Lots.{Lot, lots}
+use Rattle.ff_joins.specs.laws.Lots.{Lot, lots}
 use Rattle.ff_joins.proofs.Framing.{lots_there}
 use Rattle.ff_joins.proofs.rows.any_stands.Goals as goal
 

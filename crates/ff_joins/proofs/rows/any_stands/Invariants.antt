@@ -1,5 +1,5 @@
 use Rattle.std.proofs.Common.{◌≡◌, ◌<◌, ℕ}
-use Rattle.ff_joins.specs.Lots.{lots}
+use Rattle.ff_joins.specs.laws.Lots.{lots}
 use Rattle.ff_joins.proofs.rows.any_stands.Given as goal
 
 abbrev pub invariant-each : goal.invariant-each

@@ -1,7 +1,7 @@
 use Rattle.std.proofs.Common.{◌≡◌, ◌<◌, ◌≤◌, ℕ, inl, inr, length, slice_index_or, arith, ap, sym, ◌∙◌, subst}
 use Rattle.std.proofs.lemmas.Bool.{cases_lt}
 use Rattle.ff_joins.specs.declared.sound_inlet.SoundInlet.{SoundInlet}
-use Rattle.ff_joins.specs.Lots.{Lot, lots}
+use Rattle.ff_joins.specs.laws.Lots.{Lot, lots}
 use Rattle.ff_joins.proofs.Framing.{lots_there}
 use Rattle.ff_joins.proofs.rows.fewest.Goals as goal
 

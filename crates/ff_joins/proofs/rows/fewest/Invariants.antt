@@ -1,5 +1,5 @@
 use Rattle.std.proofs.Common.{◌≡◌, ◌<◌, ◌≤◌, ℕ, length}
-use Rattle.ff_joins.specs.Lots.{lots}
+use Rattle.ff_joins.specs.laws.Lots.{lots}
 use Rattle.ff_joins.proofs.rows.fewest.Given as goal
 
 abbrev pub invariant-each : goal.invariant-each

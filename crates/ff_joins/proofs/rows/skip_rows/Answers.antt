@@ -1,7 +1,7 @@
 use Rattle.std.proofs.Common.{◌≡◌, ◌<◌, ℕ, inl, inr, length, arith, ap, sym, ◌∙◌, subst, set}
 use Rattle.std.proofs.lemmas.Bool.{cases_lt}
 use Rattle.std.proofs.lemmas.List.{length-set}
-use Rattle.ff_joins.specs.Lots.{Lot, lots, lot_of, skipped}
+use Rattle.ff_joins.specs.laws.Lots.{Lot, lots, lot_of, skipped}
 use Rattle.ff_joins.proofs.Framing.{lots_there, lots_here, lots_others, lots_beyond, lanes_same, none_skipped}
 use Rattle.ff_joins.proofs.rows.skip_rows.Goals as goal
 

@@ -1,5 +1,5 @@
 use Rattle.std.proofs.Common.{◌≡◌, ◌<◌, ◌≤◌, ℕ, length, map}
-use Rattle.ff_joins.specs.Lots.{lots, lane_of, skipped}
+use Rattle.ff_joins.specs.laws.Lots.{lots, lane_of, skipped}
 use Rattle.ff_joins.proofs.rows.skip_rows.Given as goal
 
 abbrev pub invariant-skip : goal.invariant-skip

@@ -1,8 +1,8 @@
 use Rattle.std.proofs.Common.{◌≡◌, ◌<◌, ◌+◌, ℕ, suc, length, arith, ap, sym, ◌∙◌}
 use Rattle.ff_joins.specs.declared.sound_inlet.SoundInlet.{SoundInlet}
 use Rattle.ff_joins.specs.JoinOptions.{channels_of}
-use Rattle.ff_joins.specs.JoinCuts.{width_to}
-use Rattle.ff_joins.specs.Lots.{Lot, lots}
+use Rattle.ff_joins.specs.laws.JoinCuts.{width_to}
+use Rattle.ff_joins.specs.laws.Lots.{Lot, lots}
 use Rattle.ff_joins.proofs.Framing.{lots_there}
 use Rattle.ff_joins.proofs.rows.width.Goals as goal
 

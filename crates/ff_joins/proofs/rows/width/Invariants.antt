@@ -1,6 +1,6 @@
 use Rattle.std.proofs.Common.{◌≡◌, ◌≤◌, ◌*◌}
-use Rattle.ff_joins.specs.JoinCuts.{width_to}
-use Rattle.ff_joins.specs.Lots.{lots}
+use Rattle.ff_joins.specs.laws.JoinCuts.{width_to}
+use Rattle.ff_joins.specs.laws.Lots.{lots}
 use Rattle.ff_joins.proofs.rows.width.Given as goal
 
 abbrev pub invariant-each : goal.invariant-each

@@ -1,6 +1,6 @@
 use Rattle.std.proofs.Common.{◌≡◌, ◌++◌, ◌∙◌, string_bytes, sym, ap, subst}
 use Rattle.ff_lang.specs.Grammar.{IsGraph}
-use Rattle.ff_lang.specs.Printing.{series, printed_chain, printed}
+use Rattle.ff_lang.specs.laws.Printing.{series, printed_chain, printed}
 use Rattle.ff_lang.proofs.Prints.{printed_is}
 use Rattle.ff_lang.proofs.print.print_graph.Goals as goal
 

@@ -1,5 +1,5 @@
 use Rattle.std.proofs.Common.{◌≡◌, ◌++◌, ◌∙◌, ◌∷◌, [], string_bytes, encode_utf8, sym, ap, append_assoc, arith}
-use Rattle.ff_lang.specs.Printing.{escaped_value}
+use Rattle.ff_lang.specs.laws.Printing.{escaped_value}
 use Rattle.ff_lang.proofs.Prints.{escaped_char, plain_char}
 use Rattle.ff_lang.proofs.print.push_char.Goals.{then-is_escaped+in_ok-push, else-is_escaped}
 use Rattle.ff_lang.proofs.print.push_char.Goals as goal

@@ -1,5 +1,5 @@
 use Rattle.std.proofs.Common.{◌≡◌, ◌++◌, string_bytes, drop}
-use Rattle.ff_lang.specs.Printing.{printed_labels}
+use Rattle.ff_lang.specs.laws.Printing.{printed_labels}
 use Rattle.ff_lang.proofs.print.push_labels.Given as goal
 
 abbrev pub invariant-loop-label : goal.invariant-loop-label

@@ -1,5 +1,5 @@
 use Rattle.std.proofs.Common.{◌≡◌, ◌++◌, string_bytes, drop}
-use Rattle.ff_lang.specs.Printing.{led, series}
+use Rattle.ff_lang.specs.laws.Printing.{led, series}
 use Rattle.ff_lang.proofs.print.push_series.Given as goal
 
 abbrev pub invariant-loop-item : goal.invariant-loop-item

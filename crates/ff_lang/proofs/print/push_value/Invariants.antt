@@ -1,6 +1,6 @@
 use Rattle.std.proofs.Common.{◌≡◌, ◌++◌, string_bytes}
 use Rattle.std.specs.Str.Iter.{chars_rest}
-use Rattle.ff_lang.specs.Printing.{escaped_value}
+use Rattle.ff_lang.specs.laws.Printing.{escaped_value}
 use Rattle.ff_lang.proofs.print.push_value.Given as goal
 
 abbrev pub invariant-loop-c : goal.invariant-loop-c

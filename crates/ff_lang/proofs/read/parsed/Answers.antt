@@ -1,7 +1,7 @@
 use Rattle.std.proofs.Common.{◌≡◌, refl, ◌++◌, ◌∷◌, [], length, sym, ap, ◌∙◌, append_assoc, length-append, arith, Some}
 use Rattle.std.proofs.Math.Utf8.{encode, encodes}
 use Rattle.std.specs.Str.Iter.{chars_rest}
-use Rattle.ff_lang.specs.Reading.{start, char_next}
+use Rattle.ff_lang.specs.laws.Reading.{start, char_next}
 use Rattle.ff_lang.proofs.Runs.{run}
 use Rattle.ff_lang.proofs.Places.{Read-bad, Read-ok, bad_char, bad_end, char_on, encodes_push, whole, goes_true, goes_false}
 use Rattle.ff_lang.proofs.SoundGraphs.{graph_sound}

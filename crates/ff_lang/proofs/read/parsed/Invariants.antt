@@ -1,7 +1,7 @@
 use Rattle.std.proofs.Common.{◌≡◌, ◌++◌, Some, length}
 use Rattle.std.proofs.Math.Utf8.{encodes}
 use Rattle.std.specs.Str.Iter.{chars_rest}
-use Rattle.ff_lang.specs.Reading.{start}
+use Rattle.ff_lang.specs.laws.Reading.{start}
 use Rattle.ff_lang.proofs.Runs.{run}
 use Rattle.ff_lang.proofs.read.parsed.Given as goal
 

@@ -1,5 +1,5 @@
 use Rattle.std.proofs.Common.{rules}
-use Rattle.ff_link.specs.Flow.{IsCarried, AnyCounts}
+use Rattle.ff_link.specs.laws.Flow.{IsCarried, AnyCounts}
 use Rattle.ff_link.proofs.Flows.{merges, totals}
 use Rattle.ff_link.proofs.ends.settle.Goals as goal
 

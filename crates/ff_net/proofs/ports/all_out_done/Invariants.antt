@@ -1,5 +1,5 @@
 use Rattle.std.proofs.Common.{◌≡◌, ◌<◌, ℕ, true}
-use Rattle.ff_net.specs.Ports.{out_at}
+use Rattle.ff_net.specs.laws.Ports.{out_at}
 use Rattle.ff_net.proofs.ports.all_out_done.Given as goal
 
 abbrev pub invariant-loop-port : goal.invariant-loop-port

@@ -5,7 +5,7 @@ use Rattle.ff_net.proofs.NetSteps.{are_of_set, fares_set, passes_set, are_shaped
 use Rattle.ff_net.proofs.Moments.{fault_then, pass_then}
 use Rattle.ff_net.proofs.Before.{meets_solution}
 use Rattle.ff_net.proofs.Whole.{moment_of}
-use Rattle.ff_net.specs.Worlds.{lanes_of}
+use Rattle.ff_net.specs.laws.Worlds.{lanes_of}
 use Rattle.ff_net.proofs.serial.run_serial.Goals as goal
 
 pub turn-turn-requires : goal.turn-turn-requires

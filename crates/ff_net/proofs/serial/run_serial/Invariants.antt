@@ -1,8 +1,8 @@
 use Rattle.std.proofs.Common.{◌≡◌, ℕ}
 use Rattle.ff_net.specs.Pasts.{Task}
-use Rattle.ff_net.specs.Serial.{AllPass, AreOf, AreShaped, NetStands, parts_of}
-use Rattle.ff_net.specs.Theorem.{AllFare}
-use Rattle.ff_net.specs.Worlds.{lanes_of}
+use Rattle.ff_net.specs.laws.Serial.{AllPass, AreOf, AreShaped, NetStands, parts_of}
+use Rattle.ff_net.specs.laws.Theorem.{AllFare}
+use Rattle.ff_net.specs.laws.Worlds.{lanes_of}
 use Rattle.ff_net.proofs.serial.run_serial.Given as goal
 
 abbrev pub invariant-loop-k : goal.invariant-loop-k

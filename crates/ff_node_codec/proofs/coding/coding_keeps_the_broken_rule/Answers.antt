@@ -1,7 +1,7 @@
 use Rattle.ff_stream.specs.Ports.{stream_at}
-use Rattle.ff_node_codec.specs.CodingLaws.{made_keeps_broken_rule, always_keeps_broken_rule, left_keeps_broken_rule}
+use Rattle.ff_node_codec.specs.laws.CodingLaws.{made_keeps_broken_rule, always_keeps_broken_rule, left_keeps_broken_rule}
 use Rattle.ff_node_codec.specs.Decoding.{decoded_item}
-use Rattle.ff_node_codec.specs.EncodeLaws.{no_damage}
+use Rattle.ff_node_codec.specs.laws.EncodeLaws.{no_damage}
 use Rattle.ff_node_codec.specs.Encoding.{encoded_item}
 use Rattle.ff_node_codec.proofs.coding.coding_keeps_the_broken_rule.Goals as goal
 

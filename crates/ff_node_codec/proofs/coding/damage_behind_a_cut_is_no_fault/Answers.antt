@@ -1,7 +1,7 @@
 use Rattle.std.proofs.Common.{ap}
 use Rattle.ff_stream.specs.Ports.{stream_at}
 use Rattle.ff_stream.specs.Stream.{Mark}
-use Rattle.ff_node_codec.specs.CodingLaws.{unbroken_fault, at_once_fault}
+use Rattle.ff_node_codec.specs.laws.CodingLaws.{unbroken_fault, at_once_fault}
 use Rattle.ff_node_codec.specs.Decoding.{decoded_item, if_broken}
 use Rattle.ff_node_codec.specs.Making.{damage_in, fault_by}
 use Rattle.ff_node_codec.proofs.coding.damage_behind_a_cut_is_no_fault.Goals as goal

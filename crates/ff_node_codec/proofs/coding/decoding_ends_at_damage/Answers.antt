@@ -1,4 +1,4 @@
-use Rattle.ff_node_codec.specs.CodingLaws.{ends_at_damage}
+use Rattle.ff_node_codec.specs.laws.CodingLaws.{ends_at_damage}
 use Rattle.ff_node_codec.specs.Decoding.{decoded_item}
 use Rattle.ff_node_codec.proofs.coding.decoding_ends_at_damage.Goals as goal
 

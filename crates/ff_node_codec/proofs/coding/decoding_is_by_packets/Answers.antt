@@ -2,10 +2,10 @@ use Rattle.std.proofs.Common.{◌≡◌, ℕ, ◌++◌, ◌∷◌, [], List, Opt
 use Rattle.std.proofs.lemmas.List.{append-nil}
 use Rattle.ff_stream.specs.declared.item.Item.{Item}
 use Rattle.ff_stream.specs.declared.item.Item.TheVariants.{Packet}
-use Rattle.ff_stream.specs.Order.{same_stream}
+use Rattle.ff_stream.specs.laws.Order.{same_stream}
 use Rattle.ff_stream.specs.Stream.{broken}
 use Rattle.ff_node_codec.specs.Making.{made_items, damage_in, mark_by}
-use Rattle.ff_node_codec.specs.CodingLaws.{packets_in, frames_before, none_behind}
+use Rattle.ff_node_codec.specs.laws.CodingLaws.{packets_in, frames_before, none_behind}
 use Rattle.ff_node_codec.specs.Decoding.{decoded_item, decoded}
 use Rattle.ff_node_codec.proofs.coding.decoding_is_by_packets.Goals as goal
 

@@ -1,16 +1,16 @@
 use Rattle.ff_frame.specs.declared.head.StreamHead.{StreamHead}
 use Rattle.ff_stream.specs.declared.item.Lane.TheVariants.{Frames, Packets}
 use Rattle.ff_stream.specs.Lanes.{IsValid}
-use Rattle.ff_stream.specs.WithinLaws.{valid_within}
+use Rattle.ff_stream.specs.laws.WithinLaws.{valid_within}
 use Rattle.ff_net.specs.Ways.{Flow}
-use Rattle.ff_node_codec.specs.codecs.ChoiceLaws.{IsTakenOf, choice_decoded}
+use Rattle.ff_node_codec.specs.laws.codecs.ChoiceLaws.{IsTakenOf, choice_decoded}
 use Rattle.ff_node_codec.specs.codecs.Choices.{CanDecode, frame_made}
 use Rattle.ff_time.specs.declared.cut.TimeCut.{TimeCut}
 use Rattle.ff_trim.specs.Cuts.{cut}
 use Rattle.ff_trim.proofs.Valid.{cut_valid}
 use Rattle.ff_node_codec.specs.Decoding.{decoded_item, decoded}
-use Rattle.ff_node_codec.specs.DecodeLaws.{decoding_carries}
-use Rattle.ff_node_codec.specs.MakingLaws.{made_valid}
+use Rattle.ff_node_codec.specs.laws.DecodeLaws.{decoding_carries}
+use Rattle.ff_node_codec.specs.laws.MakingLaws.{made_valid}
 use Rattle.ff_node_codec.proofs.coding.decoding_passes_no_limit.Goals as goal
 
 valid_frames : (head : StreamHead) (packets : Flow) → CanDecode head → IsValid (Packets head) packets

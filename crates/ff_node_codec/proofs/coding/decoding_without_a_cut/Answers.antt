@@ -1,10 +1,10 @@
 use Rattle.std.proofs.Common.{◌∙◌, ap}
 use Rattle.ff_stream.specs.Ports.{stream_at}
 use Rattle.ff_trim.specs.Cuts.{cut}
-use Rattle.ff_node_codec.specs.CodingLaws.{uncut_is, uncut_damage}
+use Rattle.ff_node_codec.specs.laws.CodingLaws.{uncut_is, uncut_damage}
 use Rattle.ff_node_codec.specs.Decoding.{decoded}
 use Rattle.ff_node_codec.specs.Making.{fault_by}
-use Rattle.ff_node_codec.specs.SpreadLaws.{at_replicate}
+use Rattle.ff_node_codec.specs.laws.SpreadLaws.{at_replicate}
 use Rattle.ff_node_codec.proofs.coding.decoding_without_a_cut.Goals as goal
 
 pub returns-clause-stream : goal.returns-clause-stream

@@ -1,13 +1,13 @@
 use Rattle.ff_frame.specs.declared.head.StreamHead.{StreamHead}
 use Rattle.ff_stream.specs.declared.item.Lane.TheVariants.{Frames, Packets}
 use Rattle.ff_stream.specs.Lanes.{IsValid}
-use Rattle.ff_stream.specs.WithinLaws.{valid_within}
+use Rattle.ff_stream.specs.laws.WithinLaws.{valid_within}
 use Rattle.ff_net.specs.Ways.{Flow}
-use Rattle.ff_node_codec.specs.codecs.ChoiceLaws.{IsTakenFor, choice_encoded, choice_times}
+use Rattle.ff_node_codec.specs.laws.codecs.ChoiceLaws.{IsTakenFor, choice_encoded, choice_times}
 use Rattle.ff_node_codec.specs.codecs.Choices.{CanEncode, packet_made}
 use Rattle.ff_node_codec.specs.Encoding.{encoded_item, encoded}
-use Rattle.ff_node_codec.specs.EncodeLaws.{encoding_carries}
-use Rattle.ff_node_codec.specs.MakingLaws.{made_valid}
+use Rattle.ff_node_codec.specs.laws.EncodeLaws.{encoding_carries}
+use Rattle.ff_node_codec.specs.laws.MakingLaws.{made_valid}
 use Rattle.ff_node_codec.proofs.coding.encoding_passes_no_limit.Goals as goal
 
 valid_packets : (head coded : StreamHead) (frames : Flow) → CanEncode head coded → IsValid (Frames head) frames

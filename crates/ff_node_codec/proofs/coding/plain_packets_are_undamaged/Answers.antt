@@ -4,7 +4,7 @@ use Rattle.ff_frame.specs.declared.packet.Pkt.{Pkt}
 use Rattle.ff_frame.specs.declared.head.StreamHead.{StreamHead}
 use Rattle.ff_frame.specs.declared.head.StreamHead.TheVariants.{Audio as AudioHead, Video as VideoHead}
 use Rattle.ff_node_codec.specs.codecs.Decoding.{pcm_frame, raw_frame, IsPictureHead}
-use Rattle.ff_node_codec.specs.CodingLaws.{never_damaged}
+use Rattle.ff_node_codec.specs.laws.CodingLaws.{never_damaged}
 use Rattle.ff_node_codec.proofs.coding.plain_packets_are_undamaged.Goals as goal
 
 has_frame : (head : StreamHead) → IsPictureHead head → (p : Pkt) → IsSome (raw_frame head p)

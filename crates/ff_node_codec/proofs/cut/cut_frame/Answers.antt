@@ -3,7 +3,7 @@ use Rattle.ff_filter.specs.declared.step.Given.{Given}
 use Rattle.ff_filter.specs.Joins.{Flow, one, before, joined}
 use Rattle.ff_filter.specs.Made.{made_of}
 use Rattle.ff_trim.specs.Cuts.{kept}
-use Rattle.ff_trim.specs.Taps.{runs_of}
+use Rattle.ff_trim.specs.laws.Taps.{runs_of}
 use Rattle.ff_node_codec.proofs.CutSteps.{frame_left, if_ok}
 use Rattle.ff_node_codec.proofs.cut.cut_frame.Goals as goal
 

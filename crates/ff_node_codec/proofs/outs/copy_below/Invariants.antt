@@ -1,5 +1,5 @@
-use Rattle.ff_node_codec.specs.Lines.{HaveRoom, AreSame}
-use Rattle.ff_node_codec.specs.Puts.{AreNext}
+use Rattle.ff_node_codec.specs.laws.Lines.{HaveRoom, AreSame}
+use Rattle.ff_node_codec.specs.laws.Puts.{AreNext}
 use Rattle.ff_node_codec.proofs.outs.copy_below.Given as goal
 
 abbrev pub invariant-loop-q : goal.invariant-loop-q

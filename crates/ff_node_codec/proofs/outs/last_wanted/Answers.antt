@@ -1,5 +1,5 @@
 use Rattle.std.proofs.Common.{◌≡◌, ◌+◌, ◌<◌, ℕ, length, None, Some, arith, ap, sym, ◌∙◌, subst}
-use Rattle.ff_node_codec.specs.Lines.{line_at}
+use Rattle.ff_node_codec.specs.laws.Lines.{line_at}
 use Rattle.ff_node_codec.specs.Spreads.{Line}
 use Rattle.ff_node_codec.proofs.LineSteps.{LastBelow, line_is, none_more, last_more, last_here}
 use Rattle.ff_node_codec.proofs.outs.last_wanted.Goals as goal

@@ -1,5 +1,5 @@
 use Rattle.std.proofs.Common.{◌≡◌, ◌<◌, ℕ, true, false, Some, None}
-use Rattle.ff_node_codec.specs.Lines.{line_at}
+use Rattle.ff_node_codec.specs.laws.Lines.{line_at}
 use Rattle.ff_node_codec.specs.Spreads.{AllStopped}
 use Rattle.ff_node_codec.proofs.outs.last_wanted.Given as goal
 

@@ -1,5 +1,5 @@
 use Rattle.std.proofs.Common.{◌≡◌, ◌≢◌, ◌<◌, ◌≤◌, ◌+◌, ◌++◌, ◌∷◌, ℕ, false, slice_set, length, arith, ap, sym, ◌∙◌, subst, inl, inr}
-use Rattle.ff_node_codec.specs.Lines.{line_at, closing_items}
+use Rattle.ff_node_codec.specs.laws.Lines.{line_at, closing_items}
 use Rattle.ff_node_codec.specs.Spreads.{Line}
 use Rattle.ff_node_codec.proofs.LineSteps.{set_count, room_rest, line_set_other, next_set_other, lower_or_same, put_queue, put_stopped}
 use Rattle.ff_node_codec.proofs.outs.put_all.Goals as goal

@@ -1,8 +1,8 @@
 use Rattle.std.proofs.Common.{◌≡◌, ◌<◌, ◌≤◌, ◌++◌, ◌∷◌, ℕ, false, length, slice_index_or}
 use Rattle.ff_stream.specs.declared.item.Item.{Item}
 use Rattle.ff_node_codec.specs.declared.ready.Ready.{Ready}
-use Rattle.ff_node_codec.specs.Lines.{line_at, next_at, HasRoom, closing_items}
-use Rattle.ff_node_codec.specs.Puts.{AreNext}
+use Rattle.ff_node_codec.specs.laws.Lines.{line_at, next_at, HasRoom, closing_items}
+use Rattle.ff_node_codec.specs.laws.Puts.{AreNext}
 use Rattle.ff_node_codec.proofs.outs.put_all.Given as goal
 
 abbrev pub invariant-loop-q : goal.invariant-loop-q

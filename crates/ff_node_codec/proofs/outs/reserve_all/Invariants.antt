@@ -1,6 +1,6 @@
 use Rattle.std.proofs.Common.{ℕ, ◌<◌, length, slice_index_or}
 use Rattle.ff_node_codec.specs.declared.ready.Ready.{Ready}
-use Rattle.ff_node_codec.specs.Lines.{HasRoom, AreSame}
+use Rattle.ff_node_codec.specs.laws.Lines.{HasRoom, AreSame}
 use Rattle.ff_node_codec.proofs.outs.reserve_all.Given as goal
 
 abbrev pub invariant-loop-q : goal.invariant-loop-q

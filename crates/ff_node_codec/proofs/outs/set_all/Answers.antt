@@ -1,7 +1,7 @@
 use Rattle.std.proofs.Common.{◌<◌, ◌≤◌, length, arith, Ok, Err}
 use Rattle.std.specs.Result.{OnErr}
 use Rattle.std.specs.declared.result.Result.{Result}
-use Rattle.ff_node_codec.specs.Puts.{IsLast}
+use Rattle.ff_node_codec.specs.laws.Puts.{IsLast}
 use Rattle.ff_node_codec.proofs.LineSteps.{same_set, same_then, next_all}
 use Rattle.ff_node_codec.proofs.outs.set_all.Goals as goal
 

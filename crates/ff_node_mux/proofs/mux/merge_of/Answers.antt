@@ -1,5 +1,5 @@
 use Rattle.std.proofs.Common.{length, ap, arith}
-use Rattle.ff_node_mux.specs.Mixing.{bases_long}
+use Rattle.ff_node_mux.specs.laws.Mixing.{bases_long}
 use Rattle.ff_node_mux.proofs.mux.merge_of.Goals as goal
 
 pub new-requires : goal.new-requires

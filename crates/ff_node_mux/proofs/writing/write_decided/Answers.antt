@@ -1,7 +1,7 @@
 use Rattle.std.proofs.Common.{◌∷◌, ◌++◌, [], ◌∙◌, refl, subst, arith, rules}
 use Rattle.ff_node_mux.specs.merge.Queues.{merging}
 use Rattle.ff_format.specs.Layouts.{Layout}
-use Rattle.ff_node_mux.specs.Writing.{Wrote, Stuck}
+use Rattle.ff_node_mux.specs.laws.Writing.{Wrote, Stuck}
 use Rattle.ff_node_mux.proofs.WriteSteps.{wrote_more, stuck_more}
 use Rattle.ff_node_mux.proofs.writing.write_decided.Goals as goal
 

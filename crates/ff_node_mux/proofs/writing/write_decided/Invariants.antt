@@ -2,7 +2,7 @@ use Rattle.std.proofs.Common.{◌≡◌, ◌≤◌, List, length}
 use Rattle.ff_filter.specs.Joins.{silence}
 use Rattle.ff_node_mux.specs.merge.Merges.{Placed}
 use Rattle.ff_node_mux.specs.merge.Queues.{merging}
-use Rattle.ff_node_mux.specs.Writing.{Alike, Wrote}
+use Rattle.ff_node_mux.specs.laws.Writing.{Alike, Wrote}
 use Rattle.ff_node_mux.proofs.writing.write_decided.Given as goal
 
 abbrev pub invariant-packets : goal.invariant-packets

@@ -3,8 +3,8 @@ use Rattle.ff_node_mux.specs.merge.Merges.{Placed}
 use Rattle.ff_node_mux.specs.merge.Queues.{merging}
 use Rattle.ff_net.specs.declared.fault.Fault.TheVariants.{NoMemory}
 use Rattle.ff_format.specs.Layouts.{Layout, body}
-use Rattle.ff_format.specs.Patches.{replacing}
-use Rattle.ff_node_mux.specs.Writing.{text_before}
+use Rattle.ff_format.specs.laws.Patches.{replacing}
+use Rattle.ff_node_mux.specs.laws.Writing.{text_before}
 use Rattle.ff_node_mux.proofs.Ends.{header_stands, replaced_inside}
 use Rattle.ff_node_mux.proofs.Texts.{front_none}
 use Rattle.ff_node_mux.proofs.WriteSteps.{stuck_early, stuck_first, stuck_midway, wrote_so_far, stuck_at_end, wrote_to_end, stuck_last}

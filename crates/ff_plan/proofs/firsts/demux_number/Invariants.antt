@@ -1,5 +1,5 @@
 use Rattle.std.proofs.Common.{◌≡◌, ◌+◌, drop}
-use Rattle.ff_plan.specs.Numbering.{demux_number}
+use Rattle.ff_plan.specs.laws.Numbering.{demux_number}
 use Rattle.ff_plan.proofs.firsts.demux_number.Given as goal
 
 abbrev pub invariant-loop-number : goal.invariant-loop-number

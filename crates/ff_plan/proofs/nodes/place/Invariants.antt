@@ -1,6 +1,6 @@
 use Rattle.std.proofs.Common.{◌≡◌, ◌*◌, ◌≤◌, ◌++◌, drop}
 use Rattle.ff_plan_layout.specs.Layout.{place_from}
-use Rattle.ff_plan_layout.specs.Rows.{rows}
+use Rattle.ff_plan_layout.specs.laws.Rows.{rows}
 use Rattle.ff_plan.proofs.nodes.place.Given as goal
 
 abbrev pub invariant-loop-output : goal.invariant-loop-output

@@ -7,8 +7,8 @@ use Rattle.ff_plan_layout.specs.declared.layout.OutStream.{OutStream}
 use Rattle.ff_plan_layout.specs.declared.layout.Placed.{Placed}
 use Rattle.ff_plan.specs.declared.planned.Plan.{Plan}
 use Rattle.ff_plan_layout.specs.Layout.{place_from}
-use Rattle.ff_plan_layout.specs.Rows.{rows}
-use Rattle.ff_plan_layout.specs.Limits.{IsSmall}
+use Rattle.ff_plan_layout.specs.laws.Rows.{rows}
+use Rattle.ff_plan_layout.specs.laws.Limits.{IsSmall}
 use Rattle.ff_plan.proofs.ByRows.{rows_few, plan_by}
 use Rattle.ff_plan_layout.proofs.Sizes.{map_length}
 use Rattle.ff_plan_layout.proofs.Bounds.{small_places}

@@ -7,7 +7,7 @@ use Rattle.ff_words.specs.maps.Choice.{all_streams, lists}
 use Rattle.ff_plan_layout.specs.declared.layout.Origin.{Origin}
 use Rattle.ff_plan_layout.specs.Layout.{shows}
 use Rattle.ff_plan_layout.specs.Sources.{source_streams}
-use Rattle.ff_plan.specs.Numbering.{all_sources, read_in, streams_in, inputs_in, has_stream, used_of}
+use Rattle.ff_plan.specs.laws.Numbering.{all_sources, read_in, streams_in, inputs_in, has_stream, used_of}
 use Rattle.ff_plan.proofs.ByRows.{few_read, few_used, drawn_by}
 use Rattle.ff_plan_layout.proofs.Bounds.{few_inputs, lists_few, lists_length}
 use Rattle.ff_plan.proofs.numbering.plan_placed.Goals as goal

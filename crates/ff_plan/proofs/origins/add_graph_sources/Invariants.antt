@@ -1,6 +1,6 @@
 use Rattle.std.proofs.Common.{◌≡◌, ◌++◌, drop}
 use Rattle.std.specs.List.{flat_map}
-use Rattle.ff_plan.specs.Numbering.{sources_of}
+use Rattle.ff_plan.specs.laws.Numbering.{sources_of}
 use Rattle.ff_plan.proofs.origins.add_graph_sources.Given as goal
 
 abbrev pub invariant-loop-graph : goal.invariant-loop-graph

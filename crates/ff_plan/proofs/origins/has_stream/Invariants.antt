@@ -1,5 +1,5 @@
 use Rattle.std.proofs.Common.{◌≡◌, drop}
-use Rattle.ff_plan.specs.Numbering.{has_stream}
+use Rattle.ff_plan.specs.laws.Numbering.{has_stream}
 use Rattle.ff_plan.proofs.origins.has_stream.Given as goal
 
 abbrev pub invariant-loop-stream : goal.invariant-loop-stream

@@ -2,7 +2,7 @@ use Rattle.std.proofs.Common.{◌≡◌, ℕ, ◌+◌, ◌-◌, List, [], ◌∷
 use Rattle.std.specs.List.{filter, range_with_len}
 use Rattle.std.specs.declared.alloc.Global.{Global}
 use Rattle.std.specs.declared.vec.Vec.{Vec}
-use Rattle.ff_plan.specs.Numbering.{has_stream}
+use Rattle.ff_plan.specs.laws.Numbering.{has_stream}
 use Rattle.ff_plan_layout.proofs.Filters.{filter_next, range_next, kept_one, dropped_one}
 use Rattle.ff_plan.proofs.origins.used_inputs.Goals as goal
 use Rattle.ff_plan.proofs.origins.used_inputs.Goals.{then-has_stream+in_ok-push, else-has_stream}

@@ -1,6 +1,6 @@
 use Rattle.std.proofs.Common.{◌≡◌, ◌-◌, ◌++◌}
 use Rattle.std.specs.List.{filter, range_with_len}
-use Rattle.ff_plan.specs.Numbering.{has_stream}
+use Rattle.ff_plan.specs.laws.Numbering.{has_stream}
 use Rattle.ff_plan.proofs.origins.used_inputs.Given as goal
 
 abbrev pub invariant-loop-input : goal.invariant-loop-input

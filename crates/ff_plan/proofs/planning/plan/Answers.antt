@@ -6,7 +6,7 @@ use Rattle.ff_plan.specs.Nodes.{plan_of}
 use Rattle.ff_plan.specs.Planned.{planned}
 use Rattle.ff_plan_layout.specs.LaidOut.{laid_out}
 use Rattle.ff_plan_layout.specs.Rules.{Planned, behind}
-use Rattle.ff_plan_layout.specs.Rows.{layout_in}
+use Rattle.ff_plan_layout.specs.laws.Rows.{layout_in}
 use Rattle.ff_plan_layout.proofs.Fronts.{fine, refused_behind}
 use Rattle.ff_plan_layout.proofs.LaidOut.{handed_on}
 use Rattle.ff_plan_layout.proofs.Bounds.{few_in_lists, lists_length}

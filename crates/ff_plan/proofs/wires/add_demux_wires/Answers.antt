@@ -2,7 +2,7 @@ use Rattle.std.proofs.Common.{◌≡◌, ℕ, ◌+◌, ◌<◌, List, [], ◌∷
 use Rattle.ff_stream.specs.declared.item.Lane.TheVariants.{Packets}
 use Rattle.ff_words.specs.declared.maps.streams.Stream.{Stream}
 use Rattle.ff_plan.specs.declared.number.Wire.{Wire}
-use Rattle.ff_plan.specs.Numbering.{wire_of, demux_wire_in, demux_number}
+use Rattle.ff_plan.specs.laws.Numbering.{wire_of, demux_wire_in, demux_number}
 use Rattle.ff_plan_layout.proofs.Fronts.{drop_next}
 use Rattle.ff_plan.proofs.wires.add_demux_wires.Goals as goal
 

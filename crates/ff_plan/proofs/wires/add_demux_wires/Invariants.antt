@@ -1,5 +1,5 @@
 use Rattle.std.proofs.Common.{◌≡◌, ◌++◌, map, drop}
-use Rattle.ff_plan.specs.Numbering.{demux_wire_in}
+use Rattle.ff_plan.specs.laws.Numbering.{demux_wire_in}
 use Rattle.ff_plan.proofs.wires.add_demux_wires.Given as goal
 
 abbrev pub invariant-loop-stream : goal.invariant-loop-stream

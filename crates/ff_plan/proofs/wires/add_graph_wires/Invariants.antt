@@ -1,6 +1,6 @@
 use Rattle.std.proofs.Common.{◌≡◌, ◌++◌, drop}
 use Rattle.std.specs.List.{flat_map}
-use Rattle.ff_plan.specs.Numbering.{pad_wires_in}
+use Rattle.ff_plan.specs.laws.Numbering.{pad_wires_in}
 use Rattle.ff_plan.proofs.wires.add_graph_wires.Given as goal
 
 abbrev pub invariant-loop-graph : goal.invariant-loop-graph

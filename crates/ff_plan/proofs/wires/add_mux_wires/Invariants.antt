@@ -1,5 +1,5 @@
 use Rattle.std.proofs.Common.{◌≡◌, ◌++◌, map, drop}
-use Rattle.ff_plan.specs.Numbering.{mux_wire_in}
+use Rattle.ff_plan.specs.laws.Numbering.{mux_wire_in}
 use Rattle.ff_plan.proofs.wires.add_mux_wires.Given as goal
 
 abbrev pub invariant-loop-one : goal.invariant-loop-one

@@ -1,5 +1,5 @@
 use Rattle.std.proofs.Common.{◌≡◌, ◌++◌, map, drop}
-use Rattle.ff_plan.specs.Numbering.{pad_wire_in}
+use Rattle.ff_plan.specs.laws.Numbering.{pad_wire_in}
 use Rattle.ff_plan.proofs.wires.add_pad_wires.Given as goal
 
 abbrev pub invariant-loop-pad : goal.invariant-loop-pad

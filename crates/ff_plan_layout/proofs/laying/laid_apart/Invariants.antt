@@ -1,8 +1,8 @@
 use Rattle.std.proofs.Common.{◌≡◌, ◌++◌, map}
 use Rattle.std.specs.Vec.Iter.{into_iter_items}
 use Rattle.ff_plan_layout.specs.Pads.{Made}
-use Rattle.ff_plan_layout.specs.Passing.{laid_by, streams_by}
-use Rattle.ff_plan_layout.specs.Rows.{rows}
+use Rattle.ff_plan_layout.specs.laws.Passing.{laid_by, streams_by}
+use Rattle.ff_plan_layout.specs.laws.Rows.{rows}
 use Rattle.ff_plan_layout.proofs.laying.laid_apart.Given as goal
 
 abbrev pub invariant-loop-row : goal.invariant-loop-row

@@ -13,12 +13,12 @@ use Rattle.ff_plan_layout.specs.declared.layout.GraphText.TheVariants as text
 use Rattle.ff_plan_layout.specs.declared.error.PlanError.{PlanError}
 use Rattle.ff_plan_layout.specs.Labels.{taken_labels}
 use Rattle.ff_plan_layout.specs.Layout.{Laid}
-use Rattle.ff_plan_layout.specs.Limits.{HasFewIns}
+use Rattle.ff_plan_layout.specs.laws.Limits.{HasFewIns}
 use Rattle.ff_plan_layout.specs.Order.{numbers}
 use Rattle.ff_plan_layout.specs.Pads.{Made, unlabelled}
-use Rattle.ff_plan_layout.specs.Passing.{count_fault, source_count_fault, laid_by, rows_behind, streams_by}
-use Rattle.ff_plan_layout.specs.Rows.{rows, layout_in}
-use Rattle.ff_plan_layout.specs.Refusals.{IsRefused, IsFault}
+use Rattle.ff_plan_layout.specs.laws.Passing.{count_fault, source_count_fault, laid_by, rows_behind, streams_by}
+use Rattle.ff_plan_layout.specs.laws.Rows.{rows, layout_in}
+use Rattle.ff_plan_layout.specs.laws.Refusals.{IsRefused, IsFault}
 use Rattle.ff_plan_layout.specs.LaidOut.{laid_out}
 use Rattle.ff_plan_layout.specs.Rules.{Planned}
 use Rattle.ff_plan_layout.specs.Streams.{Passed}

@@ -1,6 +1,6 @@
 use Rattle.std.proofs.Common.{drop}
 use Rattle.std.specs.List.{AllByRecursion}
-use Rattle.ff_plan_layout.specs.Limits.{HasShortGraphs}
+use Rattle.ff_plan_layout.specs.laws.Limits.{HasShortGraphs}
 use Rattle.ff_plan_layout.proofs.lengths.have_short_graphs.Given as goal
 
 abbrev pub invariant-loop-out : goal.invariant-loop-out

@@ -1,7 +1,7 @@
 use Rattle.std.proofs.Common.{◌≡◌, drop}
 use Rattle.std.specs.List.{AllByRecursion}
 use Rattle.ff_plan_layout.specs.Pads.{outs_of_made, made_at}
-use Rattle.ff_plan_layout.specs.Limits.{HasFewPads}
+use Rattle.ff_plan_layout.specs.laws.Limits.{HasFewPads}
 use Rattle.ff_plan_layout.proofs.making.add_outs_of.Given as goal
 
 abbrev pub invariant-loop-one : goal.invariant-loop-one

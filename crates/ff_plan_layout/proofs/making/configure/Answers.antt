@@ -5,7 +5,7 @@ use Rattle.std.specs.List.{filter_map}
 use Rattle.ff_lang.specs.declared.graph.Graph.{Graph}
 use Rattle.ff_plan_layout.specs.declared.layout.InPad.{InPad}
 use Rattle.ff_plan_layout.specs.Pads.{Made, Want, configure, made_of, pad_in, head_in}
-use Rattle.ff_plan_layout.specs.Refusals.{IsRefused}
+use Rattle.ff_plan_layout.specs.laws.Refusals.{IsRefused}
 use Rattle.ff_plan_layout.specs.Rules.{OpenOut, Planned}
 use Rattle.ff_plan_layout.proofs.Fronts.{fine}
 use Rattle.ff_plan_layout.proofs.making.configure.Goals as goal

@@ -1,7 +1,7 @@
 use Rattle.std.proofs.Common.{◌≡◌, drop}
 use Rattle.std.specs.List.{AllByRecursion}
 use Rattle.ff_plan_layout.specs.Pads.{labelled_out, made_at}
-use Rattle.ff_plan_layout.specs.Limits.{HasFewPads}
+use Rattle.ff_plan_layout.specs.laws.Limits.{HasFewPads}
 use Rattle.ff_plan_layout.proofs.making.labelled_pad.Given as goal
 
 abbrev pub invariant-loop-one : goal.invariant-loop-one

@@ -7,7 +7,7 @@ use Rattle.ff_source.specs.declared.made.Made.{Made as SourceMade}
 use Rattle.ff_words.specs.declared.maps.streams.Stream.{Stream}
 use Rattle.ff_words.specs.maps.Choice.{lists}
 use Rattle.ff_plan_layout.specs.Pads.{Made, Want, all_wants, make_all, make_from, wants_from}
-use Rattle.ff_plan_layout.specs.Refusals.{IsRefused}
+use Rattle.ff_plan_layout.specs.laws.Refusals.{IsRefused}
 use Rattle.ff_plan_layout.specs.Rules.{Planned}
 use Rattle.ff_plan_layout.specs.Sources.{source_streams, sources_of}
 use Rattle.ff_plan_layout.proofs.Bounds.{lists_length}

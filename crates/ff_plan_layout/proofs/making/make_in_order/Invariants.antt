@@ -1,7 +1,7 @@
 use Rattle.std.proofs.Common.{◌≡◌, [], drop, vec_len}
 use Rattle.std.specs.List.{AllByRecursion}
 use Rattle.ff_plan_layout.specs.Pads.{make_from}
-use Rattle.ff_plan_layout.specs.Limits.{HasFewIns, HasFewPads}
+use Rattle.ff_plan_layout.specs.laws.Limits.{HasFewIns, HasFewPads}
 use Rattle.ff_plan_layout.proofs.making.make_in_order.Given as goal
 
 abbrev pub invariant-loop-number : goal.invariant-loop-number

@@ -2,9 +2,9 @@ use Rattle.std.proofs.Common.{◌≡◌, List, ℕ, None, ◌∙◌, subst}
 use Rattle.std.specs.Prelude.{IfOk, IfErr}
 use Rattle.std.specs.List.{find, flat_map}
 use Rattle.ff_graph_links.specs.labels.Labels.{given_in}
-use Rattle.ff_plan_layout.specs.Mapping.{is_unused}
+use Rattle.ff_plan_layout.specs.laws.Mapping.{is_unused}
 use Rattle.ff_plan_layout.specs.LaidOut.{unused_of}
-use Rattle.ff_plan_layout.specs.Refusals.{IsFault}
+use Rattle.ff_plan_layout.specs.laws.Refusals.{IsFault}
 use Rattle.ff_plan_layout.proofs.mapping.check_unused.Goals as goal
 
 pub returns : goal.returns

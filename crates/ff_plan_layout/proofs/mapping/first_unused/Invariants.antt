@@ -1,6 +1,6 @@
 use Rattle.std.proofs.Common.{◌≡◌, drop}
 use Rattle.std.specs.List.{find}
-use Rattle.ff_plan_layout.specs.Mapping.{is_unused}
+use Rattle.ff_plan_layout.specs.laws.Mapping.{is_unused}
 use Rattle.ff_plan_layout.specs.LaidOut.{unused_of}
 use Rattle.ff_plan_layout.proofs.mapping.first_unused.Given as goal
 

@@ -4,7 +4,7 @@ use Rattle.std.specs.Prelude.{Ok}
 use Rattle.std.specs.List.{AllByRecursion}
 use Rattle.ff_plan_layout.specs.declared.layout.InPad.{InPad}
 use Rattle.ff_plan_layout.specs.Labels.{taken_labels}
-use Rattle.ff_plan_layout.specs.Picking.{inside_of, front_of, used_before}
+use Rattle.ff_plan_layout.specs.laws.Picking.{inside_of, front_of, used_before}
 use Rattle.ff_plan_layout.specs.LaidOut.{graphs_of, outputs_from}
 use Rattle.ff_plan_layout.specs.Streams.{Passed, chosen, all_passed, front_with}
 use Rattle.ff_plan_layout.proofs.Fronts.{all_more}

@@ -1,7 +1,7 @@
 use Rattle.std.proofs.Common.{◌≡◌, ◌+◌, ◌*◌, ◌≤◌, List, drop, take, length, vec_len}
 use Rattle.std.specs.List.{AllByRecursion}
 use Rattle.ff_plan_layout.specs.Labels.{taken_labels}
-use Rattle.ff_plan_layout.specs.Picking.{inside_of, front_of, used_before}
+use Rattle.ff_plan_layout.specs.laws.Picking.{inside_of, front_of, used_before}
 use Rattle.ff_plan_layout.specs.LaidOut.{outputs_from}
 use Rattle.ff_plan_layout.specs.Streams.{Passed, front_with}
 use Rattle.ff_plan_layout.proofs.output_rows.output_rows.Given as goal

@@ -2,7 +2,7 @@ use Rattle.std.proofs.Common.{◌≡◌, ℕ, ◌+◌, ◌≤◌, List, take, le
 use Rattle.std.proofs.lemmas.List.{length-take-le}
 use Rattle.std.specs.Prelude.{Ok}
 use Rattle.ff_plan_layout.specs.declared.layout.InPad.{InPad}
-use Rattle.ff_plan_layout.specs.Picking.{inside_of, used_before, used_by}
+use Rattle.ff_plan_layout.specs.laws.Picking.{inside_of, used_before, used_by}
 use Rattle.ff_plan_layout.specs.Streams.{mapped, all_mapped, front_with}
 use Rattle.ff_plan_layout.proofs.Picked.{map_at, map_next, from_map}
 use Rattle.ff_plan_layout.proofs.picking.all_mapped.Goals as goal

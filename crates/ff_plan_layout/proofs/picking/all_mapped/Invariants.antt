@@ -1,6 +1,6 @@
 use Rattle.std.proofs.Common.{◌≡◌, drop, take, length}
 use Rattle.ff_plan_layout.specs.Streams.{all_mapped, front_with}
-use Rattle.ff_plan_layout.specs.Picking.{inside_of, used_before, used_by}
+use Rattle.ff_plan_layout.specs.laws.Picking.{inside_of, used_before, used_by}
 use Rattle.ff_plan_layout.proofs.picking.all_mapped.Given as goal
 
 abbrev pub invariant-loop-number : goal.invariant-loop-number

@@ -1,9 +1,9 @@
 use Rattle.std.proofs.Common.{◌≡◌, ◌++◌, [], drop, vec_len}
 use Rattle.std.specs.List.{AllByRecursion}
 use Rattle.ff_words.specs.maps.Choice.{lists}
-use Rattle.ff_plan_layout.specs.Limits.{IsFewWants}
+use Rattle.ff_plan_layout.specs.laws.Limits.{IsFewWants}
 use Rattle.ff_plan_layout.specs.Pads.{wants_from}
-use Rattle.ff_plan_layout.specs.Rows.{flat}
+use Rattle.ff_plan_layout.specs.laws.Rows.{flat}
 use Rattle.ff_plan_layout.proofs.wanting.all_wants.Given as goal
 
 abbrev pub invariant-loop-graph : goal.invariant-loop-graph

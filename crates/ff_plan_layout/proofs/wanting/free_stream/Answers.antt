@@ -3,7 +3,7 @@ use Rattle.std.specs.Prelude.{Some, None}
 use Rattle.std.specs.List.{find}
 use Rattle.ff_words.specs.maps.Choice.{lists, all_streams}
 use Rattle.ff_plan_layout.specs.Pads.{is_free}
-use Rattle.ff_plan_layout.specs.Rows.{flat}
+use Rattle.ff_plan_layout.specs.laws.Rows.{flat}
 use Rattle.ff_plan_layout.proofs.Wants.{streams_next}
 use Rattle.ff_plan_layout.proofs.wanting.free_stream.Goals as goal
 

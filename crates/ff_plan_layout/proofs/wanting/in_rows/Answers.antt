@@ -1,6 +1,6 @@
 use Rattle.std.proofs.Common.{List, true, false, sym, ap, ◌∙◌}
 use Rattle.ff_plan_layout.specs.Pads.{Want, is_taken}
-use Rattle.ff_plan_layout.specs.Rows.{flat}
+use Rattle.ff_plan_layout.specs.laws.Rows.{flat}
 use Rattle.ff_plan_layout.proofs.Wants.{rows_next}
 use Rattle.ff_plan_layout.proofs.wanting.in_rows.Goals as goal
 

@@ -1,6 +1,6 @@
 use Rattle.std.proofs.Common.{arith}
 use Rattle.ff_plan_layout.specs.Pads.{is_source}
-use Rattle.ff_plan_layout.specs.Rows.{flat}
+use Rattle.ff_plan_layout.specs.laws.Rows.{flat}
 use Rattle.ff_plan_layout.proofs.Counts.{tally_joined}
 use Rattle.ff_plan_layout.proofs.wanting.sources_before.Goals as goal
 

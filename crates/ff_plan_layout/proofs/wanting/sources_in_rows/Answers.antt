@@ -1,9 +1,9 @@
 use Rattle.std.proofs.Common.{List, ap, ◌∙◌, subst, arith}
 use Rattle.std.specs.List.{AllByRecursion}
 use Rattle.ff_stream.specs.edges.Ports.{tally}
-use Rattle.ff_plan_layout.specs.Limits.{IsFewWants}
+use Rattle.ff_plan_layout.specs.laws.Limits.{IsFewWants}
 use Rattle.ff_plan_layout.specs.Pads.{Want, is_source}
-use Rattle.ff_plan_layout.specs.Rows.{flat}
+use Rattle.ff_plan_layout.specs.laws.Rows.{flat}
 use Rattle.ff_plan_layout.proofs.Fronts.{drop_next}
 use Rattle.ff_plan_layout.proofs.Wants.{rows_counted}
 use Rattle.ff_plan_layout.proofs.wanting.sources_in_rows.Goals as goal

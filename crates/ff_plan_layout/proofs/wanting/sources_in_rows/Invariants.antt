@@ -1,9 +1,9 @@
 use Rattle.std.proofs.Common.{◌≡◌, ◌+◌, ◌*◌, ◌^◌, ◌≤◌, drop}
 use Rattle.std.specs.List.{AllByRecursion}
 use Rattle.ff_stream.specs.edges.Ports.{tally}
-use Rattle.ff_plan_layout.specs.Limits.{IsFewWants}
+use Rattle.ff_plan_layout.specs.laws.Limits.{IsFewWants}
 use Rattle.ff_plan_layout.specs.Pads.{is_source}
-use Rattle.ff_plan_layout.specs.Rows.{flat}
+use Rattle.ff_plan_layout.specs.laws.Rows.{flat}
 use Rattle.ff_plan_layout.proofs.wanting.sources_in_rows.Given as goal
 
 abbrev pub invariant-loop-row : goal.invariant-loop-row

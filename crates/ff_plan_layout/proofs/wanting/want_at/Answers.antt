@@ -5,7 +5,7 @@ use Rattle.ff_stream.specs.edges.Ports.{tally}
 use Rattle.ff_words.specs.declared.maps.streams.Stream.{Stream}
 use Rattle.ff_words.specs.maps.Choice.{lists}
 use Rattle.ff_plan_layout.specs.Pads.{is_source, known_or_nothing, want_by}
-use Rattle.ff_plan_layout.specs.Rows.{flat}
+use Rattle.ff_plan_layout.specs.laws.Rows.{flat}
 use Rattle.ff_plan_layout.specs.Sources.{made_at_pad}
 use Rattle.ff_plan_layout.proofs.Bounds.{lists_length}
 use Rattle.ff_plan_layout.proofs.wanting.want_at.Goals as goal

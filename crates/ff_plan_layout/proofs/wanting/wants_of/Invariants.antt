@@ -1,7 +1,7 @@
 use Rattle.std.proofs.Common.{◌≡◌, ◌++◌, drop, vec_len}
 use Rattle.ff_words.specs.maps.Choice.{lists}
 use Rattle.ff_plan_layout.specs.Pads.{wants_of}
-use Rattle.ff_plan_layout.specs.Rows.{flat}
+use Rattle.ff_plan_layout.specs.laws.Rows.{flat}
 use Rattle.ff_plan_layout.proofs.wanting.wants_of.Given as goal
 
 abbrev pub invariant-loop-pad : goal.invariant-loop-pad

@@ -1,5 +1,5 @@
 use Rattle.std.proofs.Common.{◌≡◌, ◌++◌, drop, map}
-use Rattle.ff_graph.specs.Pads.{input_of}
+use Rattle.ff_graph.specs.laws.Pads.{input_of}
 use Rattle.ff_plan_rules.specs.Rules.{input_as}
 use Rattle.ff_plan_rules.proofs.in_pads.input_pads.Given as goal
 

@@ -1,5 +1,5 @@
 use Rattle.std.proofs.Common.{◌≡◌, ◌++◌, drop, map}
-use Rattle.ff_graph.specs.Pads.{output_of}
+use Rattle.ff_graph.specs.laws.Pads.{output_of}
 use Rattle.ff_plan_rules.specs.Rules.{output_as}
 use Rattle.ff_plan_rules.proofs.out_pads.output_pads.Given as goal
 

@@ -5,7 +5,7 @@ use Rattle.ff_run_plan.specs.Asked.{asked_of}
 use Rattle.ff_run_plan.specs.Histories.{AreScheduled}
 use Rattle.ff_run_plan.specs.Meaning.{task_at}
 use Rattle.ff_run_plan.specs.Openings.{unstarted}
-use Rattle.ff_run_plan.specs.Runs.{AreRun}
+use Rattle.ff_run_plan.specs.laws.Runs.{AreRun}
 use Rattle.ff_run_plan.proofs.Histories.{none_known}
 use Rattle.ff_run_plan.proofs.Running.{part_sound, all_start, all_fit, are_within, run_ok, run_err}
 use Rattle.ff_run_plan.proofs.run.build_and_run.Goals as goal

@@ -3,12 +3,12 @@ use Rattle.std.specs.declared.alloc.Global.{Global}
 use Rattle.std.specs.declared.vec.Vec.{Vec}
 use Rattle.ff_net_threads.specs.declared.network.run.NodeFault.{NodeFault}
 use Rattle.ff_net_threads.specs.network.Fits.{network, ins_at, outs_at}
-use Rattle.ff_net_threads.specs.network.Networks.{AllStart, ports_of}
-use Rattle.ff_net_threads.specs.network.Runs.{MeetsNetwork}
+use Rattle.ff_net_threads.specs.laws.network.Networks.{AllStart, ports_of}
+use Rattle.ff_net_threads.specs.laws.network.Runs.{MeetsNetwork}
 use Rattle.ff_net.specs.Nets.{solve}
-use Rattle.ff_net_threads.specs.network.Scheduling.{Scheduled}
+use Rattle.ff_net_threads.specs.laws.network.Scheduling.{Scheduled}
 use Rattle.ff_run_plan.specs.Openings.{unstarted}
-use Rattle.ff_run_plan.specs.Runs.{TellsRun}
+use Rattle.ff_run_plan.specs.laws.Runs.{TellsRun}
 use Rattle.ff_run_plan.proofs.Histories.{none_known, of_log, or_memory_none, or_memory_told, some_told, with_history}
 use Rattle.ff_run_plan.proofs.Networks.{told_tells, told_meets, unstarted_meets}
 use Rattle.ff_run_plan.proofs.run.run_parts.Goals as goal

@@ -1,9 +1,9 @@
 use Rattle.std.proofs.Common.{◌≡◌, ◌<◌, ℕ, List, length, slice_get, refl, sym, ap, ◌∙◌, subst, arith}
-use Rattle.ff_net.specs.Laws.{Laws}
+use Rattle.ff_net.specs.laws.Laws.{Laws}
 use Rattle.ff_plan.specs.declared.planned.PlanNode.{PlanNode}
 use Rattle.ff_sched.specs.declared.routes.Routes.{Routes}
 use Rattle.ff_run_plan.specs.Asked.{asked_of}
-use Rattle.ff_run_plan.specs.Claims.{tell_all}
+use Rattle.ff_run_plan.specs.laws.Claims.{tell_all}
 use Rattle.ff_run_plan.specs.Histories.{state_before}
 use Rattle.ff_run_plan.specs.Parts.{source_at}
 use Rattle.ff_run_plan.specs.Reads.{IsLogFor, IsLogOf}

@@ -1,4 +1,4 @@
-use Rattle.ff_run_plan.specs.Claims.{tell_all}
+use Rattle.ff_run_plan.specs.laws.Claims.{tell_all}
 use Rattle.ff_run_plan.proofs.work.run_plan.Given as goal
 
 abbrev pub ghosts-run_nodes : goal.ghosts-run_nodes

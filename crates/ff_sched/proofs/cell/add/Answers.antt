@@ -2,7 +2,7 @@ use Rattle.std.proofs.Common.{rules, subst, ◌≡◌, List, ℕ, ap, refl, ◌�
 use Rattle.crossbeam_utils.specs.Seq.{cell_view}
 use Rattle.ff_frame.specs.declared.event.Event.{Event}
 use Rattle.ff_sched.specs.Events.{step_of}
-use Rattle.ff_sched.specs.Words.{state_of}
+use Rattle.ff_sched.specs.laws.Words.{state_of}
 use Rattle.ff_sched.specs.Histories.{MayCome}
 use Rattle.ff_sched.proofs.Histories.{tells, told, later_same}
 use Rattle.ff_sched.proofs.Steps.{one_more}

@@ -1,6 +1,6 @@
 use Rattle.std.proofs.Common.{List, ℕ, subst, sym, ◌∙◌}
 use Rattle.crossbeam_utils.specs.Seq.{cell_view}
-use Rattle.ff_sched.specs.Words.{state_of}
+use Rattle.ff_sched.specs.laws.Words.{state_of}
 use Rattle.ff_sched.specs.Histories.{MayCome}
 use Rattle.ff_sched.specs.declared.routes.Routes.{Routes}
 use Rattle.ff_sched.proofs.Histories.{Later, later_looks, later_adds, later_known, later_spare, later_routes, later_stays}

@@ -1,8 +1,8 @@
 use Rattle.std.proofs.Common.{◌≡◌, ◌++◌, ◌∷◌, [], sym, ap, ◌∙◌, subst, length}
 use Rattle.crossbeam_utils.specs.Seq.{cell_view}
 use Rattle.ff_sched.specs.Histories.{all_in, Rises}
-use Rattle.ff_sched.specs.Passing.{Passing, logs_of}
-use Rattle.ff_sched.specs.Writing.{write_all, Gathers}
+use Rattle.ff_sched.specs.laws.Passing.{Passing, logs_of}
+use Rattle.ff_sched.specs.laws.Writing.{write_all, Gathers}
 use Rattle.ff_sched.proofs.Closing.{gathers_more, write_all-append, logs-snoc}
 use Rattle.ff_sched.proofs.close.gather.Goals as goal
 

@@ -1,5 +1,5 @@
 use Rattle.std.proofs.Common.{◌+◌, List, ℕ, set, get_or, ◌∙◌, sym, ap, subst}
-use Rattle.ff_sched.specs.Words.{state_of}
+use Rattle.ff_sched.specs.laws.Words.{state_of}
 use Rattle.ff_sched.specs.Events.{step_of, IsSmall}
 use Rattle.ff_sched.proofs.Steps.{step_grant, step_sent, step_finished, step_best, step_exited}
 use Rattle.ff_sched.proofs.words.stepped.Goals as goal

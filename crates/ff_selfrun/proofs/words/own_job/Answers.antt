@@ -1,5 +1,5 @@
 use Rattle.std.proofs.Common.{Ok, Err, ap, subst, ◌∙◌}
-use Rattle.ff_words.specs.Reading.{Answers}
+use Rattle.ff_words.specs.laws.Reading.{Answers}
 use Rattle.ff_words.specs.Words.{texts, fault}
 use Rattle.ff_selfrun.specs.SelfRun.{own_words}
 use Rattle.ff_selfrun.proofs.Own.{never-alone, never-wrong, out-written, words-are}

@@ -1,5 +1,5 @@
 use Rattle.std.proofs.Common.{◌≡◌, false, length}
-use Rattle.ff_avi.specs.Cuts.{has_ended}
+use Rattle.ff_avi.specs.laws.Cuts.{has_ended}
 use Rattle.ff_test_avi.proofs.chains.told.Given as goal
 
 abbrev pub invariant-pieces : goal.invariant-pieces

@@ -4,7 +4,7 @@ use Rattle.std.proofs.lemmas.List.{length-take-le}
 use Rattle.ff_frame.specs.declared.head.StreamHead.{StreamHead}
 use Rattle.ff_trim.specs.declared.counted.OutputCut.{OutputCut}
 use Rattle.ff_trim.specs.declared.tap.Tap.{Tap}
-use Rattle.ff_trim.specs.Taps.{ways_of, AreNewWays}
+use Rattle.ff_trim.specs.laws.Taps.{ways_of, AreNewWays}
 use Rattle.ff_trim.proofs.Ways.{new_more, all_new}
 use Rattle.ff_trim.proofs.cutting.new_taps.Goals as goal
 

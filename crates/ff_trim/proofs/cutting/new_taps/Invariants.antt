@@ -1,5 +1,5 @@
 use Rattle.std.proofs.Common.{take}
-use Rattle.ff_trim.specs.Taps.{ways_of, AreNewWays}
+use Rattle.ff_trim.specs.laws.Taps.{ways_of, AreNewWays}
 use Rattle.ff_trim.proofs.cutting.new_taps.Given as goal
 
 abbrev pub invariant-heads : goal.invariant-heads

@@ -1,7 +1,7 @@
 use Rattle.std.proofs.Common.{sym, arith, string_bytes, subst}
 use Rattle.std.proofs.lemmas.List.{length-map}
 use Rattle.ff_words.specs.Words.{texts}
-use Rattle.ff_words.specs.Reading.{Steps, Ended, token_at}
+use Rattle.ff_words.specs.laws.Reading.{Steps, Ended, token_at}
 use Rattle.ff_words.proofs.Tokens.{stands-start, stands-on, step-fault, ended, width_some}
 use Rattle.ff_words.proofs.read.one_pass.Goals as goal
 

@@ -1,6 +1,6 @@
 use Rattle.std.proofs.Common.{◌-◌, length}
 use Rattle.ff_words.specs.Words.{texts}
-use Rattle.ff_words.specs.Reading.{Stands}
+use Rattle.ff_words.specs.laws.Reading.{Stands}
 use Rattle.ff_words.proofs.read.one_pass.Given as goal
 
 abbrev pub decreases-words : goal.decreases-words

@@ -1,6 +1,6 @@
 use Rattle.std.proofs.Common.{Ok, Err, subst}
 use Rattle.ff_words.specs.Words.{texts}
-use Rattle.ff_words.specs.Reading.{Answers}
+use Rattle.ff_words.specs.laws.Reading.{Answers}
 use Rattle.ff_words.proofs.Bounds.{bounded}
 use Rattle.ff_words.proofs.Unique.{known}
 use Rattle.ff_words.proofs.read.read_words.Goals as goal

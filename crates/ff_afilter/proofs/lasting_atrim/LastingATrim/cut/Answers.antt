@@ -1,5 +1,5 @@
 use Rattle.std.proofs.Common.{sym, ◌∙◌, arith}
-use Rattle.ff_afilter.specs.LastingLaws.{lasting_skips}
+use Rattle.ff_afilter.specs.laws.LastingLaws.{lasting_skips}
 use Rattle.ff_afilter.proofs.lasting_atrim.LastingATrim.cut.Goals as goal
 
 pub returns-then-not-ends_after-clause-made : goal.returns-then-not-ends_after-clause-made

@@ -1,5 +1,5 @@
 use Rattle.std.proofs.Common.{ap, arith, length}
-use Rattle.ff_format.specs.Bodies.{size_then}
+use Rattle.ff_format.specs.laws.Bodies.{size_then}
 use Rattle.ff_au.proofs.writer.AuPutWriter.add.Goals as goal
 
 pub returns-clause-ok : goal.returns-clause-ok

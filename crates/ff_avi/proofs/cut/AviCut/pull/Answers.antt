@@ -1,6 +1,6 @@
 use Rattle.std.proofs.Common.{◌∙◌, ap, Ok, sym, subst}
 use Rattle.ff_avi.specs.declared.cut.AviCut.{AviCut}
-use Rattle.ff_avi.specs.Cuts.{KeepsCut}
+use Rattle.ff_avi.specs.laws.Cuts.{KeepsCut}
 use Rattle.ff_avi.proofs.CutLaws.{then_tells, on_err}
 use Rattle.ff_avi.proofs.cut.AviCut.pull.Goals as goal
 

@@ -1,5 +1,5 @@
 use Rattle.std.proofs.Common.{◌≡◌, length}
-use Rattle.ff_avi.specs.Cuts.{has_ended, first_of, KeepsCut, IsPassed}
+use Rattle.ff_avi.specs.laws.Cuts.{has_ended, first_of, KeepsCut, IsPassed}
 use Rattle.ff_avi.proofs.cut.AviCut.pull.Given as goal
 
 abbrev pub invariant-units : goal.invariant-units

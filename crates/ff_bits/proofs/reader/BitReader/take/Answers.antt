@@ -1,5 +1,5 @@
 use Rattle.std.proofs.Common.{◌≡◌, ◌+◌, ◌-◌, ◌*◌, ◌<◌, ◌^◌, ℕ, sym, ap, subst, length, arith, length-drop}
-use Rattle.ff_bits.specs.Reads.{IsTaken}
+use Rattle.ff_bits.specs.laws.Reads.{IsTaken}
 use Rattle.ff_bits.proofs.Peek.{taken_twice, halves, halves_below}
 use Rattle.ff_bits.proofs.reader.BitReader.take.Goals as goal
 

@@ -1,7 +1,7 @@
 use Rattle.std.proofs.Common.{◌≡◌, ◌+◌, ◌-◌, ◌*◌, ◌<◌, ◌≤◌, ◌∙◌, ℕ, Bool, List, sym, ap, subst, length, drop, arith, length-drop}
 use lib.Count.{count_leading_zeros}
 use Rattle.ff_bits.specs.Bits.{bits}
-use Rattle.ff_bits.specs.Reads.{IsCounted}
+use Rattle.ff_bits.specs.laws.Reads.{IsCounted}
 use Rattle.ff_bits.proofs.BitsLemmas.{length-bits}
 use Rattle.ff_bits.proofs.Windows.{no_one}
 use Rattle.ff_bits.proofs.window.BitWindow.code.Goals as goal

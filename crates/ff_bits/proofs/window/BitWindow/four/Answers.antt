@@ -1,7 +1,7 @@
 use Rattle.std.proofs.Common.{◌≡◌, ◌+◌, ◌-◌, ◌*◌, ◌∙◌, ℕ, Bool, List, sym, ap, subst, drop, arith}
 use Rattle.std.proofs.lemmas.List.{drop-drop}
 use Rattle.ff_bits.specs.Bits.{bits}
-use Rattle.ff_bits.specs.Reads.{IsCoded}
+use Rattle.ff_bits.specs.laws.Reads.{IsCoded}
 use Rattle.ff_bits.proofs.Fronts.{window_front}
 use Rattle.ff_bits.proofs.Windows.{window_behind, place}
 use Rattle.ff_bits.proofs.window.BitWindow.four.Goals as goal

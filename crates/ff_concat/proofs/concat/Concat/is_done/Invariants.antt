@@ -1,5 +1,5 @@
 use Rattle.std.proofs.Common.{◌≡◌, drop, length}
-use Rattle.ff_concat.specs.Tracks.{each_done}
+use Rattle.ff_concat.specs.laws.Tracks.{each_done}
 use Rattle.ff_concat.proofs.concat.Concat.is_done.Given as goal
 
 abbrev pub invariant-outputs : goal.invariant-outputs

@@ -1,8 +1,8 @@
 use Rattle.std.proofs.Common.{◌≡◌, ◌<◌, ◌/◌, ◌%◌, ◌∙◌, ℕ, length, set, get_or, sym, subst, arith}
 use Rattle.std.proofs.Math.Nat.{mod-lt}
 use Rattle.ff_filter.specs.Views.{Fed}
-use Rattle.ff_concat.specs.Tracks.{view_of}
-use Rattle.ff_concat.specs.Moves.{Kept}
+use Rattle.ff_concat.specs.laws.Tracks.{view_of}
+use Rattle.ff_concat.specs.laws.Moves.{Kept}
 use Rattle.ff_concat.proofs.Lookups.{after_read}
 use Rattle.ff_concat.proofs.Same.{unchanged_goes_on}
 use Rattle.ff_concat.proofs.Outputs.{set_same}

@@ -1,5 +1,5 @@
 use Rattle.std.proofs.Common.{◌≡◌, ℕ, ◌%◌, ◌∙◌, ◌||◌, true, sym, subst}
-use Rattle.ff_concat.specs.Tracks.{stopped_at, ended_at}
+use Rattle.ff_concat.specs.laws.Tracks.{stopped_at, ended_at}
 use Rattle.ff_concat.proofs.Lookups.{after_read}
 use Rattle.ff_concat.proofs.Feeds.{moved_set, passed_fed}
 use Rattle.ff_concat.proofs.concat.Concat.pass_over.Goals as goal

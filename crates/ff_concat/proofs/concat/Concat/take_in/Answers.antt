@@ -1,6 +1,6 @@
 use Rattle.std.proofs.Common.{◌≡◌, ◌%◌, ◌∙◌, ◌||◌, ℕ, Bool, length, get_or, sym, ap, subst, arith}
 use Rattle.std.proofs.Math.Nat.{mod-lt}
-use Rattle.ff_concat.specs.Tracks.{ended_at}
+use Rattle.ff_concat.specs.laws.Tracks.{ended_at}
 use Rattle.ff_concat.proofs.Lookups.{ended_read, stopped_read}
 use Rattle.ff_concat.proofs.Places.{some_outputs}
 use Rattle.ff_concat.proofs.concat.Concat.take_in.Goals as goal

@@ -6,8 +6,8 @@ use Rattle.ff_stream.specs.declared.item.Item.{Item}
 use Rattle.ff_filter.specs.Views.{Same}
 use Rattle.ff_concat.specs.declared.reach.Reach.{Reach}
 use Rattle.ff_concat.specs.declared.track.Track.{Track}
-use Rattle.ff_concat.specs.Tracks.{view_of}
-use Rattle.ff_concat.specs.Moves.{GoesOn, Gave, Waits}
+use Rattle.ff_concat.specs.laws.Tracks.{view_of}
+use Rattle.ff_concat.specs.laws.Moves.{GoesOn, Gave, Waits}
 use Rattle.ff_concat.proofs.Outputs.{set_same, set_gave, set_waits}
 use Rattle.ff_concat.proofs.concat.Concat.take_out.Goals as goal
 

@@ -2,7 +2,7 @@ use Rattle.std.proofs.Common.{◌≡◌, ◌∙◌, Bool, true, length, sym, ap,
 use Rattle.std.specs.Prelude.{nat_lt, ◌||◌, ◌&&◌}
 use Rattle.std.proofs.lemmas.Bool.Decides.{nat_tests}
 use Rattle.ff_filter.specs.Made.{is_over}
-use Rattle.ff_concat.specs.Tracks.{after_at, each_done}
+use Rattle.ff_concat.specs.laws.Tracks.{after_at, each_done}
 use Rattle.ff_concat.proofs.Lookups.{after_read}
 use Rattle.ff_concat.proofs.Places.{some_outputs}
 use Rattle.ff_concat.proofs.Ports.{in_there}

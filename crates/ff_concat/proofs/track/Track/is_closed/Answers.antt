@@ -3,10 +3,10 @@ use Rattle.std.specs.Prelude.{◌&&◌}
 use Rattle.ff_stream.specs.Stream.{Mark, whole}
 use Rattle.ff_filter.specs.declared.after.After.TheVariants.{More, Whole, Broke}
 use Rattle.ff_filter.specs.Options.{is_video}
-use Rattle.ff_concat.specs.Concats.{closes_at}
-use Rattle.ff_concat.specs.Standing.{lost_from}
-use Rattle.ff_concat.specs.TrackLaws.{port_there}
-use Rattle.ff_concat.specs.Tracks.{closed_from}
+use Rattle.ff_concat.specs.laws.Concats.{closes_at}
+use Rattle.ff_concat.specs.laws.Standing.{lost_from}
+use Rattle.ff_concat.specs.laws.TrackLaws.{port_there}
+use Rattle.ff_concat.specs.laws.Tracks.{closed_from}
 use Rattle.ff_concat.proofs.Lookups.{after_get}
 use Rattle.ff_concat.proofs.Losing.{closed_step}
 use Rattle.ff_concat.proofs.track.Track.is_closed.Goals as goal

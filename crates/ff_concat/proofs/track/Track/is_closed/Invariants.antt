@@ -1,5 +1,5 @@
 use Rattle.std.proofs.Common.{◌≡◌}
-use Rattle.ff_concat.specs.Tracks.{closed_from}
+use Rattle.ff_concat.specs.laws.Tracks.{closed_from}
 use Rattle.ff_concat.proofs.track.Track.is_closed.Given as goal
 
 abbrev pub invariant-segments : goal.invariant-segments

@@ -2,7 +2,7 @@ use Rattle.std.proofs.Common.{◌≡◌, ◌∙◌, ◌++◌, ◌∷◌, [], Lis
 use Rattle.std.proofs.lemmas.Bool.{cases_eq}
 use Rattle.std.proofs.lemmas.List.{length-set}
 use Rattle.ff_stream.specs.declared.item.Item.{Item}
-use Rattle.ff_concat.specs.Tracks.{queue_at}
+use Rattle.ff_concat.specs.laws.Tracks.{queue_at}
 use Rattle.ff_concat.proofs.Lookups.{queue_read, queue_set, queue_other}
 use Rattle.ff_concat.proofs.track.Track.keep.Goals as goal
 

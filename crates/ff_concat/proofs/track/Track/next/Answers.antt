@@ -4,11 +4,11 @@ use Rattle.ff_stream.specs.declared.item.Lane.TheVariants.{Frames}
 use Rattle.ff_stream.specs.Within.{passes_limits}
 use Rattle.ff_filter.specs.declared.after.After.{After}
 use Rattle.ff_filter.specs.Joins.{before}
-use Rattle.ff_filter.specs.Limits.{limited}
-use Rattle.ff_concat.specs.Concats.{in_order, later}
-use Rattle.ff_concat.specs.Tracks.{own, tails, output_of}
-use Rattle.ff_concat.specs.Standing.{StandsAs}
-use Rattle.ff_concat.specs.Moves.{Gave, Told, Waits}
+use Rattle.ff_filter.specs.laws.Limits.{limited}
+use Rattle.ff_concat.specs.laws.Concats.{in_order, later}
+use Rattle.ff_concat.specs.laws.Tracks.{own, tails, output_of}
+use Rattle.ff_concat.specs.laws.Standing.{StandsAs}
+use Rattle.ff_concat.specs.laws.Moves.{Gave, Told, Waits}
 use Rattle.ff_concat.proofs.Same.{unchanged_goes_on, alike_by, alike_filled, alike_inside}
 use Rattle.ff_concat.proofs.Draws.{told_gave, item_made, broke_gave, more_waits, passed_back}
 use Rattle.ff_concat.proofs.track.Track.next.Goals as goal

@@ -1,5 +1,5 @@
 use Rattle.std.proofs.Common.{◌+◌, ◌*◌, ◌∙◌, length, sym, arith}
-use Rattle.ff_concat.specs.TrackLaws.{port_there}
+use Rattle.ff_concat.specs.laws.TrackLaws.{port_there}
 use Rattle.ff_concat.proofs.Lookups.{after_get}
 use Rattle.ff_concat.proofs.Standings.{stands_more, stands_broke, stands_cut, stands_lost, stands_held}
 use Rattle.ff_concat.proofs.track.Track.standing.Goals as goal

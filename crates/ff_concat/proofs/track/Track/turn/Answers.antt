@@ -1,6 +1,6 @@
 use Rattle.std.proofs.Common.{◌+◌, ◌*◌, ◌∙◌, refl, ap, sym, length, arith, ℕ}
 use Rattle.std.specs.Prelude.{min}
-use Rattle.ff_concat.specs.TrackLaws.{port_there}
+use Rattle.ff_concat.specs.laws.TrackLaws.{port_there}
 use Rattle.ff_concat.proofs.Lookups.{end_get}
 use Rattle.ff_concat.proofs.Turns.{turned}
 use Rattle.ff_concat.proofs.track.Track.turn.Goals as goal

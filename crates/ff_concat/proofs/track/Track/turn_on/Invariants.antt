@@ -1,5 +1,5 @@
 use Rattle.std.proofs.Common.{◌-◌, length}
-use Rattle.ff_concat.specs.Moves.{GoesOn}
+use Rattle.ff_concat.specs.laws.Moves.{GoesOn}
 use Rattle.ff_concat.proofs.track.Track.turn_on.Given as goal
 
 abbrev pub invariant-turns : goal.invariant-turns

@@ -1,6 +1,6 @@
 use Rattle.std.proofs.Common.{◌<◌, length, slice_set, arith, refl, ap, ◌∙◌}
-use Rattle.ff_filter.specs.spread.Lines.{Line, lines}
-use Rattle.ff_filter.specs.spread.LineLaws.{lines_read}
+use Rattle.ff_filter.specs.laws.spread.Lines.{Line, lines}
+use Rattle.ff_filter.specs.laws.spread.LineLaws.{lines_read}
 use Rattle.ff_filter.proofs.SpreadLemmas.Putting.{line_same, lines_kept, put_more, put_all, unwanted}
 use Rattle.ff_filter.proofs.spread.outlets.+spread.Goals as goal
 

@@ -1,6 +1,6 @@
 use Rattle.std.proofs.Common.{◌<◌, length, arith, sym, ap, ◌∙◌}
-use Rattle.ff_filter.specs.spread.Lines.{Line, is_done}
-use Rattle.ff_filter.specs.spread.LineLaws.{lines_read, all_of, none_of}
+use Rattle.ff_filter.specs.laws.spread.Lines.{Line, is_done}
+use Rattle.ff_filter.specs.laws.spread.LineLaws.{lines_read, all_of, none_of}
 use Rattle.ff_filter.proofs.SpreadLemmas.Putting.{done_more}
 use Rattle.ff_filter.proofs.spread.outlets.all_done.Goals as goal
 

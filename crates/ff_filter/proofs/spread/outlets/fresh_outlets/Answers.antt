@@ -1,7 +1,7 @@
 use Rattle.std.proofs.Common.{◌≡◌, List, rules, sym, subst}
 use Rattle.ff_filter.specs.declared.outlet.Outlet.{Outlet}
-use Rattle.ff_filter.specs.spread.Lines.{lines, fresh}
-use Rattle.ff_filter.specs.spread.LineLaws.{lines_last}
+use Rattle.ff_filter.specs.laws.spread.Lines.{lines, fresh}
+use Rattle.ff_filter.specs.laws.spread.LineLaws.{lines_last}
 use Rattle.ff_filter.proofs.SpreadLemmas.Putting.{line_fresh}
 use Rattle.ff_filter.proofs.spread.outlets.fresh_outlets.Goals as goal
 

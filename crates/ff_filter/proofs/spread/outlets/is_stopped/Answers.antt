@@ -1,6 +1,6 @@
 use Rattle.std.proofs.Common.{ap, sym}
-use Rattle.ff_filter.specs.spread.Lines.{Line}
-use Rattle.ff_filter.specs.spread.LineLaws.{lines_read}
+use Rattle.ff_filter.specs.laws.spread.Lines.{Line}
+use Rattle.ff_filter.specs.laws.spread.LineLaws.{lines_read}
 use Rattle.ff_filter.proofs.spread.outlets.is_stopped.Goals as goal
 
 pub returns : goal.returns

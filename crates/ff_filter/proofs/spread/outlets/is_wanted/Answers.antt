@@ -1,6 +1,6 @@
 use Rattle.std.proofs.Common.{◌<◌, length, arith, ap, ◌∙◌}
-use Rattle.ff_filter.specs.spread.Lines.{Line}
-use Rattle.ff_filter.specs.spread.LineLaws.{lines_read}
+use Rattle.ff_filter.specs.laws.spread.Lines.{Line}
+use Rattle.ff_filter.specs.laws.spread.LineLaws.{lines_read}
 use Rattle.ff_filter.proofs.SpreadLemmas.Putting.{stopped_more}
 use Rattle.ff_filter.proofs.spread.outlets.is_wanted.Goals as goal
 

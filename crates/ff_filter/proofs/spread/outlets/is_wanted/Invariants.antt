@@ -1,5 +1,5 @@
 use Rattle.std.proofs.Common.{◌≡◌, ◌<◌, ◌≤◌, ℕ, true}
-use Rattle.ff_filter.specs.spread.Lines.{lines}
+use Rattle.ff_filter.specs.laws.spread.Lines.{lines}
 use Rattle.ff_filter.proofs.spread.outlets.is_wanted.Given as goal
 
 abbrev pub invariant-stopped : goal.invariant-stopped

@@ -1,6 +1,6 @@
 use Rattle.std.proofs.Common.{ap, sym, ◌∙◌}
-use Rattle.ff_filter.specs.spread.Lines.{Line}
-use Rattle.ff_filter.specs.spread.LineLaws.{lines_read, lines_set, lines_other}
+use Rattle.ff_filter.specs.laws.spread.Lines.{Line}
+use Rattle.ff_filter.specs.laws.spread.LineLaws.{lines_read, lines_set, lines_other}
 use Rattle.ff_filter.proofs.spread.outlets.stop_one.Goals as goal
 
 pub returns-clause-others : goal.returns-clause-others

@@ -1,6 +1,6 @@
 use Rattle.std.proofs.Common.{ap, sym, ◌∙◌}
-use Rattle.ff_filter.specs.spread.Lines.{Line}
-use Rattle.ff_filter.specs.spread.LineLaws.{lines_read, lines_set, lines_other}
+use Rattle.ff_filter.specs.laws.spread.Lines.{Line}
+use Rattle.ff_filter.specs.laws.spread.LineLaws.{lines_read, lines_set, lines_other}
 use Rattle.ff_filter.proofs.SpreadLemmas.Putting.{took_by, has_all_by}
 use Rattle.ff_filter.proofs.spread.outlets.take_from.Goals as goal
 

@@ -2,7 +2,7 @@ use Rattle.std.proofs.Common.{◌≡◌, ◌∙◌, ℕ, suc, ◌+◌, ◌-◌, 
 use Rattle.std.proofs.lemmas.Nat.{one_shl}
 use Rattle.ff_flac_subframe.specs.declared.rice.coding.Found.{Found}
 use Rattle.ff_flac_subframe.specs.rice.Rice.{is_allowed, parts_of}
-use Rattle.ff_flac_subframe.specs.rice.Columns.{columns, items_of}
+use Rattle.ff_flac_subframe.specs.laws.rice.Columns.{columns, items_of}
 use Rattle.ff_flac_subframe.proofs.RiceLemmas.Costs.{length-parts_of}
 use Rattle.ff_flac_subframe.proofs.RiceLemmas.Orders.{allowed_down}
 use Rattle.ff_flac_subframe.proofs.RiceLemmas.Levels.{IsBest, IsBestFound, IsCostFound, best_first, both_first, both_second, spans_after, best_after, best_end, cost_is}

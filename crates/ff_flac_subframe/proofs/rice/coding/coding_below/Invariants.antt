@@ -1,8 +1,8 @@
 use Rattle.std.proofs.Common.{◌≡◌, ◌-◌, ◌+◌, ◌≤◌, ◌^◌, suc, true, length}
 use Rattle.std.specs.List.{AllByRecursion}
 use Rattle.ff_flac_subframe.specs.rice.Rice.{is_allowed, parts_of}
-use Rattle.ff_flac_subframe.specs.rice.Columns.{columns, items_of}
-use Rattle.ff_flac_subframe.specs.rice.Spans.{Spans}
+use Rattle.ff_flac_subframe.specs.laws.rice.Columns.{columns, items_of}
+use Rattle.ff_flac_subframe.specs.laws.rice.Spans.{Spans}
 use Rattle.ff_flac_subframe.proofs.RiceLemmas.Levels.{IsBest}
 use Rattle.ff_flac_subframe.proofs.rice.coding.coding_below.Given as goal
 

@@ -1,7 +1,7 @@
 use Rattle.std.proofs.Common.{◌≡◌, ◌∙◌, ◌-◌, ap, arith}
 use Rattle.std.proofs.lemmas.List.{map_push}
 use Rattle.ff_flac_subframe.specs.rice.Rice.{parts_of}
-use Rattle.ff_flac_subframe.specs.rice.Columns.{columns, items_of}
+use Rattle.ff_flac_subframe.specs.laws.rice.Columns.{columns, items_of}
 use Rattle.ff_flac_subframe.proofs.RiceLemmas.ColumnLemmas.{columns_none, columns_push}
 use Rattle.ff_flac_subframe.proofs.rice.column.columns_of.Goals as goal
 

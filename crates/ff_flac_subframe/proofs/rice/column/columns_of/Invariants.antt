@@ -1,6 +1,6 @@
 use Rattle.std.proofs.Common.{◌≡◌, ◌≤◌, ◌-◌}
 use Rattle.ff_flac_subframe.specs.rice.Rice.{parts_of}
-use Rattle.ff_flac_subframe.specs.rice.Columns.{columns, items_of}
+use Rattle.ff_flac_subframe.specs.laws.rice.Columns.{columns, items_of}
 use Rattle.ff_flac_subframe.proofs.rice.column.columns_of.Given as goal
 
 abbrev pub invariant-loop-k : goal.invariant-loop-k

@@ -1,6 +1,6 @@
 use Rattle.std.proofs.Common.{◌≡◌, ◌+◌, ◌∷◌, length, take, get_or}
 use Rattle.ff_flac_subframe.specs.rice.Rice.{pieces}
-use Rattle.ff_flac_subframe.specs.rice.Columns.{column}
+use Rattle.ff_flac_subframe.specs.laws.rice.Columns.{column}
 use Rattle.ff_flac_subframe.proofs.rice.column.fill_by_16.Given as goal
 
 abbrev pub invariant-loop-i : goal.invariant-loop-i

@@ -1,7 +1,7 @@
 use Rattle.std.proofs.Common.{◌≡◌, ◌≢◌, ◌∙◌, ◌+◌, ℕ, List, [], get_or, get_or-set_other, length, take, ap, arith}
 use lib.Lanes.{pair_sums}
 use Rattle.std.proofs.lemmas.List.{length-map, map-set}
-use Rattle.ff_flac_subframe.specs.rice.Columns.{items_of}
+use Rattle.ff_flac_subframe.specs.laws.rice.Columns.{items_of}
 use Rattle.ff_flac_subframe.proofs.RiceLemmas.ColumnLemmas.{item_at, columns_more}
 use Rattle.ff_flac_subframe.proofs.rice.column.halve.Goals as goal
 

@@ -1,6 +1,6 @@
 use Rattle.std.proofs.Common.{◌≡◌, ℕ, ◌≤◌, [], map, take, get_or, vec_len}
 use lib.Lanes.{pair_sums}
-use Rattle.ff_flac_subframe.specs.rice.Columns.{items_of}
+use Rattle.ff_flac_subframe.specs.laws.rice.Columns.{items_of}
 use Rattle.ff_flac_subframe.proofs.rice.column.halve.Given as goal
 
 abbrev pub invariant-loop-i : goal.invariant-loop-i

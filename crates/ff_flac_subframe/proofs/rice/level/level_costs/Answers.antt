@@ -1,7 +1,7 @@
 use Rattle.std.proofs.Common.{◌≡◌, ◌∙◌, ◌≤◌, ◌^◌, length, arith, ap, sym}
 use Rattle.std.specs.List.{All, sum}
 use Rattle.std.proofs.lemmas.List.Elements.{All-weaker}
-use Rattle.ff_flac_subframe.specs.rice.Columns.{items_of, least_each}
+use Rattle.ff_flac_subframe.specs.laws.rice.Columns.{items_of, least_each}
 use Rattle.ff_flac_subframe.proofs.RiceLemmas.ColumnLemmas.{items_front, items_back, least_small, least_all_of}
 use Rattle.ff_flac_subframe.proofs.rice.level.level_costs.Goals as goal
 

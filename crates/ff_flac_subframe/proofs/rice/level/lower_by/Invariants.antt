@@ -1,7 +1,7 @@
 use Rattle.std.proofs.Common.{◌≡◌, min, take, length}
 use Rattle.std.specs.List.{fold}
 use lib.Lanes.{zip2}
-use Rattle.ff_flac_subframe.specs.rice.Columns.{items_of}
+use Rattle.ff_flac_subframe.specs.laws.rice.Columns.{items_of}
 use Rattle.ff_flac_subframe.proofs.rice.level.lower_by.Given as goal
 
 abbrev pub invariant-loop-costs : goal.invariant-loop-costs

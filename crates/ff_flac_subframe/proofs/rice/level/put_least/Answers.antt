@@ -1,6 +1,6 @@
 use Rattle.std.proofs.Common.{◌≡◌, ◌∙◌, ◌-◌, length, sym}
 use Rattle.std.proofs.lemmas.List.Elements.{All-weaker}
-use Rattle.ff_flac_subframe.specs.rice.Columns.{items_of}
+use Rattle.ff_flac_subframe.specs.laws.rice.Columns.{items_of}
 use Rattle.ff_flac_subframe.proofs.RiceLemmas.ColumnLemmas.{items_behind, least_put}
 use Rattle.ff_flac_subframe.proofs.rice.level.put_least.Goals as goal
 

@@ -1,6 +1,6 @@
 use Rattle.std.proofs.Common.{ℕ, Bool, ◌∙◌, sym, arith, length}
 use Rattle.ff_fsync.specs.Synced.{allows}
-use Rattle.ff_fsync.specs.Syncs.{standing_of, timing_of}
+use Rattle.ff_fsync.specs.laws.Syncs.{standing_of, timing_of}
 use Rattle.ff_fsync.proofs.MarkLaws.{all_more, all_fails, allows_there}
 use Rattle.ff_fsync.proofs.framesync.Framesync.all_allow.Goals as goal
 

@@ -1,6 +1,6 @@
 use Rattle.std.proofs.Common.{◌≡◌, true}
 use Rattle.ff_fsync.specs.Ranges.{all_to}
-use Rattle.ff_fsync.specs.Syncs.{standing_of, ended_if}
+use Rattle.ff_fsync.specs.laws.Syncs.{standing_of, ended_if}
 use Rattle.ff_fsync.proofs.framesync.Framesync.all_ended.Given as goal
 use Rattle.ff_stream.specs.Stream.{is_whole}
 

@@ -1,6 +1,6 @@
 use Rattle.std.proofs.Common.{◌||◌, ℕ, Bool, ◌∙◌, sym, arith, length}
 use Rattle.ff_fsync.specs.Synced.{outlasts}
-use Rattle.ff_fsync.specs.Syncs.{standing_of, timing_of, ended_if}
+use Rattle.ff_fsync.specs.laws.Syncs.{standing_of, timing_of, ended_if}
 use Rattle.ff_fsync.proofs.MarkLaws.{all_more, all_fails, outlast_at}
 use Rattle.ff_fsync.proofs.framesync.Framesync.all_outlast.Goals as goal
 use Rattle.ff_stream.specs.Stream.{is_whole}

@@ -1,7 +1,7 @@
 use Rattle.std.proofs.Common.{◌≡◌, true, ◌||◌}
 use Rattle.ff_fsync.specs.Ranges.{all_to}
 use Rattle.ff_fsync.specs.Synced.{outlasts}
-use Rattle.ff_fsync.specs.Syncs.{standing_of, timing_of, ended_if}
+use Rattle.ff_fsync.specs.laws.Syncs.{standing_of, timing_of, ended_if}
 use Rattle.ff_fsync.proofs.framesync.Framesync.all_outlast.Given as goal
 use Rattle.ff_stream.specs.Stream.{is_whole}
 

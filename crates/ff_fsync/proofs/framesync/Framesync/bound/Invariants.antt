@@ -1,4 +1,4 @@
-use Rattle.ff_fsync.specs.Syncs.{IsBound}
+use Rattle.ff_fsync.specs.laws.Syncs.{IsBound}
 use Rattle.ff_fsync.proofs.framesync.Framesync.bound.Given as goal
 
 abbrev pub invariant-inputs : goal.invariant-inputs

@@ -5,7 +5,7 @@ use Rattle.ff_stream.specs.declared.item.Lane.TheVariants.{Frames}
 use Rattle.ff_filter.specs.Made.{mark_after}
 use Rattle.ff_filter.specs.Views.{Gave}
 use Rattle.ff_fsync.specs.Sides.{sync_view}
-use Rattle.ff_fsync.specs.Syncs.{sides_of, sides_sound}
+use Rattle.ff_fsync.specs.laws.Syncs.{sides_of, sides_sound}
 use Rattle.ff_fsync.proofs.Showing.{closed_gave, none_waits}
 use Rattle.ff_fsync.proofs.framesync.Framesync.close.Goals as goal
 

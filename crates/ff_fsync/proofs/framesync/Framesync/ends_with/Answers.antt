@@ -1,7 +1,7 @@
 use Rattle.std.proofs.Common.{◌||◌, ◌&&◌, Bool, ap, ◌∙◌, sym, refl, length}
 use Rattle.ff_fsync.specs.Ranges.{all_to}
 use Rattle.ff_fsync.specs.Synced.{outlasts}
-use Rattle.ff_fsync.specs.Syncs.{standing_of, timing_of, ended_if}
+use Rattle.ff_fsync.specs.laws.Syncs.{standing_of, timing_of, ended_if}
 use Rattle.ff_fsync.proofs.MarkLaws.{ends_there}
 use Rattle.ff_fsync.proofs.framesync.Framesync.ends_with.Goals as goal
 use Rattle.ff_stream.specs.Stream.{is_whole}

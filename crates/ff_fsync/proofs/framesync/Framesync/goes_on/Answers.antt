@@ -1,7 +1,7 @@
 use Rattle.std.proofs.Common.{◌&&◌, Bool, ap, ◌∙◌, sym, arith, refl, ◌-◌, length}
 use Rattle.ff_fsync.specs.Ranges.{all_to}
 use Rattle.ff_fsync.specs.Synced.{allows}
-use Rattle.ff_fsync.specs.Syncs.{standing_of, timing_of}
+use Rattle.ff_fsync.specs.laws.Syncs.{standing_of, timing_of}
 use Rattle.ff_fsync.proofs.MarkLaws.{goes_on_free, goes_on_not}
 use Rattle.ff_fsync.proofs.framesync.Framesync.goes_on.Goals as goal
 

@@ -1,7 +1,7 @@
 use Rattle.std.proofs.Common.{ℕ, Bool, ◌∙◌, sym, arith, refl, length}
 use Rattle.ff_fsync.specs.Ranges.{any_to}
 use Rattle.ff_fsync.specs.Synced.{ends_with}
-use Rattle.ff_fsync.specs.Syncs.{standing_of, timing_of, ended_if}
+use Rattle.ff_fsync.specs.laws.Syncs.{standing_of, timing_of, ended_if}
 use Rattle.std.proofs.lemmas.Bool.{or_right}
 use Rattle.ff_fsync.proofs.MarkLaws.{any_more, any_found, complete_there}
 use Rattle.ff_fsync.proofs.framesync.Framesync.is_complete.Goals as goal

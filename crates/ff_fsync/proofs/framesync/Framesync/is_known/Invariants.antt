@@ -1,7 +1,7 @@
 use Rattle.std.proofs.Common.{◌≡◌, true}
 use Rattle.ff_fsync.specs.Ranges.{all_to}
 use Rattle.ff_fsync.specs.Synced.{is_known}
-use Rattle.ff_fsync.specs.Syncs.{standing_of, timing_of}
+use Rattle.ff_fsync.specs.laws.Syncs.{standing_of, timing_of}
 use Rattle.ff_fsync.proofs.framesync.Framesync.is_known.Given as goal
 
 abbrev pub invariant-inputs : goal.invariant-inputs

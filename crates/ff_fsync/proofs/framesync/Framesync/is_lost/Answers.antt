@@ -1,5 +1,5 @@
 use Rattle.std.proofs.Common.{ℕ, Bool, ◌∙◌, sym, arith, length}
-use Rattle.ff_fsync.specs.Syncs.{standing_of}
+use Rattle.ff_fsync.specs.laws.Syncs.{standing_of}
 use Rattle.ff_fsync.proofs.MarkLaws.{any_more, any_found, broken_at}
 use Rattle.ff_fsync.proofs.framesync.Framesync.is_lost.Goals as goal
 use Rattle.ff_stream.specs.Stream.{is_broken}

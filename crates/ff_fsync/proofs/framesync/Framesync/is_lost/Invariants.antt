@@ -1,6 +1,6 @@
 use Rattle.std.proofs.Common.{◌≡◌, false}
 use Rattle.ff_fsync.specs.Ranges.{any_to}
-use Rattle.ff_fsync.specs.Syncs.{standing_of}
+use Rattle.ff_fsync.specs.laws.Syncs.{standing_of}
 use Rattle.ff_fsync.proofs.framesync.Framesync.is_lost.Given as goal
 use Rattle.ff_stream.specs.Stream.{is_broken}
 

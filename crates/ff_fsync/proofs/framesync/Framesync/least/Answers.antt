@@ -1,5 +1,5 @@
 use Rattle.std.proofs.Common.{sym, arith, subst, ℕ, ◌+◌, Option}
-use Rattle.ff_fsync.specs.Syncs.{LeastOf}
+use Rattle.ff_fsync.specs.laws.Syncs.{LeastOf}
 use Rattle.ff_fsync.proofs.Finding.{least_more}
 use Rattle.ff_fsync.proofs.framesync.Framesync.least.Goals as goal
 

@@ -1,4 +1,4 @@
-use Rattle.ff_fsync.specs.Syncs.{LeastOf}
+use Rattle.ff_fsync.specs.laws.Syncs.{LeastOf}
 use Rattle.ff_fsync.proofs.framesync.Framesync.least.Given as goal
 
 abbrev pub invariant-inputs : goal.invariant-inputs

@@ -2,7 +2,7 @@ use Rattle.std.proofs.Common.{◌≡◌, ◌≤◌, ℕ, [], length, arith, subs
 use Rattle.ff_frame.specs.declared.head.StreamHead.{StreamHead}
 use Rattle.ff_stream.specs.declared.item.Lane.TheVariants.{Frames}
 use Rattle.ff_fsync.specs.Sides.{side_at}
-use Rattle.ff_fsync.specs.Syncs.{sides_of}
+use Rattle.ff_fsync.specs.laws.Syncs.{sides_of}
 use Rattle.ff_fsync.proofs.Showing.{idle_same}
 use Rattle.ff_fsync.proofs.Taken.{emptied_more, emptied_to, all_empty}
 use Rattle.ff_fsync.proofs.framesync.Framesync.let_go.Goals as goal

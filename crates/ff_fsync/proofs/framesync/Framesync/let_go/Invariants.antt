@@ -1,5 +1,5 @@
 use Rattle.std.proofs.Common.{◌≡◌}
-use Rattle.ff_fsync.specs.Syncs.{AreEmptied}
+use Rattle.ff_fsync.specs.laws.Syncs.{AreEmptied}
 use Rattle.ff_fsync.proofs.framesync.Framesync.let_go.Given as goal
 
 abbrev pub invariant-inputs : goal.invariant-inputs

@@ -2,7 +2,7 @@ use Rattle.std.proofs.Common.{ap, ◌∙◌, sym}
 use Rattle.ff_stream.specs.declared.item.Lane.TheVariants.{Frames}
 use Rattle.ff_filter.specs.Made.{is_over}
 use Rattle.ff_fsync.specs.Sides.{Side}
-use Rattle.ff_fsync.specs.Syncs.{side_of, sides_of}
+use Rattle.ff_fsync.specs.laws.Syncs.{side_of, sides_of}
 use Rattle.ff_fsync.proofs.Showing.{idle_fed}
 use Rattle.ff_fsync.proofs.Finding.{side_there}
 use Rattle.ff_fsync.proofs.Taken.{replaced, empty_still}

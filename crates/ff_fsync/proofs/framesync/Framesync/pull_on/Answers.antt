@@ -4,7 +4,7 @@ use Rattle.ff_stream.specs.declared.item.Item.TheVariants.{Video}
 use Rattle.ff_stream.specs.declared.item.Lane.TheVariants.{Frames}
 use Rattle.ff_filter.specs.Views.{View, Gave}
 use Rattle.ff_fsync.specs.Sides.{sync_view}
-use Rattle.ff_fsync.specs.Syncs.{sides_of, sides_sound}
+use Rattle.ff_fsync.specs.laws.Syncs.{sides_of, sides_sound}
 use Rattle.ff_filter.proofs.Moves.{same_gave}
 use Rattle.ff_fsync.proofs.Showing.{shown_gave}
 use Rattle.ff_fsync.proofs.framesync.Framesync.pull_on.Goals as goal

@@ -5,8 +5,8 @@ use Rattle.ff_stream.specs.declared.item.Item.TheVariants.{Video}
 use Rattle.ff_stream.specs.declared.item.Lane.TheVariants.{Frames}
 use Rattle.ff_fsync.specs.Synced.{pictures}
 use Rattle.ff_fsync.specs.Sides.{Side, side_at, frames_of, standing, timing, Sound}
-use Rattle.ff_fsync.specs.Inputs.{IsLed}
-use Rattle.ff_fsync.specs.Syncs.{sides_of, sides_sound, standing_of, timing_of, IsDue}
+use Rattle.ff_fsync.specs.laws.Inputs.{IsLed}
+use Rattle.ff_fsync.specs.laws.Syncs.{sides_of, sides_sound, standing_of, timing_of, IsDue}
 use Rattle.ff_fsync.proofs.Finding.{long_sides}
 use Rattle.ff_fsync.proofs.GivenBack.{any_lane, led_begun, lent_are, long_back}
 use Rattle.ff_fsync.proofs.Showing.{trims_same}

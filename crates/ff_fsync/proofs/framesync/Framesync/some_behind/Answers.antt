@@ -1,6 +1,6 @@
 use Rattle.std.proofs.Common.{◌&&◌, not, ℕ, Bool, ◌∙◌, sym, arith, length}
 use Rattle.ff_fsync.specs.Synced.{reached}
-use Rattle.ff_fsync.specs.Syncs.{standing_of, timing_of}
+use Rattle.ff_fsync.specs.laws.Syncs.{standing_of, timing_of}
 use Rattle.ff_fsync.proofs.MarkLaws.{any_more, any_found, behind_at}
 use Rattle.ff_fsync.proofs.framesync.Framesync.some_behind.Goals as goal
 use Rattle.ff_stream.specs.Stream.{is_open}

@@ -1,7 +1,7 @@
 use Rattle.std.proofs.Common.{◌≡◌, false, ◌&&◌, not}
 use Rattle.ff_fsync.specs.Ranges.{any_to}
 use Rattle.ff_fsync.specs.Synced.{reached}
-use Rattle.ff_fsync.specs.Syncs.{standing_of, timing_of}
+use Rattle.ff_fsync.specs.laws.Syncs.{standing_of, timing_of}
 use Rattle.ff_fsync.proofs.framesync.Framesync.some_behind.Given as goal
 use Rattle.ff_stream.specs.Stream.{is_open}
 

@@ -1,5 +1,5 @@
 use Rattle.std.proofs.Common.{sym, arith, refl, subst, ◌+◌}
-use Rattle.ff_fsync.specs.Syncs.{IsStart}
+use Rattle.ff_fsync.specs.laws.Syncs.{IsStart}
 use Rattle.ff_fsync.proofs.Finding.{start_none, start_more}
 use Rattle.ff_fsync.proofs.framesync.Framesync.start.Goals as goal
 

@@ -1,4 +1,4 @@
-use Rattle.ff_fsync.specs.Syncs.{IsStart}
+use Rattle.ff_fsync.specs.laws.Syncs.{IsStart}
 use Rattle.ff_fsync.proofs.framesync.Framesync.start.Given as goal
 
 abbrev pub invariant-inputs : goal.invariant-inputs

@@ -1,5 +1,5 @@
 use Rattle.std.proofs.Common.{◌≡◌}
-use Rattle.ff_fsync.specs.Syncs.{AreLed}
+use Rattle.ff_fsync.specs.laws.Syncs.{AreLed}
 use Rattle.ff_fsync.proofs.framesync.Framesync.trim.Given as goal
 
 abbrev pub invariant-inputs : goal.invariant-inputs

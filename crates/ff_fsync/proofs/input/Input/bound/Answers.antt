@@ -1,4 +1,4 @@
-use Rattle.ff_fsync.specs.Inputs.{items_of}
+use Rattle.ff_fsync.specs.laws.Inputs.{items_of}
 use Rattle.ff_fsync.proofs.Inputting.{bound_whole, bound_broke}
 use Rattle.ff_fsync.proofs.input.Input.bound.Goals as goal
 

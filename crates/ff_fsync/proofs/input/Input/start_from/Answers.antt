@@ -1,5 +1,5 @@
 use Rattle.std.proofs.Common.{sym, subst, arith}
-use Rattle.ff_fsync.specs.Inputs.{items_of, IsNextStart}
+use Rattle.ff_fsync.specs.laws.Inputs.{items_of, IsNextStart}
 use Rattle.ff_fsync.proofs.Inputting.{next_start, none_more}
 use Rattle.ff_fsync.proofs.input.Input.start_from.Goals as goal
 

@@ -1,5 +1,5 @@
 use Rattle.std.proofs.Common.{◌≡◌, ℕ, ◌≤◌, false, take}
-use Rattle.ff_fsync.specs.Inputs.{items_of, starts_at}
+use Rattle.ff_fsync.specs.laws.Inputs.{items_of, starts_at}
 use Rattle.ff_fsync.proofs.input.Input.start_from.Given as goal
 
 abbrev pub invariant-pictures : goal.invariant-pictures

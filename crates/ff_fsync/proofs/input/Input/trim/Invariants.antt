@@ -1,5 +1,5 @@
 use Rattle.std.proofs.Common.{◌≡◌, length}
-use Rattle.ff_fsync.specs.Inputs.{GoesTo}
+use Rattle.ff_fsync.specs.laws.Inputs.{GoesTo}
 use Rattle.ff_fsync.proofs.input.Input.trim.Given as goal
 
 abbrev pub invariant-pictures : goal.invariant-pictures

@@ -3,7 +3,7 @@ use Rattle.ff_stream.specs.declared.item.Lane.TheVariants.{Frames}
 use Rattle.ff_filter.specs.Made.{is_over}
 use Rattle.ff_filter.specs.Views.{View, Same}
 use Rattle.ff_fsync.specs.Sides.{Side, coming, sync_view}
-use Rattle.ff_fsync.specs.Syncs.{side_of, sides_of}
+use Rattle.ff_fsync.specs.laws.Syncs.{side_of, sides_of}
 use Rattle.ff_filter.specs.Joins.{before}
 use Rattle.ff_filter.proofs.Moves.{same_self}
 use Rattle.ff_fsync.proofs.Showing.{fed_by}

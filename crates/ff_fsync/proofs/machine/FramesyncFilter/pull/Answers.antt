@@ -1,6 +1,6 @@
 use Rattle.std.proofs.Common.{◌≡◌, ◌∙◌, sym, true, false}
 use Rattle.ff_filter.proofs.Moves.{same_trans, gave_same}
-use Rattle.ff_fsync.specs.Syncs.{seen}
+use Rattle.ff_fsync.specs.laws.Syncs.{seen}
 use Rattle.ff_fsync.proofs.Showing.{gave_there, waits_there}
 use Rattle.ff_fsync.proofs.machine.FramesyncFilter.pull.Goals as goal
 

@@ -1,5 +1,5 @@
 use Rattle.ff_stream.specs.declared.item.Lane.TheVariants.{Frames}
-use Rattle.ff_fsync.specs.Syncs.{sides_of}
+use Rattle.ff_fsync.specs.laws.Syncs.{sides_of}
 use Rattle.ff_fsync.proofs.Showing.{idle_stopped}
 use Rattle.ff_fsync.proofs.machine.FramesyncFilter.stop.Goals as goal
 

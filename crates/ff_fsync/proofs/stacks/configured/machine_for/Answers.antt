@@ -1,4 +1,4 @@
-use Rattle.ff_fsync.specs.Syncs.{sides_of}
+use Rattle.ff_fsync.specs.laws.Syncs.{sides_of}
 use Rattle.ff_fsync.specs.stacks.Stacks.{stack_by}
 use Rattle.ff_fsync.proofs.StacksLemmas.Seeing.{seen_new}
 use Rattle.ff_fsync.proofs.stacks.configured.machine_for.Goals as goal

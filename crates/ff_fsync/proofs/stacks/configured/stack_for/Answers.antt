@@ -1,6 +1,6 @@
 use Rattle.std.proofs.Common.{◌≡◌, List, [], ◌∷◌, ◌++◌, ap, ◌∙◌}
 use Rattle.ff_frame.specs.declared.head.StreamHead.{StreamHead}
-use Rattle.ff_fsync.specs.stacks.Stacked.{seen}
+use Rattle.ff_fsync.specs.laws.stacks.Stacked.{seen}
 use Rattle.ff_fsync.proofs.StacksLemmas.Planning.{made_by}
 use Rattle.ff_fsync.proofs.stacks.configured.stack_for.Goals as goal
 

@@ -1,5 +1,5 @@
 use Rattle.std.proofs.Common.{◌≡◌, ◌<◌, ◌^◌, take}
-use Rattle.ff_fsync.specs.Inputs.{items_of, last_by}
+use Rattle.ff_fsync.specs.laws.Inputs.{items_of, last_by}
 use Rattle.ff_fsync.specs.Sides.{frames_of}
 use Rattle.ff_fsync.specs.stacks.Shapes.{lasts}
 use Rattle.ff_fsync.proofs.stacks.machine.lasts_by.Given as goal

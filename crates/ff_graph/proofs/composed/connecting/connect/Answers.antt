@@ -1,8 +1,8 @@
 use Rattle.std.proofs.Common.{ℕ, map}
 use Rattle.ff_filter.specs.Joins.{Ports}
 use Rattle.ff_graph_links.specs.pads.Links.{pads_in}
-use Rattle.ff_graph_dag.specs.Graphs.{graph_view, spots}
-use Rattle.ff_graph_dag.specs.Parts.{composed}
+use Rattle.ff_graph_dag.specs.laws.Graphs.{graph_view, spots}
+use Rattle.ff_graph_dag.specs.laws.Parts.{composed}
 use Rattle.ff_graph_dag.specs.wiring.Flows.{no_flows, flows_from}
 use Rattle.ff_graph_dag.specs.wiring.Limits.{flows_at}
 use Rattle.ff_graph.proofs.ComposedLemmas.Fitting.{new}

@@ -5,10 +5,10 @@ use Rattle.ff_stream.specs.declared.item.Lane.TheVariants.{Frames}
 use Rattle.ff_filter.specs.Joins.{Ports}
 use Rattle.ff_filters.specs.contracts.any.AnyFilterFilter.TheImpl.{ghosts}
 use Rattle.ff_graph_links.specs.pads.Links.{pads_in}
-use Rattle.ff_graph_dag.specs.Graphs.{graph_view, spots}
+use Rattle.ff_graph_dag.specs.laws.Graphs.{graph_view, spots}
 use Rattle.ff_graph.specs.Configured.{OpenOut, configured}
 use Rattle.ff_graph.specs.Meaning.{graph_means}
-use Rattle.ff_graph.specs.Pads.{made_by, output_of}
+use Rattle.ff_graph.specs.laws.Pads.{made_by, output_of}
 use Rattle.ff_graph.specs.declared.outputs.OpenOutput.{OpenOutput}
 use Rattle.ff_graph.specs.composed.Cuts.{all_given, graph_cuts}
 use Rattle.ff_graph.proofs.ComposedLemmas.Elements.{map_size}

@@ -1,6 +1,6 @@
 use Rattle.std.proofs.Common.{◌≡◌, take}
-use Rattle.ff_graph.specs.Pads.{heads_in}
-use Rattle.ff_graph.specs.composed.Ready.{counts_of}
+use Rattle.ff_graph.specs.laws.Pads.{heads_in}
+use Rattle.ff_graph.specs.laws.composed.Ready.{counts_of}
 use Rattle.ff_graph.proofs.composed.lists.counts.Given as goal
 
 abbrev pub invariant-filters : goal.invariant-filters

@@ -1,6 +1,6 @@
 use Rattle.std.proofs.Common.{◌≡◌, map, take}
 use Rattle.ff_stream.specs.declared.item.Lane.TheVariants.{Frames}
-use Rattle.ff_graph.specs.Pads.{output_of}
+use Rattle.ff_graph.specs.laws.Pads.{output_of}
 use Rattle.ff_graph.proofs.composed.lists.out_lanes.Given as goal
 
 abbrev pub invariant-outs : goal.invariant-outs

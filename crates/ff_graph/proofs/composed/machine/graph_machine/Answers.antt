@@ -3,8 +3,8 @@ use Rattle.ff_stream.specs.declared.item.Lane.{Lane}
 use Rattle.ff_stream.specs.declared.item.Lane.TheVariants.{Frames}
 use Rattle.ff_filter.specs.Joins.{Ports}
 use Rattle.ff_filters.specs.contracts.any.AnyFilterFilter.TheImpl.{ghosts}
-use Rattle.ff_graph_dag.specs.Graphs.{graph_view, spots}
-use Rattle.ff_trim.specs.Taps.{cut_view}
+use Rattle.ff_graph_dag.specs.laws.Graphs.{graph_view, spots}
+use Rattle.ff_trim.specs.laws.Taps.{cut_view}
 use Rattle.ff_trim.proofs.Limiting.{cutting_limited}
 use Rattle.ff_graph.specs.Configured.{OpenOut}
 use Rattle.ff_graph.specs.Meaning.{graph_means}

@@ -1,6 +1,6 @@
 use Rattle.std.proofs.Common.{◌≡◌, ◌⊎◌, inl, inr, true, sym, ◌∙◌}
-use Rattle.ff_graph_dag.specs.Graphs.{spots, feed_at, port_shut}
-use Rattle.ff_graph_dag.specs.Spends.{leads_on}
+use Rattle.ff_graph_dag.specs.laws.Graphs.{spots, feed_at, port_shut}
+use Rattle.ff_graph_dag.specs.laws.Spends.{leads_on}
 use Rattle.ff_graph_dag.proofs.Ruling.{rule_sound, rule_exact, feed_below, feed_in, leads_back}
 use Rattle.ff_graph_dag.proofs.dag.Dag.leads_to_spent.Goals as goal
 

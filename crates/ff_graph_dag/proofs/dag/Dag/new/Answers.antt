@@ -1,9 +1,9 @@
 use Rattle.std.proofs.Common.{◌≡◌, ℕ, Bool, false, List, length, replicate, ap, sym, ◌∙◌, subst}
 use Rattle.ff_filter.specs.Views.{Same}
 use Rattle.ff_graph_dag.specs.declared.graph.Plan.{Plan}
-use Rattle.ff_graph_dag.specs.Graphs.{graph_view, spots}
-use Rattle.ff_graph_dag.specs.Over.{Told}
-use Rattle.ff_graph_dag.specs.Parts.{fit_all, graph_composes, graph_new}
+use Rattle.ff_graph_dag.specs.laws.Graphs.{graph_view, spots}
+use Rattle.ff_graph_dag.specs.laws.Over.{Told}
+use Rattle.ff_graph_dag.specs.laws.Parts.{fit_all, graph_composes, graph_new}
 use Rattle.ff_graph_dag.proofs.Telling.{told_new, told_same}
 use Rattle.ff_graph_dag.proofs.dag.Dag.new.Goals as goal
 

@@ -1,6 +1,6 @@
 use Rattle.std.proofs.Common.{arith, take, suc, ◌+◌, refl, sym, ap, ◌∙◌, subst, ◌≡◌, ◌<◌, length, Ok, true, false, ℕ}
 use Rattle.std.proofs.Common.{List, Vec, Global, slice_index_or}
-use Rattle.ff_graph_dag.specs.Graphs.{Sound, graph_view, spots, to_go, IsEmpty, AreEmpty, ways_of}
+use Rattle.ff_graph_dag.specs.laws.Graphs.{Sound, graph_view, spots, to_go, IsEmpty, AreEmpty, ways_of}
 use Rattle.ff_graph_dag.specs.declared.graph.Plan.{Plan}
 use Rattle.ff_filter.specs.Views.{Same}
 use Rattle.ff_filter.proofs.Moves.{same_self, same_trans}

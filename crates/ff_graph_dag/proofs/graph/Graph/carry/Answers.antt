@@ -1,6 +1,6 @@
 use Rattle.std.proofs.Common.{arith, sym, ◌∙◌}
-use Rattle.ff_graph_dag.specs.Graphs.{no_wire}
-use Rattle.ff_graph_dag.specs.Readings.{at_is}
+use Rattle.ff_graph_dag.specs.laws.Graphs.{no_wire}
+use Rattle.ff_graph_dag.specs.laws.Readings.{at_is}
 use Rattle.ff_graph_dag.proofs.Carrying.{filter_there, held_there, ready, source_there, out_there, kept_fine, kept_all, fed_fine, fed_less, drawn_fine}
 use Rattle.ff_graph_dag.proofs.Carrying.{drawn_fewer, store_there, held_none, waited, some_there, fed_or_kept}
 use Rattle.ff_graph_dag.proofs.graph.Graph.carry.Goals as goal

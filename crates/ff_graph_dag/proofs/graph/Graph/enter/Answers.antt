@@ -1,7 +1,7 @@
 use Rattle.std.proofs.Common.{ap}
 use Rattle.ff_graph_dag.specs.declared.graph.Wire.{Wire}
-use Rattle.ff_graph_dag.specs.Graphs.{no_wire}
-use Rattle.ff_graph_dag.specs.Readings.{at_is}
+use Rattle.ff_graph_dag.specs.laws.Graphs.{no_wire}
+use Rattle.ff_graph_dag.specs.laws.Readings.{at_is}
 use Rattle.ff_graph_dag.proofs.Carrying.{held_there}
 use Rattle.ff_graph_dag.proofs.Entering.{put_sound, put_fed}
 use Rattle.ff_graph_dag.proofs.graph.Graph.enter.Goals as goal

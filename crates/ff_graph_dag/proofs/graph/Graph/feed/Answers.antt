@@ -2,7 +2,7 @@ use Rattle.std.proofs.Common.{subst}
 use Rattle.ff_filter.specs.Views.{Same, Fed}
 use Rattle.ff_filter.proofs.Moves.{same_trans}
 use Rattle.ff_graph_dag.specs.declared.graph.Plan.{Plan}
-use Rattle.ff_graph_dag.specs.Graphs.{graph_view, spots}
+use Rattle.ff_graph_dag.specs.laws.Graphs.{graph_view, spots}
 use Rattle.ff_graph_dag.proofs.Swept.{fed_same, on_ok, on_err}
 use Rattle.ff_graph_dag.proofs.graph.Graph.feed.Goals as goal
 

@@ -1,6 +1,6 @@
 use Rattle.std.proofs.Common.{◌∙◌}
-use Rattle.ff_graph_dag.specs.Graphs.{no_port}
-use Rattle.ff_graph_dag.specs.Readings.{at_is}
+use Rattle.ff_graph_dag.specs.laws.Graphs.{no_port}
+use Rattle.ff_graph_dag.specs.laws.Readings.{at_is}
 use Rattle.ff_graph_dag.proofs.Giving.{pad_wanted, pad_any, pad_gave, pad_kept, pad_err, pad_quiet}
 use Rattle.ff_graph_dag.proofs.graph.Graph.give.Goals as goal
 

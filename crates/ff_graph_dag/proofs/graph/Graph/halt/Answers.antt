@@ -1,6 +1,6 @@
 use Rattle.std.proofs.Common.{arith}
-use Rattle.ff_graph_dag.specs.Graphs.{no_wire}
-use Rattle.ff_graph_dag.specs.Readings.{at_is}
+use Rattle.ff_graph_dag.specs.laws.Graphs.{no_wire}
+use Rattle.ff_graph_dag.specs.laws.Readings.{at_is}
 use Rattle.ff_graph_dag.proofs.Carrying.{input_there, source_there, out_there}
 use Rattle.ff_graph_dag.proofs.Halting.{cut_fine}
 use Rattle.ff_graph_dag.proofs.Sweeps.{swept_needed, swept_halted}

@@ -1,6 +1,6 @@
 use Rattle.std.proofs.Common.{◌∙◌}
-use Rattle.ff_graph_dag.specs.Graphs.{no_port}
-use Rattle.ff_graph_dag.specs.Readings.{at_is}
+use Rattle.ff_graph_dag.specs.laws.Graphs.{no_port}
+use Rattle.ff_graph_dag.specs.laws.Readings.{at_is}
 use Rattle.ff_graph_dag.proofs.Entering.{feed_held, shut_is}
 use Rattle.ff_graph_dag.proofs.graph.Graph.is_shut.Goals as goal
 

@@ -1,5 +1,5 @@
-use Rattle.ff_graph_dag.specs.Graphs.{no_port}
-use Rattle.ff_graph_dag.specs.Readings.{at_is}
+use Rattle.ff_graph_dag.specs.laws.Graphs.{no_port}
+use Rattle.ff_graph_dag.specs.laws.Readings.{at_is}
 use Rattle.ff_graph_dag.proofs.Stopping.{end_sound, end_stopped}
 use Rattle.ff_graph_dag.proofs.graph.Graph.leave.Goals as goal
 

@@ -1,5 +1,5 @@
-use Rattle.ff_graph_dag.specs.Graphs.{no_wire}
-use Rattle.ff_graph_dag.specs.Readings.{at_is}
+use Rattle.ff_graph_dag.specs.laws.Graphs.{no_wire}
+use Rattle.ff_graph_dag.specs.laws.Readings.{at_is}
 use Rattle.ff_graph_dag.proofs.Carrying.{held_there, ready, fed_or_kept, fed_or_kept_same, fed_empty}
 use Rattle.ff_graph_dag.proofs.graph.Graph.make_room.Goals as goal
 

@@ -2,7 +2,7 @@ use Rattle.std.proofs.Common.{subst}
 use Rattle.ff_filter.specs.Views.{Same}
 use Rattle.ff_filter.proofs.Moves.{same_trans, gave_same}
 use Rattle.ff_graph_dag.specs.declared.graph.Plan.{Plan}
-use Rattle.ff_graph_dag.specs.Graphs.{graph_view, spots}
+use Rattle.ff_graph_dag.specs.laws.Graphs.{graph_view, spots}
 use Rattle.ff_graph_dag.proofs.Swept.{on_err}
 use Rattle.ff_graph_dag.proofs.graph.Graph.pull.Goals as goal
 

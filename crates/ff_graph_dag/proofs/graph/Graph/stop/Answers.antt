@@ -1,7 +1,7 @@
 use Rattle.std.proofs.Common.{subst}
 use Rattle.ff_filter.specs.Views.{Same}
 use Rattle.ff_graph_dag.specs.declared.graph.Plan.{Plan}
-use Rattle.ff_graph_dag.specs.Graphs.{graph_view, spots}
+use Rattle.ff_graph_dag.specs.laws.Graphs.{graph_view, spots}
 use Rattle.ff_graph_dag.proofs.Stopping.{stopped_same}
 use Rattle.ff_graph_dag.proofs.graph.Graph.stop.Goals as goal
 

@@ -2,8 +2,8 @@ use Rattle.std.proofs.Common.{◌≡◌, ◌-◌, length, ap, sym, ◌∙◌, su
 use Rattle.ff_filter.specs.Views.{Same}
 use Rattle.ff_filter.proofs.Moves.{same_trans}
 use Rattle.ff_graph_dag.specs.declared.graph.Plan.{Plan}
-use Rattle.ff_graph_dag.specs.Graphs.{graph_view, spots}
-use Rattle.ff_graph_dag.specs.Spends.{SweptFrom}
+use Rattle.ff_graph_dag.specs.laws.Graphs.{graph_view, spots}
+use Rattle.ff_graph_dag.specs.laws.Spends.{SweptFrom}
 use Rattle.ff_graph_dag.proofs.Sweeps.{swept_all, swept_step}
 use Rattle.ff_graph_dag.proofs.graph.Graph.sweep.Goals as goal
 

@@ -1,7 +1,7 @@
 use Rattle.std.proofs.Common.{◌≡◌, ◌-◌}
 use Rattle.ff_filter.specs.Views.{Same}
-use Rattle.ff_graph_dag.specs.Graphs.{graph_view, spots}
-use Rattle.ff_graph_dag.specs.Spends.{SweptFrom}
+use Rattle.ff_graph_dag.specs.laws.Graphs.{graph_view, spots}
+use Rattle.ff_graph_dag.specs.laws.Spends.{SweptFrom}
 use Rattle.ff_graph_dag.proofs.graph.Graph.sweep.Given as goal
 
 abbrev pub invariant-wires : goal.invariant-wires

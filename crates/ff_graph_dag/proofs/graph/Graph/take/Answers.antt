@@ -1,5 +1,5 @@
 use Rattle.std.proofs.Common.{sym, ◌∙◌, subst, ◌≡◌, ◌<◌, None, Ok, true, false, ℕ}
-use Rattle.ff_graph_dag.specs.Graphs.{graph_view, spots, to_go, IsQuiet, AreEmpty, Sound, ways_of}
+use Rattle.ff_graph_dag.specs.laws.Graphs.{graph_view, spots, to_go, IsQuiet, AreEmpty, Sound, ways_of}
 use Rattle.ff_graph_dag.specs.declared.graph.Plan.{Plan}
 use Rattle.ff_filter.specs.Views.{Same, Gave}
 use Rattle.ff_filter.proofs.Moves.{same_gave, same_trans}

@@ -1,7 +1,7 @@
 use Rattle.std.proofs.Common.{◌≡◌, slice_set, Option, None, Some, is_some, ap, ◌∙◌}
 use Rattle.ff_stream.specs.declared.item.Item.{Item}
 use Rattle.ff_filter.proofs.Moves.{same_self}
-use Rattle.ff_graph_dag.specs.Dags.{spot_of, held_at}
+use Rattle.ff_graph_dag.specs.laws.Dags.{spot_of, held_at}
 use Rattle.ff_graph_dag.proofs.Edges.{held_is, held_set, held_kept, held_size, delivered, kept, kept_empty, put_back, let_go}
 use Rattle.ff_graph_dag.proofs.placed.Placed.deliver.Goals as goal
 

@@ -1,6 +1,6 @@
 use Rattle.std.proofs.Common.{refl, sym, ◌∙◌, true≢false}
 use Rattle.ff_filter.specs.Joins.{silence}
-use Rattle.ff_graph_dag.specs.Dags.{spot_of}
+use Rattle.ff_graph_dag.specs.laws.Dags.{spot_of}
 use Rattle.ff_graph_dag.proofs.Edges.{pulled, kept, kept_or, kept_self}
 use Rattle.ff_graph_dag.proofs.placed.Placed.pull.Goals as goal
 

@@ -1,7 +1,7 @@
 use Rattle.std.proofs.Common.{◌≡◌, ℕ, suc, ◌-◌, ◌<◌, ◌≤◌, false, List, Bool, Some, length, slice_get, ap, sym, ◌∙◌, subst, arith}
 use Rattle.std.proofs.lemmas.List.{length-replicate}
 use Rattle.ff_graph_dag.specs.declared.graph.Wire.{Wire}
-use Rattle.ff_graph_dag.specs.ties.Tied.{is_needed, with_feeder}
+use Rattle.ff_graph_dag.specs.laws.ties.Tied.{is_needed, with_feeder}
 use Rattle.ff_graph_dag.proofs.TiesLemmas.Steps.{ClosedAbove, set_here, feeder_keeps, closed_more}
 use Rattle.ff_graph_dag.proofs.TiesLemmas.Tying.{got, got_below}
 use Rattle.ff_graph_dag.proofs.ties.ways.needed_at.Goals as goal

@@ -1,5 +1,5 @@
 use Rattle.std.proofs.Common.{◌≡◌, ◌<◌, ◌≤◌, true, length}
-use Rattle.ff_graph_dag.specs.ties.Tied.{is_needed, IsUpward}
+use Rattle.ff_graph_dag.specs.laws.ties.Tied.{is_needed, IsUpward}
 use Rattle.ff_graph_dag.proofs.TiesLemmas.Steps.{ClosedAbove}
 use Rattle.ff_graph_dag.proofs.ties.ways.needed_at.Given as goal
 

@@ -1,6 +1,6 @@
 use Rattle.std.proofs.Common.{◌≡◌, ℕ, suc, ◌-◌, ◌<◌, ◌≤◌, true, false, Some, length, slice_get, ap, sym, ◌∙◌, arith}
 use Rattle.ff_graph_dag.specs.declared.graph.Wire.{Wire}
-use Rattle.ff_graph_dag.specs.ties.Tied.{is_needed}
+use Rattle.ff_graph_dag.specs.laws.ties.Tied.{is_needed}
 use Rattle.ff_graph_dag.proofs.TiesLemmas.Steps.{more_above, more_below, less_above}
 use Rattle.ff_graph_dag.proofs.TiesLemmas.Tying.{got}
 use Rattle.ff_graph_dag.proofs.ties.ways.needed_edges.Goals as goal

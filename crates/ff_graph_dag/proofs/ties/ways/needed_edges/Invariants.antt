@@ -1,6 +1,6 @@
 use Rattle.std.proofs.Common.{◌≡◌, ◌<◌, ◌≤◌, ℕ, false, length, slice_get}
-use Rattle.ff_graph_dag.specs.Graphs.{among}
-use Rattle.ff_graph_dag.specs.ties.Tied.{wire_needed}
+use Rattle.ff_graph_dag.specs.laws.Graphs.{among}
+use Rattle.ff_graph_dag.specs.laws.ties.Tied.{wire_needed}
 use Rattle.ff_graph_dag.proofs.ties.ways.needed_edges.Given as goal
 
 abbrev pub invariant-down : goal.invariant-down

@@ -1,6 +1,6 @@
 use Rattle.std.proofs.Common.{◌≡◌, ℕ, ◌+◌, ◌<◌, ◌≤◌, List, Bool, Some, length, slice_get, ap, subst, sym, ◌∙◌, below_more, arith}
 use Rattle.ff_graph_dag.specs.declared.graph.Port.{Port}
-use Rattle.ff_graph_dag.specs.ties.Tied.{ways_at, IsReached}
+use Rattle.ff_graph_dag.specs.laws.ties.Tied.{ways_at, IsReached}
 use Rattle.ff_graph_dag.proofs.TiesLemmas.Steps.{ways_old, ways_last, one_longer}
 use Rattle.ff_graph_dag.proofs.TiesLemmas.Tying.{got_is, got_below}
 use Rattle.ff_graph_dag.proofs.ties.ways.upward_ways.Goals as goal

@@ -1,7 +1,7 @@
 use Rattle.std.proofs.Common.{◌≡◌, ◌<◌, ◌≤◌, ℕ, List, Bool, Some, length, slice_get}
 use Rattle.std.specs.Prelude.{vec_capacity}
 use Rattle.ff_graph_dag.specs.declared.graph.Port.{Port}
-use Rattle.ff_graph_dag.specs.ties.Tied.{ways_at, IsReached}
+use Rattle.ff_graph_dag.specs.laws.ties.Tied.{ways_at, IsReached}
 use Rattle.ff_graph_dag.proofs.ties.ways.upward_ways.Given as goal
 
 abbrev pub invariant-each : goal.invariant-each

@@ -1,5 +1,5 @@
 use Rattle.std.proofs.Common.{◌≡◌, ◌+◌, drop}
-use Rattle.ff_graph_dag.specs.wiring.Wires.{edge_of}
+use Rattle.ff_graph_dag.specs.laws.wiring.Wires.{edge_of}
 use Rattle.ff_graph_dag.proofs.wiring.ends.edge_of.Given as goal
 
 abbrev pub invariant-edges : goal.invariant-edges

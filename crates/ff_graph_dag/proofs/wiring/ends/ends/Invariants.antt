@@ -1,5 +1,5 @@
 use Rattle.std.proofs.Common.{◌≡◌, ◌++◌, drop}
-use Rattle.ff_graph_dag.specs.wiring.Wires.{ends_of}
+use Rattle.ff_graph_dag.specs.laws.wiring.Wires.{ends_of}
 use Rattle.ff_graph_dag.proofs.wiring.ends.ends.Given as goal
 
 abbrev pub invariant-wires : goal.invariant-wires

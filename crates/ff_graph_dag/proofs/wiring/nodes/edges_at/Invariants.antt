@@ -1,5 +1,5 @@
 use Rattle.std.proofs.Common.{◌≡◌, ◌-◌, ◌++◌}
-use Rattle.ff_graph_dag.specs.wiring.Wires.{edges_up}
+use Rattle.ff_graph_dag.specs.laws.wiring.Wires.{edges_up}
 use Rattle.ff_graph_dag.proofs.wiring.nodes.edges_at.Given as goal
 
 abbrev pub invariant-ports : goal.invariant-ports

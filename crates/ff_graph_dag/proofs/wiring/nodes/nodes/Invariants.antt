@@ -1,5 +1,5 @@
 use Rattle.std.proofs.Common.{◌≡◌, ◌++◌, drop, map}
-use Rattle.ff_graph_dag.specs.wiring.Wires.{feeds_in, ins_from, outs_from}
+use Rattle.ff_graph_dag.specs.laws.wiring.Wires.{feeds_in, ins_from, outs_from}
 use Rattle.ff_graph_dag.proofs.wiring.nodes.nodes.Given as goal
 
 abbrev pub invariant-filters : goal.invariant-filters

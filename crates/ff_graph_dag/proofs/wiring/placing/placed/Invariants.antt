@@ -1,6 +1,6 @@
 use Rattle.std.proofs.Common.{◌≡◌, ◌++◌, [], drop, map, slice_index_or}
 use Rattle.ff_graph_links.specs.pads.Links.{pads_in}
-use Rattle.ff_graph_dag.specs.wiring.Wires.{feeds_in}
+use Rattle.ff_graph_dag.specs.laws.wiring.Wires.{feeds_in}
 use Rattle.ff_graph_dag.specs.wiring.Flows.{port_of_source, placed}
 use Rattle.ff_graph_dag.proofs.wiring.placing.placed.Given as goal
 

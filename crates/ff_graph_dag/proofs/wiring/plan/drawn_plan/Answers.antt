@@ -2,7 +2,7 @@ use Rattle.std.proofs.Common.{◌≡◌, ℕ, List, Option, ap, subst, sym, ◌�
 use Rattle.ff_graph_links.specs.pads.Links.{pads_in}
 use Rattle.ff_graph_dag.specs.declared.graph.Port.{Port}
 use Rattle.ff_graph_dag.specs.wiring.Flows.{placed, placed_counts, placed_pads}
-use Rattle.ff_graph_dag.specs.wiring.Wires.{feeds_in, IsLinked}
+use Rattle.ff_graph_dag.specs.laws.wiring.Wires.{feeds_in, IsLinked}
 use Rattle.ff_graph_dag.proofs.WiringLemmas.Linking.{linked}
 use Rattle.ff_graph_dag.proofs.wiring.plan.drawn_plan.Goals as goal
 

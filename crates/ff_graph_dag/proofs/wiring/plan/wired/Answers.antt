@@ -1,6 +1,6 @@
 use Rattle.std.proofs.Common.{sym, ◌∙◌, ap, length}
 use Rattle.ff_graph_dag.specs.declared.graph.Plan.{Plan}
-use Rattle.ff_graph_dag.specs.wiring.Wires.{feeds_in, IsWired}
+use Rattle.ff_graph_dag.specs.laws.wiring.Wires.{feeds_in, IsWired}
 use Rattle.ff_graph_dag.proofs.WiringLemmas.Tying.{wires_upward, pads_within, tied_so}
 use Rattle.ff_graph_dag.proofs.wiring.plan.wired.Goals as goal
 

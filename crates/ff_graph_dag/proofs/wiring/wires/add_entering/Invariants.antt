@@ -1,5 +1,5 @@
 use Rattle.std.proofs.Common.{◌≡◌, ◌++◌, drop}
-use Rattle.ff_graph_dag.specs.wiring.Wires.{entering}
+use Rattle.ff_graph_dag.specs.laws.wiring.Wires.{entering}
 use Rattle.ff_graph_dag.proofs.wiring.wires.add_entering.Given as goal
 
 abbrev pub invariant-inputs : goal.invariant-inputs

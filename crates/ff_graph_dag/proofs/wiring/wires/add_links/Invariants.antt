@@ -1,5 +1,5 @@
 use Rattle.std.proofs.Common.{◌≡◌, ◌++◌, drop}
-use Rattle.ff_graph_dag.specs.wiring.Wires.{links_at}
+use Rattle.ff_graph_dag.specs.laws.wiring.Wires.{links_at}
 use Rattle.ff_graph_dag.proofs.wiring.wires.add_links.Given as goal
 
 abbrev pub invariant-ports : goal.invariant-ports

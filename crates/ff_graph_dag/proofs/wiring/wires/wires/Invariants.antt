@@ -1,5 +1,5 @@
 use Rattle.std.proofs.Common.{◌≡◌, ◌++◌, drop}
-use Rattle.ff_graph_dag.specs.wiring.Wires.{feeds_in, links_from, wires_of}
+use Rattle.ff_graph_dag.specs.laws.wiring.Wires.{feeds_in, links_from, wires_of}
 use Rattle.ff_graph_dag.proofs.wiring.wires.wires.Given as goal
 
 abbrev pub invariant-filters : goal.invariant-filters

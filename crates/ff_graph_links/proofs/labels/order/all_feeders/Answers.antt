@@ -1,6 +1,6 @@
 use Rattle.std.proofs.Common.{length}
 use Rattle.ff_graph_links.specs.labels.Order.{cell, feeders_to}
-use Rattle.ff_graph_links.specs.labels.Tables.{marks}
+use Rattle.ff_graph_links.specs.laws.labels.Tables.{marks}
 use Rattle.ff_graph_links.proofs.LabelsLemmas.Tabled.{row_pushed}
 use Rattle.ff_graph_links.proofs.labels.order.all_feeders.Goals as goal
 

@@ -1,6 +1,6 @@
 use Rattle.std.proofs.Common.{◌≡◌, ℕ, ◌||◌, Bool, List, map, length, ap, ◌∙◌, arith}
 use Rattle.ff_graph_links.specs.labels.Order.{below, cell, reaches}
-use Rattle.ff_graph_links.specs.labels.Tables.{marks}
+use Rattle.ff_graph_links.specs.laws.labels.Tables.{marks}
 use Rattle.ff_graph_links.proofs.LabelsLemmas.Tabled.{next_step, back_is}
 use Rattle.ff_graph_links.proofs.labels.order.comes_back.Goals as goal
 

@@ -2,7 +2,7 @@ use Rattle.std.proofs.Common.{ℕ, ap, sym, ◌∙◌}
 use Rattle.std.specs.declared.alloc.Global.{Global}
 use Rattle.std.specs.declared.vec.Vec.{Vec}
 use Rattle.ff_graph_links.specs.labels.Order.{cell}
-use Rattle.ff_graph_links.specs.labels.Tables.{marks}
+use Rattle.ff_graph_links.specs.laws.labels.Tables.{marks}
 use Rattle.ff_graph_links.proofs.LabelsLemmas.Tabled.{kept, left_out}
 use Rattle.ff_graph_links.proofs.labels.order.feeders_to.Goals as goal
 use Rattle.ff_graph_links.proofs.labels.order.feeders_to.Goals.{then-has_mark+in_ok-push, else-has_mark}

@@ -1,7 +1,7 @@
 use Rattle.std.proofs.Common.{◌≡◌, ℕ}
 use Rattle.std.specs.List.{filter, range_with_len}
 use Rattle.ff_graph_links.specs.labels.Order.{cell}
-use Rattle.ff_graph_links.specs.labels.Tables.{marks}
+use Rattle.ff_graph_links.specs.laws.labels.Tables.{marks}
 use Rattle.ff_graph_links.proofs.labels.order.feeders_to.Given as goal
 
 abbrev pub invariant-loop-from : goal.invariant-loop-from

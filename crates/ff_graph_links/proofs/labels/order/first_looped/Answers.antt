@@ -1,7 +1,7 @@
 use Rattle.std.proofs.Common.{ℕ, ◌||◌, false, length, sym, ◌∙◌}
 use Rattle.std.specs.Prelude.{slice_index_or}
 use Rattle.ff_graph_links.specs.labels.Order.{cell, comes_behind, first_on_loop}
-use Rattle.ff_graph_links.specs.labels.Tables.{marks}
+use Rattle.ff_graph_links.specs.laws.labels.Tables.{marks}
 use Rattle.ff_graph_links.proofs.LabelsLemmas.Tabled.{found_on, found_here}
 use Rattle.ff_graph_links.proofs.labels.order.first_looped.Goals as goal
 

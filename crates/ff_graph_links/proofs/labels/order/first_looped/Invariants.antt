@@ -2,7 +2,7 @@ use Rattle.std.proofs.Common.{◌≡◌, ℕ, ◌-◌, ◌||◌, false, length}
 use Rattle.std.specs.Prelude.{slice_index_or}
 use Rattle.std.specs.List.{find, range_with_len}
 use Rattle.ff_graph_links.specs.labels.Order.{cell, comes_behind, first_on_loop}
-use Rattle.ff_graph_links.specs.labels.Tables.{marks}
+use Rattle.ff_graph_links.specs.laws.labels.Tables.{marks}
 use Rattle.ff_graph_links.proofs.labels.order.first_looped.Given as goal
 
 abbrev pub invariant-loop-graph : goal.invariant-loop-graph

@@ -3,7 +3,7 @@ use Rattle.std.specs.declared.alloc.Global.{Global}
 use Rattle.std.specs.declared.vec.Vec.{Vec}
 use Rattle.ff_graph_links.specs.orders.Orders.{lists, order_of}
 use Rattle.ff_graph_links.specs.labels.Order.{cell, order_by}
-use Rattle.ff_graph_links.specs.labels.Tables.{marks}
+use Rattle.ff_graph_links.specs.laws.labels.Tables.{marks}
 use Rattle.ff_graph_links.proofs.LabelsLemmas.Orders.{stays_below}
 use Rattle.ff_graph_links.proofs.labels.order.order_of.Goals as goal
 

@@ -1,6 +1,6 @@
 use Rattle.std.proofs.Common.{ℕ, ◌||◌}
 use Rattle.ff_graph_links.specs.labels.Order.{cell, reaches}
-use Rattle.ff_graph_links.specs.labels.Tables.{marks}
+use Rattle.ff_graph_links.specs.laws.labels.Tables.{marks}
 use Rattle.ff_graph_links.proofs.LabelsLemmas.Tabled.{pushed}
 use Rattle.ff_graph_links.proofs.labels.order.step_on.Goals as goal
 

@@ -1,7 +1,7 @@
 use Rattle.std.proofs.Common.{◌≡◌, ℕ, ◌||◌, map}
 use Rattle.std.specs.List.{range_with_len}
 use Rattle.ff_graph_links.specs.labels.Order.{cell, reaches}
-use Rattle.ff_graph_links.specs.labels.Tables.{marks}
+use Rattle.ff_graph_links.specs.laws.labels.Tables.{marks}
 use Rattle.ff_graph_links.proofs.labels.order.step_on.Given as goal
 
 abbrev pub invariant-loop-to : goal.invariant-loop-to

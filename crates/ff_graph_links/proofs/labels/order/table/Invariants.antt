@@ -1,7 +1,7 @@
 use Rattle.std.proofs.Common.{◌≡◌, ℕ, map, length}
 use Rattle.std.specs.List.{range_with_len}
 use Rattle.ff_graph_links.specs.labels.Order.{below, feeds}
-use Rattle.ff_graph_links.specs.labels.Tables.{marks}
+use Rattle.ff_graph_links.specs.laws.labels.Tables.{marks}
 use Rattle.ff_graph_links.proofs.labels.order.table.Given as goal
 
 abbrev pub invariant-loop-from : goal.invariant-loop-from

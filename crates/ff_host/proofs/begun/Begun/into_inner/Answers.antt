@@ -1,5 +1,5 @@
 use Rattle.std.proofs.Common.{refl}
-use Rattle.ff_host.specs.Begun.{still_in}
+use Rattle.ff_host.specs.laws.Begun.{still_in}
 use Rattle.ff_host.proofs.begun.Begun.into_inner.Goals as goal
 
 pub returns-clause-left : goal.returns-clause-left

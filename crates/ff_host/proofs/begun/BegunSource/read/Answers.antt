@@ -1,6 +1,6 @@
 use Rattle.std.proofs.Common.{◌≡◌, ◌<◌, ℕ, List, drop, length, [], take, min, ◌++◌, ◌∙◌, ap, sym, subst, arith}
 use Rattle.std.specs.Io.KnownBytes.{prepend_known, Consumes}
-use Rattle.ff_host.specs.Begun.{still_in}
+use Rattle.ff_host.specs.laws.Begun.{still_in}
 use Rattle.std.proofs.lemmas.List.{length-drop}
 use Rattle.std.proofs.Math.ListN.{drop_of_length-le}
 use Rattle.ff_host.proofs.BegunReads.{reads_on, gives_front, from_on}

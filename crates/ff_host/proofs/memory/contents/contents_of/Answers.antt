@@ -1,4 +1,4 @@
-use Rattle.ff_host.specs.memory.Given.{given}
+use Rattle.ff_host.specs.laws.memory.Given.{given}
 use Rattle.ff_host.proofs.MemoryLemmas.GivenFiles.{filled}
 use Rattle.ff_host.proofs.memory.contents.contents_of.Goals as goal
 

@@ -1,6 +1,6 @@
 use Rattle.std.proofs.Common.{◌≡◌, ℕ, List, vec_len}
-use Rattle.ff_host.specs.memory.Given.{given}
-use Rattle.ff_host.specs.memory.Contents.{file_at}
+use Rattle.ff_host.specs.laws.memory.Given.{given}
+use Rattle.ff_host.specs.laws.memory.Contents.{file_at}
 use Rattle.ff_host.proofs.MemoryLemmas.GivenFiles.{either}
 use Rattle.ff_host.proofs.memory.contents.contents_of.Given as goal
 

@@ -1,6 +1,6 @@
 use Rattle.std.proofs.Common.{ap, Some, ◌∙◌, ◌≡◌, [], subst, string_bytes}
 use Rattle.std.specs.Option.{option_map}
-use Rattle.ff_host.specs.memory.Contents.{file_at}
+use Rattle.ff_host.specs.laws.memory.Contents.{file_at}
 use Rattle.ff_lists.proofs.TextMap.{here, elsewhere}
 use Rattle.ff_host.proofs.memory.contents.make_empty.Goals as goal
 

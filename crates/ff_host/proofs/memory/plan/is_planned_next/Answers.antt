@@ -4,7 +4,7 @@ use Rattle.std.proofs.lemmas.List.Folds.{list_any_at}
 use Rattle.std.proofs.lemmas.Map.Views.{Contains-from_any}
 use Rattle.std.specs.List.{list_any}
 use Rattle.ff_host.specs.Causes.{added}
-use Rattle.ff_host.specs.memory.Plan.{numbers_of}
+use Rattle.ff_host.specs.laws.memory.Plan.{numbers_of}
 use Rattle.ff_host.proofs.memory.plan.is_planned_next.Goals as goal
 
 pub returns : goal.returns

@@ -1,7 +1,7 @@
 use Rattle.std.proofs.Common.{subst}
 use Rattle.ff_input.specs.declared.walk.InputWalk.{InputWalk}
 use Rattle.ff_input.specs.Formats.{any_head}
-use Rattle.ff_input.specs.Places.{IsReached}
+use Rattle.ff_input.specs.laws.Places.{IsReached}
 use Rattle.ff_input.proofs.Walking.{start_told, start_on, other_told, format_told, format_on, behind_at, behind_here}
 use Rattle.ff_input.proofs.walk.InputWalk.read.Goals as goal
 

@@ -1,5 +1,5 @@
 use Rattle.std.proofs.Common.{◌≡◌, ◌∙◌, sym, refl}
-use Rattle.ff_joins.specs.Segmented.{over_at}
+use Rattle.ff_joins.specs.laws.Segmented.{over_at}
 use Rattle.ff_joins.proofs.Placing.{over_there}
 use Rattle.ff_joins.proofs.Moving.{spent_exact}
 use Rattle.ff_joins.proofs.concat.Concat.is_spent.Goals as goal

@@ -1,7 +1,7 @@
 use Rattle.std.proofs.Common.{ℕ, subst}
 use Rattle.ff_filter.specs.Views.{Gave}
 use Rattle.ff_filter.proofs.Stepping.{only_port}
-use Rattle.ff_joins.specs.Segmented.{segments_view}
+use Rattle.ff_joins.specs.laws.Segmented.{segments_view}
 use Rattle.ff_joins.proofs.concat.ConcatFilter.pull.Goals as goal
 
 pub returns-clause-gives : goal.returns-clause-gives

@@ -5,8 +5,8 @@ use Rattle.ff_stream.specs.declared.item.Item.TheVariants.{Audio}
 use Rattle.ff_joins.specs.declared.sound_inlet.SoundInlet.{SoundInlet}
 use Rattle.ff_joins.specs.Joined.{rows_to, flattened}
 use Rattle.ff_joins.specs.JoinOptions.{rate_of, bits_of, channels_of}
-use Rattle.ff_joins.specs.JoinDrawing.{kept_rows, frame_start}
-use Rattle.ff_joins.specs.Lots.{lots, last_port, cells_to}
+use Rattle.ff_joins.specs.laws.JoinDrawing.{kept_rows, frame_start}
+use Rattle.ff_joins.specs.laws.Lots.{lots, last_port, cells_to}
 use Rattle.ff_joins.proofs.FrameSteps.{cells_are}
 use Rattle.ff_joins.proofs.Decisions.{due_is}
 use Rattle.ff_joins.proofs.join.Join.frame.Goals as goal

@@ -4,9 +4,9 @@ use Rattle.ff_stream.specs.declared.item.Lane.TheVariants.{Frames}
 use Rattle.ff_stream.specs.Within.{passes_limits}
 use Rattle.ff_filter.specs.Views.{Gave}
 use Rattle.ff_joins.specs.Joined.{rows_to, flattened}
-use Rattle.ff_joins.specs.Lots.{lots, lane_of, last_port, lots_view}
-use Rattle.ff_joins.specs.JoinSeen.{join_seen}
-use Rattle.ff_joins.specs.JoinDrawing.{due, kept_rows}
+use Rattle.ff_joins.specs.laws.Lots.{lots, lane_of, last_port, lots_view}
+use Rattle.ff_joins.specs.laws.JoinSeen.{join_seen}
+use Rattle.ff_joins.specs.laws.JoinDrawing.{due, kept_rows}
 use Rattle.ff_joins.proofs.Framing.{started_skipped}
 use Rattle.ff_joins.proofs.Decisions.{due_is, rest_cut, rest_frame, gave_frame}
 use Rattle.ff_joins.proofs.join.Join.give.Goals as goal

@@ -1,6 +1,6 @@
 use Rattle.std.proofs.Common.{◌≡◌, ◌<◌, ◌≤◌, ◌∙◌, ℕ, List, length, sym, subst}
 use Rattle.ff_joins.specs.declared.sound_inlet.SoundInlet.{SoundInlet}
-use Rattle.ff_joins.specs.Lots.{lots}
+use Rattle.ff_joins.specs.laws.Lots.{lots}
 use Rattle.ff_joins.proofs.Cuts.{fed_over, fed_open, have_frames}
 use Rattle.ff_joins.proofs.join.Join.is_fed_out.Goals as goal
 

@@ -1,7 +1,7 @@
 use Rattle.std.proofs.Common.{◌≡◌, ◌∙◌, sym, ap, refl}
 use Rattle.ff_filter.specs.Made.{is_over}
-use Rattle.ff_joins.specs.JoinLaws.{join-spent_only, join-spent_if}
-use Rattle.ff_joins.specs.Lots.{Lot, lots}
+use Rattle.ff_joins.specs.laws.JoinLaws.{join-spent_only, join-spent_if}
+use Rattle.ff_joins.specs.laws.Lots.{Lot, lots}
 use Rattle.ff_joins.proofs.Framing.{lots_there}
 use Rattle.ff_joins.proofs.join.Join.is_spent.Goals as goal
 

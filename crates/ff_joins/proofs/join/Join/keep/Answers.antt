@@ -1,10 +1,10 @@
 use Rattle.std.proofs.Common.{rules, to_z, of_z, w64, ◌≡◌, ◌∙◌, ℤ, Option, map, set, subst, ap, sym}
 use Rattle.ff_filter.specs.Views.{Fed}
-use Rattle.ff_joins.specs.JoinSeen.{join_seen}
+use Rattle.ff_joins.specs.laws.JoinSeen.{join_seen}
 use Rattle.ff_filter.specs.Joins.{before}
 use Rattle.ff_filter.specs.Made.{is_over}
 use Rattle.ff_stream.specs.Times.{start_of}
-use Rattle.ff_joins.specs.Lots.{Lot, lots, lane_of, last_port, lots_view, comes, has_started_by}
+use Rattle.ff_joins.specs.laws.Lots.{Lot, lots, lane_of, last_port, lots_view, comes, has_started_by}
 use Rattle.ff_joins.proofs.Framing.{lots_there}
 use Rattle.ff_joins.proofs.Feeding.{fed_kept, same_kept}
 use Rattle.ff_joins.proofs.join.Join.keep.Goals as goal

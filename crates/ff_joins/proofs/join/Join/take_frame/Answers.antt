@@ -1,8 +1,8 @@
 use Rattle.std.proofs.Common.{◌≡◌, ◌<◌, ◌≤◌, ℕ, List, length, arith, subst}
 use Rattle.ff_filter.specs.declared.after.After.{After}
 use Rattle.ff_joins.specs.declared.sound_inlet.SoundInlet.{SoundInlet}
-use Rattle.ff_joins.specs.Lots.{lots}
-use Rattle.ff_joins.specs.JoinDrawing.{StandsSo}
+use Rattle.ff_joins.specs.laws.Lots.{lots}
+use Rattle.ff_joins.specs.laws.JoinDrawing.{StandsSo}
 use Rattle.ff_joins.proofs.Decisions.{next_whole, next_last, next_end, next_lost, next_none, rest_end, rest_lost, waits_there}
 use Rattle.ff_joins.proofs.join.Join.take_frame.Goals as goal
 

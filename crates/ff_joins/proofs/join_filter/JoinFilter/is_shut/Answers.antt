@@ -1,7 +1,7 @@
 use Rattle.std.proofs.Common.{◌<◌, ◌∙◌, sym, ap, arith, length}
 use Rattle.std.proofs.lemmas.List.{length-map}
 use Rattle.ff_filter.specs.Made.{is_over}
-use Rattle.ff_joins.specs.Lots.{Lot, lane_of}
+use Rattle.ff_joins.specs.laws.Lots.{Lot, lane_of}
 use Rattle.ff_joins.proofs.Framing.{lots_there}
 use Rattle.ff_joins.proofs.join_filter.JoinFilter.is_shut.Goals as goal
 

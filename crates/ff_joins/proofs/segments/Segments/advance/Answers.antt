@@ -1,8 +1,8 @@
 use Rattle.std.proofs.Common.{◌≡◌, ◌<◌, ◌+◌, ◌∙◌, sym, ap, arith, length, set}
 use Rattle.std.proofs.lemmas.List.{length-set}
 use Rattle.ff_filter.specs.Made.{is_over}
-use Rattle.ff_joins.specs.Segmented.{waits_in, bare_at}
-use Rattle.ff_filter.specs.StepperLaws.{or_right}
+use Rattle.ff_joins.specs.laws.Segmented.{waits_in, bare_at}
+use Rattle.ff_filter.specs.laws.StepperLaws.{or_right}
 use Rattle.ff_joins.proofs.Placing.{waits_set, came_there}
 use Rattle.std.specs.VecDeque.{deque_len, deque_capacity}
 use Rattle.ff_joins.proofs.Settling.{open_is}

@@ -2,7 +2,7 @@ use Rattle.std.proofs.Common.{◌≡◌, ◌≤◌, ◌+◌, ◌∙◌, sym, ap,
 use Rattle.std.specs.VecDeque.{deque_len, deque_capacity}
 use Rattle.ff_stream.specs.declared.item.Item.{Item}
 use Rattle.ff_filter.specs.Views.{Same}
-use Rattle.ff_joins.specs.Segmented.{waits_in, fields_view, segments_view}
+use Rattle.ff_joins.specs.laws.Segmented.{waits_in, fields_view, segments_view}
 use Rattle.ff_joins.proofs.Placing.{waits_set}
 use Rattle.ff_joins.proofs.Moving.{fed_then, closed_in, drawn_bare}
 use Rattle.ff_joins.proofs.Outcomes.{on_ok}

@@ -1,5 +1,5 @@
 use Rattle.ff_filter.proofs.Moves.{same_trans}
-use Rattle.ff_joins.specs.Segmented.{segments_view}
+use Rattle.ff_joins.specs.laws.Segmented.{segments_view}
 use Rattle.ff_joins.proofs.segments.Segments.drain.Goals as goal
 
 pub drain-preserved : goal.drain-preserved

@@ -1,7 +1,7 @@
 use Rattle.std.proofs.Common.{◌+◌, ◌≤◌}
 use Rattle.std.specs.VecDeque.{deque_len, deque_capacity}
 use Rattle.ff_filter.specs.Views.{Same}
-use Rattle.ff_joins.specs.Segmented.{waits_in, segments_view, to_settle}
+use Rattle.ff_joins.specs.laws.Segmented.{waits_in, segments_view, to_settle}
 use Rattle.ff_joins.proofs.segments.Segments.drain.Given as goal
 
 abbrev pub invariant-drain : goal.invariant-drain

@@ -3,7 +3,7 @@ use Rattle.ff_stream.specs.declared.item.Lane.TheVariants.{Frames}
 use Rattle.ff_stream.specs.Within.{passes_limits}
 use Rattle.ff_filter.specs.Views.{closes}
 use Rattle.ff_filter.proofs.Taking.{none_closes-to}
-use Rattle.ff_joins.specs.ConcatLaws.{later-closes}
+use Rattle.ff_joins.specs.laws.ConcatLaws.{later-closes}
 use Rattle.ff_joins.proofs.Settling.{settled_short}
 use Rattle.ff_joins.proofs.segments.Segments.settle.Goals as goal
 

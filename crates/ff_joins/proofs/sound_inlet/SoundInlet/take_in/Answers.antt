@@ -3,7 +3,7 @@ use Rattle.ff_filter.specs.declared.after.After.{After}
 use Rattle.ff_filter.specs.Joins.{before}
 use Rattle.ff_joins.specs.Joined.{row_stream}
 use Rattle.ff_joins.specs.JoinOptions.{channels_of}
-use Rattle.ff_joins.specs.Lots.{lot_of, rows_kept, row_then}
+use Rattle.ff_joins.specs.laws.Lots.{lot_of, rows_kept, row_then}
 use Rattle.ff_joins.proofs.Feeding.{close_taken, open_is}
 use Rattle.ff_joins.proofs.sound_inlet.SoundInlet.take_in.Goals as goal
 

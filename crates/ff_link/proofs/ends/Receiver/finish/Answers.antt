@@ -1,6 +1,6 @@
 use Rattle.std.proofs.Common.{ap, ◌∙◌, sym, le_of_eq, le_trans}
 use Rattle.crossbeam_queue.specs.Passes.{ruled_capacity}
-use Rattle.ff_link.specs.Flow.{AnyCounts}
+use Rattle.ff_link.specs.laws.Flow.{AnyCounts}
 use Rattle.ff_link.proofs.Flows.{puts, sees_full, no_room_taken}
 use Rattle.ff_link.proofs.ends.Receiver.finish.Goals as goal
 

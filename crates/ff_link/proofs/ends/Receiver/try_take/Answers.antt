@@ -1,4 +1,4 @@
-use Rattle.ff_link.specs.Flow.{IsCarried}
+use Rattle.ff_link.specs.laws.Flow.{IsCarried}
 use Rattle.ff_link.proofs.Flows.{takes, sees_empty}
 use Rattle.std.proofs.Common.{arith}
 use Rattle.ff_link.proofs.Sendings.{carried_front, count_few}

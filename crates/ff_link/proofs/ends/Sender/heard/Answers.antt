@@ -1,4 +1,4 @@
-use Rattle.ff_link.specs.Flow.{AnyCounts}
+use Rattle.ff_link.specs.laws.Flow.{AnyCounts}
 use Rattle.ff_link.proofs.Flows.{hears, sees_empty}
 use Rattle.ff_link.proofs.ends.Sender.heard.Goals as goal
 

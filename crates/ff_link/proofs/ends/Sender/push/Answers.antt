@@ -1,6 +1,6 @@
 use Rattle.std.proofs.Common.{arith, ap, ◌∙◌, sym, subst, ◌++◌, ◌∷◌, [], le_of_eq}
 use Rattle.crossbeam_queue.specs.Passes.{ruled_capacity}
-use Rattle.ff_link.specs.Flow.{IsCarried, Carries}
+use Rattle.ff_link.specs.laws.Flow.{IsCarried, Carries}
 use Rattle.ff_link.proofs.Flows.{puts, sees_full}
 use Rattle.ff_link.proofs.Sendings.{count_few}
 use Rattle.ff_link.proofs.ends.Sender.push.Goals as goal

@@ -1,6 +1,6 @@
 use Rattle.std.proofs.Common.{ap, ◌∙◌}
 use Rattle.crossbeam_queue.specs.Passes.{ruled_capacity}
-use Rattle.ff_link.specs.Views.{Sending}
+use Rattle.ff_link.specs.laws.Views.{Sending}
 use Rattle.ff_link.proofs.ends.Sender.size.Goals as goal
 
 pub returns : goal.returns

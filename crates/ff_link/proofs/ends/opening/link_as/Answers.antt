@@ -1,5 +1,5 @@
 use Rattle.std.proofs.Common.{rules}
-use Rattle.ff_link.specs.Flow.{IsCarried, AnyCounts, no_way}
+use Rattle.ff_link.specs.laws.Flow.{IsCarried, AnyCounts, no_way}
 use Rattle.ff_link.proofs.Flows.{begins, forks}
 use Rattle.ff_link.proofs.Sendings.{nothing_carried}
 use Rattle.ff_link.proofs.ends.opening.link_as.Goals as goal

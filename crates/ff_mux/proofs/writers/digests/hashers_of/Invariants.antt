@@ -1,5 +1,5 @@
 use Rattle.std.proofs.Common.{◌≡◌, ◌≤◌, ℕ, [], length}
-use Rattle.ff_mux.specs.Hashers.{AllTaken, AreOfKind}
+use Rattle.ff_mux.specs.laws.Hashers.{AllTaken, AreOfKind}
 use Rattle.ff_mux.proofs.writers.digests.hashers_of.Given as goal
 
 abbrev pub invariant-streams : goal.invariant-streams

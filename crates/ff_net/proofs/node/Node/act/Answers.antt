@@ -1,7 +1,7 @@
 use Rattle.std.proofs.Common.{refl, sym, ◌∙◌, inl, inr}
-use Rattle.ff_net.specs.Nodes.{IsSound}
-use Rattle.ff_net.specs.Steps.{Prepares}
-use Rattle.ff_net.specs.Worlds.{lanes_of}
+use Rattle.ff_net.specs.laws.Nodes.{IsSound}
+use Rattle.ff_net.specs.laws.Steps.{Prepares}
+use Rattle.ff_net.specs.laws.Worlds.{lanes_of}
 use Rattle.ff_net.proofs.Acting.{unmoved, as_turn, turn_after, none_if_not_some, some_is_faulty}
 use Rattle.ff_net.proofs.Changes.{true_not_false}
 use Rattle.ff_net.proofs.Moments.{stepped_as}

@@ -1,11 +1,11 @@
 use Rattle.std.proofs.Common.{◌≡◌, ◌<◌, ◌⊎◌, ℕ, false, refl, sym, ◌∙◌, subst, ap, length, inl, inr}
 use Rattle.ff_stream.specs.Ports.{IsClosed}
 use Rattle.ff_net.specs.Ways.{Flow}
-use Rattle.ff_net.specs.Worlds.{Wire, Stand, finish_on, lanes_of}
-use Rattle.ff_net.specs.Ports.{in_at, in_wires}
-use Rattle.ff_net.specs.Laws.{NoMatter}
-use Rattle.ff_net.specs.Nodes.{IsSound, MayClose}
-use Rattle.ff_net.specs.Steps.{finished}
+use Rattle.ff_net.specs.laws.Worlds.{Wire, Stand, finish_on, lanes_of}
+use Rattle.ff_net.specs.laws.Ports.{in_at, in_wires}
+use Rattle.ff_net.specs.laws.Laws.{NoMatter}
+use Rattle.ff_net.specs.laws.Nodes.{IsSound, MayClose}
+use Rattle.ff_net.specs.laws.Steps.{finished}
 use Rattle.ff_net.proofs.Moments.{pass_self, fault_self, with_wire_same, with_wire_keeps}
 use Rattle.ff_net.proofs.PortSteps.{in_wires_set, in_wire_there, in_wire_in, out_ports_count}
 use Rattle.ff_net.proofs.Changes.{course_finish, closed}

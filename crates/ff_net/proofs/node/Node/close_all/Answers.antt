@@ -1,8 +1,8 @@
 use Rattle.std.proofs.Common.{◌≡◌, ◌<◌, ℕ, length, true, ◌||◌, sym, ◌∙◌, ap, subst, arith, inl, inr}
 use Rattle.ff_net.specs.declared.ports.InPort.{InPort}
-use Rattle.ff_net.specs.Ports.{in_at, AreDone}
-use Rattle.ff_net.specs.Steps.{Acts}
-use Rattle.ff_net.specs.Nodes.{IsSound}
+use Rattle.ff_net.specs.laws.Ports.{in_at, AreDone}
+use Rattle.ff_net.specs.laws.Steps.{Acts}
+use Rattle.ff_net.specs.laws.Nodes.{IsSound}
 use Rattle.ff_net.proofs.Flows.{same_or_not}
 use Rattle.ff_net.proofs.Moments.{stepped_then}
 use Rattle.ff_net.proofs.Rounds.{acts_join, or_false, same_trans, shaped_later, ins_kept}

@@ -1,7 +1,7 @@
 use Rattle.std.proofs.Common.{◌≡◌, ◌<◌, ℕ, length, true, false}
-use Rattle.ff_net.specs.Nodes.{IsShaped, IsSame, IsSound}
-use Rattle.ff_net.specs.Ports.{in_at, AreDone}
-use Rattle.ff_net.specs.Steps.{Stepped, Acts}
+use Rattle.ff_net.specs.laws.Nodes.{IsShaped, IsSame, IsSound}
+use Rattle.ff_net.specs.laws.Ports.{in_at, AreDone}
+use Rattle.ff_net.specs.laws.Steps.{Stepped, Acts}
 use Rattle.ff_net.proofs.node.Node.close_all.Given as goal
 
 abbrev pub invariant-loop-p : goal.invariant-loop-p

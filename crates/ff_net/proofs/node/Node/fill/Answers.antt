@@ -1,13 +1,13 @@
 use Rattle.std.proofs.Common.{◌≡◌, false, None, Some, Ok, refl, sym, ◌∙◌, ap, subst, inl, inr, ℕ, Option, get_or-set_same}
 use Rattle.ff_stream.specs.declared.item.Item.{Item}
-use Rattle.ff_stream.specs.Order.{prefix_self}
+use Rattle.ff_stream.specs.laws.Order.{prefix_self}
 use Rattle.ff_stream.specs.Ports.{stream_at}
 use Rattle.ff_net.specs.declared.fault.Fault.{Fault}
 use Rattle.ff_net.specs.declared.ports.OutPort.{OutPort}
 use Rattle.ff_net.specs.Pasts.{gave_item, was_asked, due}
-use Rattle.ff_net.specs.Laws.{GoesOn}
-use Rattle.ff_net.specs.Ports.{out_at, out_wires}
-use Rattle.ff_net.specs.Nodes.{HeldIs}
+use Rattle.ff_net.specs.laws.Laws.{GoesOn}
+use Rattle.ff_net.specs.laws.Ports.{out_at, out_wires}
+use Rattle.ff_net.specs.laws.Nodes.{HeldIs}
 use Rattle.ff_net.proofs.PortSteps.{out_wires_set}
 use Rattle.ff_net.proofs.Changes.{none_held, true_not_false, course_past, busy_goes_on, fill_some, machine_step}
 use Rattle.ff_net.proofs.Moments.{pass_self}

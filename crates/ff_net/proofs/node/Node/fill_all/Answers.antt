@@ -1,7 +1,7 @@
 use Rattle.std.proofs.Common.{◌≡◌, ◌≢◌, ◌<◌, ◌+◌, ℕ, length, false, None, ◌||◌, sym, ◌∙◌, ap, subst, inl, inr, arith, is_some}
 use Rattle.ff_net.specs.declared.ports.OutPort.{OutPort}
-use Rattle.ff_net.specs.Ports.{out_at}
-use Rattle.ff_net.specs.Steps.{Stepped, Readies}
+use Rattle.ff_net.specs.laws.Ports.{out_at}
+use Rattle.ff_net.specs.laws.Steps.{Stepped, Readies}
 use Rattle.ff_net.proofs.Flows.{same_or_not}
 use Rattle.ff_net.proofs.Moments.{stepped_then}
 use Rattle.ff_net.proofs.Rounds.{readies_join, or_true, or_false}

@@ -1,8 +1,8 @@
 use Rattle.std.proofs.Common.{◌≡◌, ◌<◌, ℕ, length, true, false, None}
 use Rattle.ff_net.specs.declared.wires.Wires.{Wires}
-use Rattle.ff_net.specs.Nodes.{IsSound}
-use Rattle.ff_net.specs.Ports.{out_at, SomeHeld}
-use Rattle.ff_net.specs.Steps.{Stepped, Readies}
+use Rattle.ff_net.specs.laws.Nodes.{IsSound}
+use Rattle.ff_net.specs.laws.Ports.{out_at, SomeHeld}
+use Rattle.ff_net.specs.laws.Steps.{Stepped, Readies}
 use Rattle.ff_net.proofs.node.Node.fill_all.Given as goal
 
 abbrev pub invariant-loop-p : goal.invariant-loop-p

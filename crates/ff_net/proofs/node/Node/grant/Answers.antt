@@ -1,10 +1,10 @@
 use Rattle.std.proofs.Common.{◌≡◌, ℕ, ◌⊎◌, inl, inr, None, Some, is_some, refl, ap, sym, ◌∙◌, subst, Option}
-use Rattle.ff_sched.specs.Passing.{Passing}
+use Rattle.ff_sched.specs.laws.Passing.{Passing}
 use Rattle.ff_frame.specs.declared.event.Ticket.{Ticket}
-use Rattle.ff_net.specs.Logs.{WasChoked}
-use Rattle.ff_net.specs.Nodes.{IsSound}
-use Rattle.ff_net.specs.Ports.{AreDone}
-use Rattle.ff_net.specs.Steps.{IsUngranted}
+use Rattle.ff_net.specs.laws.Logs.{WasChoked}
+use Rattle.ff_net.specs.laws.Nodes.{IsSound}
+use Rattle.ff_net.specs.laws.Ports.{AreDone}
+use Rattle.ff_net.specs.laws.Steps.{IsUngranted}
 use Rattle.ff_net.proofs.Acting.{none_if_not_some}
 use Rattle.ff_net.proofs.Changes.{true_not_false}
 use Rattle.ff_net.proofs.Granting.{granted_once, grants_join, grants_taken, once_between, same_tickets}

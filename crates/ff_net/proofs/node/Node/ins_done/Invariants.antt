@@ -1,5 +1,5 @@
 use Rattle.std.proofs.Common.{◌≡◌, ◌<◌, ℕ, true}
-use Rattle.ff_net.specs.Ports.{in_at}
+use Rattle.ff_net.specs.laws.Ports.{in_at}
 use Rattle.ff_net.proofs.node.Node.ins_done.Given as goal
 
 abbrev pub invariant-loop-port : goal.invariant-loop-port

@@ -1,11 +1,11 @@
 use Rattle.std.proofs.Common.{true, sym, ◌∙◌, inl, inr}
-use Rattle.ff_net.specs.Steps.{Fills}
+use Rattle.ff_net.specs.laws.Steps.{Fills}
 use Rattle.ff_net.proofs.Acting.{none_if_not_some, some_is_faulty}
 use Rattle.ff_net.proofs.Moments.{stepped_as}
 use Rattle.ff_net.proofs.PortSteps.{out_ports_count}
 use Rattle.ff_net.proofs.Changes.{true_not_false}
 use Rattle.ff_net.proofs.Readying.{none_before}
-use Rattle.ff_net.specs.Worlds.{lanes_of}
+use Rattle.ff_net.specs.laws.Worlds.{lanes_of}
 use Rattle.ff_net.proofs.node.Node.is_due.Goals as goal
 
 pub fill_all-held-requires : goal.fill_all-held-requires

@@ -1,5 +1,5 @@
 use Rattle.std.proofs.Common.{ap, ◌∙◌, refl, map}
-use Rattle.ff_net.specs.Ports.{in_wires, out_wires}
+use Rattle.ff_net.specs.laws.Ports.{in_wires, out_wires}
 use Rattle.ff_net.proofs.Fresh.{node_fresh, in_wires_new, out_wires_new, in_new, out_new}
 use Rattle.ff_net.proofs.node.Node.new.Goals as goal
 

@@ -1,9 +1,9 @@
 use Rattle.std.proofs.Common.{◌≡◌, ◌∙◌, refl, ap, sym, inl, ◌++◌, ◌∷◌, [], Option, Some, append-nil}
-use Rattle.ff_stream.specs.Order.{prefix_self}
+use Rattle.ff_stream.specs.laws.Order.{prefix_self}
 use Rattle.ff_frame.specs.declared.event.Ticket.{Ticket}
-use Rattle.ff_net.specs.Logs.{hand_of}
+use Rattle.ff_net.specs.laws.Logs.{hand_of}
 use Rattle.ff_net.specs.Pasts.{was_allowed}
-use Rattle.ff_net.specs.Steps.{granted}
+use Rattle.ff_net.specs.laws.Steps.{granted}
 use Rattle.ff_net.proofs.Changes.{course_past, machine_step, true_not_false}
 use Rattle.ff_net.proofs.Logs.{fault_back, log_called, pending_same}
 use Rattle.ff_net.proofs.Moments.{pass_self, pushed_tickets}

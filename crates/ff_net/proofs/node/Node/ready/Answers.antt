@@ -2,13 +2,13 @@ use Rattle.std.proofs.Common.{◌≡◌, ◌<◌, ℕ, length, true, false, refl
 use Rattle.ff_stream.specs.Ports.{stream_at}
 use Rattle.ff_net.specs.declared.ports.OutPort.{OutPort}
 use Rattle.ff_net.specs.Ways.{Flow}
-use Rattle.ff_net.specs.Logs.{WasChoked, tickets_in}
-use Rattle.ff_net.specs.Nodes.{IsSound}
+use Rattle.ff_net.specs.laws.Logs.{WasChoked, tickets_in}
+use Rattle.ff_net.specs.laws.Nodes.{IsSound}
 use Rattle.ff_net.specs.Pasts.{Past, due}
-use Rattle.ff_net.specs.Ports.{out_at, NoneHeld}
-use Rattle.ff_net.specs.Steps.{IsHeldBack, IsUngranted, Prepares}
-use Rattle.ff_net.specs.Worlds.{Wire}
-use Rattle.ff_sched.specs.Passing.{Passing}
+use Rattle.ff_net.specs.laws.Ports.{out_at, NoneHeld}
+use Rattle.ff_net.specs.laws.Steps.{IsHeldBack, IsUngranted, Prepares}
+use Rattle.ff_net.specs.laws.Worlds.{Wire}
+use Rattle.ff_sched.specs.laws.Passing.{Passing}
 use Rattle.ff_net.proofs.Granting.{once_between, once_same, same_tickets}
 use Rattle.ff_net.proofs.Flows.{due_same}
 use Rattle.ff_net.proofs.Moments.{stepped_self, stepped_then, stepped_through, then_has_moved, has_moved_then}

@@ -1,12 +1,12 @@
 use Rattle.std.proofs.Common.{◌≡◌, ◌<◌, ℕ, false, true, None, Some, Option, refl, sym, ◌∙◌, subst, ap, length, slice_set, get_or-set_same, inl, inr}
 use Rattle.ff_stream.specs.declared.item.Item.{Item}
-use Rattle.ff_stream.specs.Order.{prefix_self}
+use Rattle.ff_stream.specs.laws.Order.{prefix_self}
 use Rattle.ff_net.specs.declared.ports.OutPort.{OutPort}
 use Rattle.ff_net.specs.declared.wires.Wires.{Wires}
-use Rattle.ff_net.specs.Worlds.{Wire, Stand, put_on, lanes_of}
+use Rattle.ff_net.specs.laws.Worlds.{Wire, Stand, put_on, lanes_of}
 use Rattle.ff_net.specs.Pasts.{was_stopped}
-use Rattle.ff_net.specs.Ports.{out_at, out_wires}
-use Rattle.ff_net.specs.Steps.{put, told as was_told}
+use Rattle.ff_net.specs.laws.Ports.{out_at, out_wires}
+use Rattle.ff_net.specs.laws.Steps.{put, told as was_told}
 use Rattle.ff_net.proofs.Moments.{pass_self, fault_self, with_wire_same, with_wire_keeps, with_item_new}
 use Rattle.ff_net.proofs.PortSteps.{out_wires_set, out_wire_there, out_wire_in, set_again, set_own}
 use Rattle.ff_net.proofs.Changes.{true_not_false, course_put, course_past, send_done, told, busy_goes_on, same_stands}

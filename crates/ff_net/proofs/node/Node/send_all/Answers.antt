@@ -1,9 +1,9 @@
 use Rattle.std.proofs.Common.{◌≡◌, true, false, ◌||◌, sym, ◌∙◌, subst, is_some, List}
 use Rattle.ff_net.specs.declared.ports.OutPort.{OutPort}
 use Rattle.ff_net.specs.declared.wires.Wires.{Wires}
-use Rattle.ff_net.specs.Ports.{out_at}
-use Rattle.ff_net.specs.Steps.{Acts}
-use Rattle.ff_net.specs.Worlds.{IsFull}
+use Rattle.ff_net.specs.laws.Ports.{out_at}
+use Rattle.ff_net.specs.laws.Steps.{Acts}
+use Rattle.ff_net.specs.laws.Worlds.{IsFull}
 use Rattle.ff_net.proofs.Moments.{stepped_then}
 use Rattle.ff_net.proofs.Rounds.{acts_join, or_false, same_trans, shaped_later, outs_kept, full_more}
 use Rattle.ff_net.proofs.node.Node.send_all.Goals as goal

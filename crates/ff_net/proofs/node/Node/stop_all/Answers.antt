@@ -1,7 +1,7 @@
 use Rattle.std.proofs.Common.{◌≡◌, ℕ, List, slice_index_or, true, ◌||◌, sym, ◌∙◌, ap, subst, arith, inl, inr}
 use Rattle.ff_net.specs.declared.ports.OutPort.{OutPort}
-use Rattle.ff_net.specs.Ports.{out_at}
-use Rattle.ff_net.specs.Steps.{Acts}
+use Rattle.ff_net.specs.laws.Ports.{out_at}
+use Rattle.ff_net.specs.laws.Steps.{Acts}
 use Rattle.ff_net.proofs.Flows.{same_or_not}
 use Rattle.ff_net.proofs.Moments.{stepped_then}
 use Rattle.ff_net.proofs.PortSteps.{out_wire_at}

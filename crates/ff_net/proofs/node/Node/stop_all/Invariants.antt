@@ -1,8 +1,8 @@
 use Rattle.std.proofs.Common.{◌≡◌, ◌<◌, ℕ, length, true, false}
-use Rattle.ff_net.specs.Nodes.{IsShaped}
-use Rattle.ff_net.specs.Ports.{out_at}
-use Rattle.ff_net.specs.Steps.{Stepped, Acts}
-use Rattle.ff_net.specs.Worlds.{Wire, Stand}
+use Rattle.ff_net.specs.laws.Nodes.{IsShaped}
+use Rattle.ff_net.specs.laws.Ports.{out_at}
+use Rattle.ff_net.specs.laws.Steps.{Stepped, Acts}
+use Rattle.ff_net.specs.laws.Worlds.{Wire, Stand}
 use Rattle.ff_net.proofs.node.Node.stop_all.Given as goal
 
 abbrev pub invariant-loop-p : goal.invariant-loop-p

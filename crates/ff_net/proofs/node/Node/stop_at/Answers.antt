@@ -1,9 +1,9 @@
 use Rattle.std.proofs.Common.{◌≡◌, ◌<◌, ℕ, false, true, refl, sym, ◌∙◌, subst, ap, length, inl, inr}
-use Rattle.ff_stream.specs.Order.{prefix_self}
-use Rattle.ff_net.specs.Worlds.{lanes_of}
+use Rattle.ff_stream.specs.laws.Order.{prefix_self}
+use Rattle.ff_net.specs.laws.Worlds.{lanes_of}
 use Rattle.ff_net.specs.Pasts.{was_stopped}
-use Rattle.ff_net.specs.Ports.{out_at, out_wires}
-use Rattle.ff_net.specs.Steps.{told as was_told}
+use Rattle.ff_net.specs.laws.Ports.{out_at, out_wires}
+use Rattle.ff_net.specs.laws.Steps.{told as was_told}
 use Rattle.ff_net.proofs.PortSteps.{out_wires_set, out_wire_there}
 use Rattle.ff_net.proofs.Changes.{course_past, told, busy_goes_on}
 use Rattle.ff_net.proofs.Queues.{finished_of, in_queues}

@@ -1,5 +1,5 @@
 use Rattle.std.proofs.Common.{◌≡◌, true, ◌∙◌}
-use Rattle.ff_net.specs.Steps.{Acts}
+use Rattle.ff_net.specs.laws.Steps.{Acts}
 use Rattle.ff_net.proofs.Moments.{stepped_then, moves_then}
 use Rattle.ff_net.proofs.Rounds.{shaped_later}
 use Rattle.ff_net.proofs.node.Node.stop_finished.Goals as goal

@@ -4,10 +4,10 @@ use Rattle.ff_stream.specs.Items.{with_item}
 use Rattle.ff_stream.specs.Ports.{stream_at}
 use Rattle.ff_net.specs.declared.node.Node.{Node}
 use Rattle.ff_net.specs.Ways.{Flow}
-use Rattle.ff_net.specs.Worlds.{Wire, Stand, take_on, lanes_of}
+use Rattle.ff_net.specs.laws.Worlds.{Wire, Stand, take_on, lanes_of}
 use Rattle.ff_net.specs.Pasts.{fed}
-use Rattle.ff_net.specs.Ports.{in_at}
-use Rattle.ff_net.specs.Steps.{took as has_taken}
+use Rattle.ff_net.specs.laws.Ports.{in_at}
+use Rattle.ff_net.specs.laws.Steps.{took as has_taken}
 use Rattle.ff_net.proofs.Flows.{fed_above, stream_at-with_item_same, stream_at-with_item_other}
 use Rattle.ff_net.proofs.Moments.{pass_self, with_wire_same, with_item_new}
 use Rattle.ff_net.proofs.PortSteps.{in_wire_there, in_wire_in}

@@ -1,9 +1,9 @@
 use Rattle.std.proofs.Common.{◌≡◌, true, false, ◌||◌, sym, ◌∙◌, subst, List}
 use Rattle.ff_net.specs.declared.ports.InPort.{InPort}
 use Rattle.ff_net.specs.declared.wires.Wires.{Wires}
-use Rattle.ff_net.specs.Ports.{in_at}
-use Rattle.ff_net.specs.Steps.{Acts}
-use Rattle.ff_net.specs.Worlds.{IsEmpty}
+use Rattle.ff_net.specs.laws.Ports.{in_at}
+use Rattle.ff_net.specs.laws.Steps.{Acts}
+use Rattle.ff_net.specs.laws.Worlds.{IsEmpty}
 use Rattle.ff_net.proofs.Moments.{stepped_then}
 use Rattle.ff_net.proofs.Rounds.{acts_join, or_false, same_trans, shaped_later, ins_kept, full_more}
 use Rattle.ff_net.proofs.node.Node.take_all.Goals as goal

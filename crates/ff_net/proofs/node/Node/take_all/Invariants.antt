@@ -1,8 +1,8 @@
 use Rattle.std.proofs.Common.{◌≡◌, ◌<◌, ℕ, length, true, false}
-use Rattle.ff_net.specs.Nodes.{IsShaped, IsSame}
-use Rattle.ff_net.specs.Ports.{in_at}
-use Rattle.ff_net.specs.Steps.{Stepped, Acts}
-use Rattle.ff_net.specs.Worlds.{IsEmpty}
+use Rattle.ff_net.specs.laws.Nodes.{IsShaped, IsSame}
+use Rattle.ff_net.specs.laws.Ports.{in_at}
+use Rattle.ff_net.specs.laws.Steps.{Stepped, Acts}
+use Rattle.ff_net.specs.laws.Worlds.{IsEmpty}
 use Rattle.ff_net.proofs.node.Node.take_all.Given as goal
 
 abbrev pub invariant-loop-p : goal.invariant-loop-p

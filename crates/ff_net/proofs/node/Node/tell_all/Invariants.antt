@@ -1,9 +1,9 @@
 use Rattle.std.proofs.Common.{◌≡◌, ◌<◌, ◌⊎◌, length, true, false}
 use Rattle.ff_net.specs.declared.wires.Wires.{Wires}
-use Rattle.ff_net.specs.Logs.{PassStep, tickets_in}
-use Rattle.ff_net.specs.Nodes.{IsOf, IsSound}
-use Rattle.ff_net.specs.Ports.{AreFinished}
-use Rattle.ff_net.specs.Steps.{Stepped, Tells}
+use Rattle.ff_net.specs.laws.Logs.{PassStep, tickets_in}
+use Rattle.ff_net.specs.laws.Nodes.{IsOf, IsSound}
+use Rattle.ff_net.specs.laws.Ports.{AreFinished}
+use Rattle.ff_net.specs.laws.Steps.{Stepped, Tells}
 use Rattle.ff_net.proofs.node.Node.tell_all.Given as goal
 
 abbrev pub invariant-loop-passed : goal.invariant-loop-passed

@@ -1,8 +1,8 @@
 use Rattle.std.proofs.Common.{◌≡◌, false, refl, ap, sym, ◌∙◌}
-use Rattle.ff_stream.specs.Order.{prefix_self}
-use Rattle.ff_sched.specs.Passing.{Passing}
+use Rattle.ff_stream.specs.laws.Order.{prefix_self}
+use Rattle.ff_sched.specs.laws.Passing.{Passing}
 use Rattle.ff_frame.specs.declared.event.Event.{Event}
-use Rattle.ff_net.specs.Logs.{tickets_in}
+use Rattle.ff_net.specs.laws.Logs.{tickets_in}
 use Rattle.ff_net.specs.Pasts.{was_told}
 use Rattle.ff_net.proofs.Changes.{course_past, machine_step, true_not_false}
 use Rattle.ff_net.proofs.Granting.{pass_told, roomier_steps, tells_join}

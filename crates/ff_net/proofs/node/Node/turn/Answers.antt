@@ -1,11 +1,11 @@
 use Rattle.std.proofs.Common.{List, refl, ◌≡◌, ◌⊎◌, ◌<◌, ℕ, length, inl, inr, true, ◌||◌, sym, ◌∙◌, subst}
 use Rattle.ff_net.specs.declared.wires.Wires.{Wires}
-use Rattle.ff_net.specs.Worlds.{lanes_of}
+use Rattle.ff_net.specs.laws.Worlds.{lanes_of}
 use Rattle.ff_net.specs.declared.ports.InPort.{InPort}
-use Rattle.ff_net.specs.Nodes.{IsDone}
-use Rattle.ff_net.specs.Ports.{AreFinished}
-use Rattle.ff_net.specs.Steps.{Turns}
-use Rattle.ff_net.specs.Turns.{Waits}
+use Rattle.ff_net.specs.laws.Nodes.{IsDone}
+use Rattle.ff_net.specs.laws.Ports.{AreFinished}
+use Rattle.ff_net.specs.laws.Steps.{Turns}
+use Rattle.ff_net.specs.laws.Turns.{Waits}
 use Rattle.ff_net.proofs.Acting.{turn_after}
 use Rattle.ff_net.proofs.Changes.{true_not_false}
 use Rattle.ff_stream.specs.Ports.{IsClosed}

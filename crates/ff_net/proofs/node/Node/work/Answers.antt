@@ -1,10 +1,10 @@
 use Rattle.std.proofs.Common.{List, refl, inl, inr, ◌||◌, sym, ◌∙◌, ap, subst}
 use Rattle.ff_net.specs.declared.wires.Wires.{Wires}
 use Rattle.ff_net.specs.declared.ports.InPort.{InPort}
-use Rattle.ff_net.specs.Nodes.{IsSound}
-use Rattle.ff_net.specs.Ports.{AreFinished}
-use Rattle.ff_net.specs.Steps.{Turns}
-use Rattle.ff_net.specs.Turns.{Waits}
+use Rattle.ff_net.specs.laws.Nodes.{IsSound}
+use Rattle.ff_net.specs.laws.Ports.{AreFinished}
+use Rattle.ff_net.specs.laws.Steps.{Turns}
+use Rattle.ff_net.specs.laws.Turns.{Waits}
 use Rattle.ff_net.proofs.Acting.{turn_after}
 use Rattle.ff_net.proofs.Granting.{of_later, once_between, same_tickets, sound_or}
 use Rattle.ff_net.proofs.Idling.{waits_same, waits_told}

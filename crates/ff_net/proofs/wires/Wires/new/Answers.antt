@@ -2,7 +2,7 @@ use Rattle.std.proofs.Common.{All, ◌≡◌, ◌∙◌, ℕ, ◌<◌, List, [],
 use Rattle.std.proofs.lemmas.List.{map-append}
 use Rattle.ff_stream.specs.declared.item.Lane.{Lane}
 use Rattle.ff_net.specs.declared.wires.Queue.{Queue}
-use Rattle.ff_net.specs.Worlds.{QueueStands, fresh, lanes_in, sizes_in}
+use Rattle.ff_net.specs.laws.Worlds.{QueueStands, fresh, lanes_in, sizes_in}
 use Rattle.ff_net.proofs.Queues.{sizes_push, queue_fresh, each_push}
 use Rattle.ff_net.proofs.wires.Wires.new.Goals as goal
 

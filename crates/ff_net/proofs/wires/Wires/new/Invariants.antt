@@ -1,6 +1,6 @@
 use Rattle.std.proofs.Common.{All, ◌≡◌, ℕ, ◌<◌, length, slice_index_or}
 use Rattle.ff_net.specs.declared.wires.Queue.{Queue}
-use Rattle.ff_net.specs.Worlds.{QueueStands, fresh, lanes_in, sizes_in}
+use Rattle.ff_net.specs.laws.Worlds.{QueueStands, fresh, lanes_in, sizes_in}
 use Rattle.ff_net.proofs.wires.Wires.new.Given as goal
 
 abbrev pub invariant-loop-lane : goal.invariant-loop-lane

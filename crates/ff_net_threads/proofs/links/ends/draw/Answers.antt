@@ -1,14 +1,14 @@
 use Rattle.std.proofs.Common.{◌≡◌, ℕ, false, [], ◌∷◌, refl, sym, ◌∙◌, subst}
-use Rattle.ff_net.specs.Worlds.{IsEmpty, lanes_of}
+use Rattle.ff_net.specs.laws.Worlds.{IsEmpty, lanes_of}
 use Rattle.ff_net.specs.Ways.{lane_at}
-use Rattle.ff_net_threads.specs.links.Ends.{InEndStands}
-use Rattle.ff_net.specs.Steps.{Course}
+use Rattle.ff_net_threads.specs.laws.links.Ends.{InEndStands}
+use Rattle.ff_net.specs.laws.Steps.{Course}
 use Rattle.ff_net.proofs.Queues.{finished_of, in_queues}
 use Rattle.ff_net_threads.proofs.LinksLemmas.Carrying.{renamed, on_wires_self}
 use Rattle.ff_net.proofs.Changes.{true_not_false}
 use Rattle.ff_net.proofs.Rounds.{or_true, or_false}
 use Rattle.ff_net_threads.specs.declared.links.ends.InEnd.{InEnd}
-use Rattle.ff_net_threads.specs.links.Turns.{InRests, ended, link_shut, lying}
+use Rattle.ff_net_threads.specs.laws.links.Turns.{InRests, ended, link_shut, lying}
 use Rattle.ff_net_threads.proofs.LinksLemmas.Turns.{shut_takes, draw_takes, draw_moves, draw_rests, in_rests_self, none_drawn}
 use Rattle.ff_net_threads.proofs.links.ends.draw.Goals as goal
 

@@ -1,6 +1,6 @@
 use Rattle.std.proofs.Common.{refl, sym, ap, inr, Option, Some, is_some, ◌∙◌}
 use Rattle.ff_stream.specs.declared.item.Item.{Item}
-use Rattle.ff_link.specs.Views.{Receiving}
+use Rattle.ff_link.specs.laws.Views.{Receiving}
 use Rattle.ff_net.proofs.Changes.{none_held, true_not_false}
 use Rattle.ff_net_threads.proofs.LinksLemmas.Carrying.{in_fetched}
 use Rattle.ff_net_threads.proofs.LinksLemmas.Turns.{fetched_item, fetched_differs, fetched_none}

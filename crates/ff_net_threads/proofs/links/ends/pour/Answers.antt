@@ -1,12 +1,12 @@
 use Rattle.std.proofs.Common.{ℕ, [], ◌∷◌, sym, ◌∙◌, subst}
-use Rattle.ff_net.specs.Worlds.{lanes_of}
-use Rattle.ff_net_threads.specs.links.Ends.{OutEndStands}
-use Rattle.ff_net.specs.Steps.{Course}
+use Rattle.ff_net.specs.laws.Worlds.{lanes_of}
+use Rattle.ff_net_threads.specs.laws.links.Ends.{OutEndStands}
+use Rattle.ff_net.specs.laws.Steps.{Course}
 use Rattle.ff_net.proofs.Moments.{course_trans}
 use Rattle.ff_net_threads.proofs.LinksLemmas.Carrying.{some_past, renamed, claimed}
 use Rattle.ff_net.proofs.Rounds.{or_true, or_false}
 use Rattle.ff_net_threads.proofs.LinksLemmas.Turns.{pour_sends, pour_moves, out_rests_then, none_sent}
-use Rattle.ff_net_threads.specs.links.Turns.{over}
+use Rattle.ff_net_threads.specs.laws.links.Turns.{over}
 use Rattle.ff_net_threads.proofs.links.ends.pour.Goals as goal
 
 pub send-sent-requires-clause-stands : goal.send-sent-requires-clause-stands

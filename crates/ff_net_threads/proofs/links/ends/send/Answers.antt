@@ -1,7 +1,7 @@
 use Rattle.std.proofs.Common.{[], inl, inr, ◌∷◌, arith, Some, refl, sym, ap, ◌∙◌, is_some}
 use Rattle.ff_stream.specs.declared.item.Item.{Item}
-use Rattle.ff_net.specs.Worlds.{lanes_of}
-use Rattle.ff_link.specs.Views.{Sending}
+use Rattle.ff_net.specs.laws.Worlds.{lanes_of}
+use Rattle.ff_link.specs.laws.Views.{Sending}
 use Rattle.ff_net_threads.proofs.LinksLemmas.Carrying.{may_carry, may_send, out_sent, out_looked, out_told, on_wires_self}
 use Rattle.ff_net_threads.proofs.LinksLemmas.Turns.{sent_item, sent_differs, sent_none}
 use Rattle.ff_net_threads.proofs.links.ends.send.Goals as goal

@@ -1,5 +1,5 @@
 use Rattle.std.proofs.Common.{◌≡◌, ◌<◌, ℕ, None}
-use Rattle.ff_net_threads.specs.links.Ends.{in_end_at}
+use Rattle.ff_net_threads.specs.laws.links.Ends.{in_end_at}
 use Rattle.ff_net_threads.proofs.links.linked.shut_all.Given as goal
 
 abbrev pub invariant-loop-end : goal.invariant-loop-end

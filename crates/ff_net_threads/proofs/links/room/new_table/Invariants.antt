@@ -1,5 +1,5 @@
 use Rattle.std.proofs.Common.{◌≡◌, ◌<◌, ℕ, length, slice_index_or, Option, None}
-use Rattle.ff_link.specs.Views.{Sending}
+use Rattle.ff_link.specs.laws.Views.{Sending}
 use Rattle.ff_net_threads.proofs.links.room.new_table.Given as goal
 
 abbrev pub invariant-loop : goal.invariant-loop

@@ -3,8 +3,8 @@ use Rattle.std.proofs.lemmas.Grind.{common_steps}
 use Rattle.ff_net.specs.declared.fault.Fault.{Fault}
 use Rattle.ff_net.specs.declared.node.Node.{Node}
 use Rattle.ff_net_threads.specs.declared.links.linked.Linked.{Linked}
-use Rattle.ff_net_threads.specs.links.Nodes.{node_of}
-use Rattle.ff_net_threads.specs.links.Settling.{IsFaultOf}
+use Rattle.ff_net_threads.specs.laws.links.Nodes.{node_of}
+use Rattle.ff_net_threads.specs.laws.links.Settling.{IsFaultOf}
 use Rattle.ff_net_threads.proofs.LinksLemmas.Linking.{count_map}
 use Rattle.ff_net_threads.proofs.LinksLemmas.Served.{each_snoc, nth_of}
 use Rattle.ff_net_threads.proofs.LinksLemmas.Tables.{at_any, at_map}

@@ -1,8 +1,8 @@
 use Rattle.std.proofs.Common.{◌≡◌, ◌<◌, ◌≤◌, ℕ, Option, length, slice_index_or, vec_len, vec_capacity}
 use Rattle.ff_net.specs.declared.fault.Fault.{Fault}
 use Rattle.ff_net_threads.specs.declared.links.linked.Linked.{Linked}
-use Rattle.ff_net_threads.specs.links.Nodes.{node_of}
-use Rattle.ff_net_threads.specs.links.Settling.{IsFaultOf}
+use Rattle.ff_net_threads.specs.laws.links.Nodes.{node_of}
+use Rattle.ff_net_threads.specs.laws.links.Settling.{IsFaultOf}
 use Rattle.ff_net_threads.proofs.links.settling.note_faults.Given as goal
 
 abbrev pub invariant-loop-k : goal.invariant-loop-k

@@ -1,7 +1,7 @@
 use Rattle.std.proofs.Common.{ℕ, subst, sym}
 use Rattle.ff_net.proofs.Before.{meets_solution}
-use Rattle.ff_net_threads.specs.links.Rooms.{links_of}
-use Rattle.ff_net_threads.specs.links.Settling.{ComeAfter, ends_of, nodes_of}
+use Rattle.ff_net_threads.specs.laws.links.Rooms.{links_of}
+use Rattle.ff_net_threads.specs.laws.links.Settling.{ComeAfter, ends_of, nodes_of}
 use Rattle.ff_net_threads.proofs.LinksLemmas.Meeting.{moment_of_links, are_fed}
 use Rattle.ff_net_threads.proofs.LinksLemmas.Senders.{come_after}
 use Rattle.ff_net_threads.proofs.LinksLemmas.Tables.{no_sender, settled_fed}

@@ -3,9 +3,9 @@ use Rattle.std.specs.Vec.Iter.{into_iter_len}
 use Rattle.ff_net.specs.Pasts.{IsIn}
 use Rattle.ff_net.proofs.Flows.{same_or_not}
 use Rattle.ff_net_threads.specs.declared.links.ends.InEnd.{InEnd}
-use Rattle.ff_net_threads.specs.links.Ends.{in_end_at, no_in}
-use Rattle.ff_net_threads.specs.links.Nodes.{in_ends_wires}
-use Rattle.ff_net_threads.specs.links.Settling.{IsSettled, HasSender}
+use Rattle.ff_net_threads.specs.laws.links.Ends.{in_end_at, no_in}
+use Rattle.ff_net_threads.specs.laws.links.Nodes.{in_ends_wires}
+use Rattle.ff_net_threads.specs.laws.links.Settling.{IsSettled, HasSender}
 use Rattle.ff_net_threads.proofs.LinksLemmas.Linking.{in_member, ins_differ}
 use Rattle.ff_net_threads.proofs.LinksLemmas.Served.{rest_next, first_next}
 use Rattle.ff_net_threads.proofs.LinksLemmas.Tables.{settled_still}

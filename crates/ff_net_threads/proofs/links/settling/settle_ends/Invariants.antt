@@ -1,14 +1,14 @@
 use Rattle.std.proofs.Common.{◌≡◌, ◌+◌, ◌<◌, ℕ, List, length, slice_index_or, vec_items, vec_len}
 use Rattle.std.specs.Vec.Iter.{into_iter_items, into_iter_len}
-use Rattle.ff_link.specs.Views.{Link}
+use Rattle.ff_link.specs.laws.Views.{Link}
 use Rattle.ff_link.specs.declared.answers.Settled.{Settled}
-use Rattle.ff_net.specs.Nodes.{AreApart}
+use Rattle.ff_net.specs.laws.Nodes.{AreApart}
 use Rattle.ff_net.specs.Pasts.{IsIn}
 use Rattle.ff_net_threads.specs.declared.links.ends.InEnd.{InEnd}
 use Rattle.ff_net_threads.specs.declared.links.ends.OutEnd.{OutEnd}
-use Rattle.ff_net_threads.specs.links.Ends.{in_end_at}
-use Rattle.ff_net_threads.specs.links.Nodes.{in_ends_wires}
-use Rattle.ff_net_threads.specs.links.Settling.{IsTable, IsSettled, HasSender}
+use Rattle.ff_net_threads.specs.laws.links.Ends.{in_end_at}
+use Rattle.ff_net_threads.specs.laws.links.Nodes.{in_ends_wires}
+use Rattle.ff_net_threads.specs.laws.links.Settling.{IsTable, IsSettled, HasSender}
 use Rattle.ff_net_threads.proofs.links.settling.settle_ends.Given as goal
 
 abbrev pub invariant-loop-end : goal.invariant-loop-end

@@ -2,15 +2,15 @@ use Rattle.std.proofs.Common.{◌≡◌, ◌<◌, ◌++◌, ℕ, suc, List, leng
 use Rattle.std.specs.Vec.Iter.{into_iter_len, into_iter_items}
 use Rattle.ff_net.specs.declared.node.Node.{Node}
 use Rattle.ff_net.specs.Pasts.{IsIn}
-use Rattle.ff_net.specs.Nodes.{AreApart, machine_of, pass_of}
-use Rattle.ff_sched.specs.Passing.{Passing}
+use Rattle.ff_net.specs.laws.Nodes.{AreApart, machine_of, pass_of}
+use Rattle.ff_sched.specs.laws.Passing.{Passing}
 use Rattle.ff_net.proofs.Flows.{same_or_not}
 use Rattle.ff_net_threads.specs.declared.links.ends.InEnd.{InEnd}
 use Rattle.ff_net_threads.specs.declared.links.ends.OutEnd.{OutEnd}
 use Rattle.ff_net_threads.specs.declared.links.linked.Linked.{Linked}
-use Rattle.ff_net_threads.specs.links.Ends.{in_end_at, in_link, out_link}
-use Rattle.ff_net_threads.specs.links.Nodes.{HasEnded, in_ends_wires, out_ends_wires, node_of, ins_of, outs_of}
-use Rattle.ff_net_threads.specs.links.Settling.{HasSender, IsSettled, IsSenderIn, ends_of, passes_in}
+use Rattle.ff_net_threads.specs.laws.links.Ends.{in_end_at, in_link, out_link}
+use Rattle.ff_net_threads.specs.laws.links.Nodes.{HasEnded, in_ends_wires, out_ends_wires, node_of, ins_of, outs_of}
+use Rattle.ff_net_threads.specs.laws.links.Settling.{HasSender, IsSettled, IsSenderIn, ends_of, passes_in}
 use Rattle.ff_net_threads.proofs.LinksLemmas.Linking.{count_map, in_member}
 use Rattle.ff_net_threads.proofs.LinksLemmas.Served.{rest_next, first_next, rest_first, each_snoc}
 use Rattle.ff_net_threads.proofs.LinksLemmas.Tables.{at_map, is_sender_at, settled_still, next_pass, all_passes}

@@ -1,12 +1,12 @@
 use Rattle.std.proofs.Common.{◌≡◌, ◌+◌, ◌++◌, ◌≤◌, ◌<◌, ℕ, length, slice_index_or, vec_items, vec_len, vec_capacity}
 use Rattle.std.specs.Vec.Iter.{into_iter_items, into_iter_len}
-use Rattle.ff_link.specs.Views.{Link}
+use Rattle.ff_link.specs.laws.Views.{Link}
 use Rattle.ff_net.specs.Pasts.{IsIn}
-use Rattle.ff_net.specs.Nodes.{machine_of}
+use Rattle.ff_net.specs.laws.Nodes.{machine_of}
 use Rattle.ff_net_threads.specs.declared.links.linked.Linked.{Linked}
-use Rattle.ff_net_threads.specs.links.Ends.{in_end_at}
-use Rattle.ff_net_threads.specs.links.Nodes.{in_ends_wires, out_ends_wires, node_of, ins_of, outs_of}
-use Rattle.ff_net_threads.specs.links.Settling.{HasSender, ComeAfter, IsTable, IsSettled, AreLinked, ends_of, passes_in}
+use Rattle.ff_net_threads.specs.laws.links.Ends.{in_end_at}
+use Rattle.ff_net_threads.specs.laws.links.Nodes.{in_ends_wires, out_ends_wires, node_of, ins_of, outs_of}
+use Rattle.ff_net_threads.specs.laws.links.Settling.{HasSender, ComeAfter, IsTable, IsSettled, AreLinked, ends_of, passes_in}
 use Rattle.ff_net_threads.proofs.links.settling.settle_in.Given as goal
 
 abbrev pub invariant-loop-linked : goal.invariant-loop-linked

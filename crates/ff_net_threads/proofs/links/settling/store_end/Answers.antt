@@ -1,6 +1,6 @@
 use Rattle.std.proofs.Common.{◌≡◌, subst, Some}
-use Rattle.ff_link.specs.Views.{Sending}
-use Rattle.ff_net_threads.specs.links.Settling.{IsSenderIn}
+use Rattle.ff_link.specs.laws.Views.{Sending}
+use Rattle.ff_net_threads.specs.laws.links.Settling.{IsSenderIn}
 use Rattle.ff_net_threads.proofs.LinksLemmas.Senders.{sender_still, sender_stored}
 use Rattle.ff_net_threads.proofs.LinksLemmas.Tables.{table_set}
 use Rattle.ff_net_threads.proofs.links.settling.store_end.Goals as goal

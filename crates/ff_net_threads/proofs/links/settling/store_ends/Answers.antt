@@ -2,8 +2,8 @@ use Rattle.std.proofs.Common.{◌≡◌, ◌<◌, ℕ, suc, length, slice_index_
 use Rattle.std.specs.Vec.Iter.{into_iter_len}
 use Rattle.ff_net.proofs.Flows.{same_or_not}
 use Rattle.ff_net_threads.specs.declared.links.ends.OutEnd.{OutEnd}
-use Rattle.ff_net_threads.specs.links.Ends.{out_link}
-use Rattle.ff_net_threads.specs.links.Settling.{HasSender, IsSenderIn}
+use Rattle.ff_net_threads.specs.laws.links.Ends.{out_link}
+use Rattle.ff_net_threads.specs.laws.links.Settling.{HasSender, IsSenderIn}
 use Rattle.ff_net_threads.proofs.LinksLemmas.Senders.{out_place_of, some_out}
 use Rattle.ff_net_threads.proofs.LinksLemmas.Served.{rest_next, first_next}
 use Rattle.ff_net_threads.proofs.links.settling.store_ends.Goals as goal

@@ -1,9 +1,9 @@
 use Rattle.std.proofs.Common.{◌≡◌, ◌+◌, ◌<◌, ℕ, List, length, slice_index_or, vec_items, vec_len, Some}
 use Rattle.std.specs.Vec.Iter.{into_iter_items, into_iter_len}
-use Rattle.ff_link.specs.Views.{Link}
+use Rattle.ff_link.specs.laws.Views.{Link}
 use Rattle.ff_net_threads.specs.declared.links.ends.OutEnd.{OutEnd}
-use Rattle.ff_net_threads.specs.links.Ends.{out_link}
-use Rattle.ff_net_threads.specs.links.Settling.{IsTable, HasSender, IsSenderIn}
+use Rattle.ff_net_threads.specs.laws.links.Ends.{out_link}
+use Rattle.ff_net_threads.specs.laws.links.Settling.{IsTable, HasSender, IsSenderIn}
 use Rattle.ff_net_threads.proofs.links.settling.store_ends.Given as goal
 
 abbrev pub invariant-loop-end : goal.invariant-loop-end

@@ -3,8 +3,8 @@ use Rattle.std.specs.Vec.Iter.{into_iter_len}
 use Rattle.std.proofs.Common.{rules, arith, ap, subst, sym, ◌∙◌}
 use Rattle.ff_net_threads.specs.declared.links.linked.Linked.{Linked}
 use Rattle.ff_net_threads.specs.declared.links.worker.Worker.{Worker}
-use Rattle.ff_net_threads.specs.links.Runs.{Ran}
-use Rattle.ff_net_threads.specs.links.Workers.{Serves}
+use Rattle.ff_net_threads.specs.laws.links.Runs.{Ran}
+use Rattle.ff_net_threads.specs.laws.links.Workers.{Serves}
 use Rattle.ff_net_threads.proofs.LinksLemmas.Served.{each_snoc, rest_next, first_next, someone, rest_first}
 use Rattle.ff_net_threads.proofs.links.threads.finish_all.Goals as goal
 

@@ -1,8 +1,8 @@
 use Rattle.std.specs.Prelude.{◌≡◌, ℕ, ◌+◌, ◌<◌, ◌≤◌, List, get_or, vec_items, vec_len, vec_capacity}
 use Rattle.std.specs.Vec.Iter.{into_iter_items, into_iter_len}
 use Rattle.ff_net_threads.specs.declared.links.linked.Linked.{Linked}
-use Rattle.ff_net_threads.specs.links.Runs.{Ran}
-use Rattle.ff_net_threads.specs.links.Workers.{AllServe}
+use Rattle.ff_net_threads.specs.laws.links.Runs.{Ran}
+use Rattle.ff_net_threads.specs.laws.links.Workers.{AllServe}
 use Rattle.ff_net_threads.proofs.links.threads.finish_all.Given as goal
 
 abbrev pub invariant-loop-worker : goal.invariant-loop-worker

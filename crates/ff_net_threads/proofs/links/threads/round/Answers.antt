@@ -1,9 +1,9 @@
 use Rattle.std.proofs.Common.{◌<◌, ℕ, sym, subst, ◌∙◌}
 use Rattle.ff_net_threads.specs.declared.links.linked.Linked.{Linked}
 use Rattle.ff_net_threads.specs.declared.links.worker.Worker.{Worker}
-use Rattle.ff_net.specs.Nodes.{IsOf}
-use Rattle.ff_net_threads.specs.links.Nodes.{node_of}
-use Rattle.ff_net_threads.specs.links.Workers.{Serves}
+use Rattle.ff_net.specs.laws.Nodes.{IsOf}
+use Rattle.ff_net_threads.specs.laws.links.Nodes.{node_of}
+use Rattle.ff_net_threads.specs.laws.links.Workers.{Serves}
 use Rattle.ff_net_threads.proofs.LinksLemmas.Served.{serve_set, someone}
 use Rattle.ff_net_threads.proofs.links.threads.round.Goals as goal
 

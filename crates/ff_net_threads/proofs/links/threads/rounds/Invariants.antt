@@ -1,6 +1,6 @@
 use Rattle.std.proofs.Common.{List}
 use Rattle.ff_net_threads.specs.declared.links.linked.Linked.{Linked}
-use Rattle.ff_net_threads.specs.links.Workers.{AllServe}
+use Rattle.ff_net_threads.specs.laws.links.Workers.{AllServe}
 use Rattle.ff_net_threads.proofs.links.threads.rounds.Given as goal
 
 abbrev pub invariant-loop : goal.invariant-loop

@@ -1,6 +1,6 @@
 use Rattle.std.proofs.Common.{◌≡◌, List, length, sym, ◌∙◌, subst}
 use Rattle.ff_net_threads.specs.declared.links.worker.Worker.{Worker}
-use Rattle.ff_net_threads.specs.links.Workers.{AllServe}
+use Rattle.ff_net_threads.specs.laws.links.Workers.{AllServe}
 use Rattle.ff_net_threads.proofs.LinksLemmas.Served.{written_back}
 use Rattle.ff_net_threads.proofs.links.threads.run_in.Goals as goal
 

@@ -3,9 +3,9 @@ use Rattle.std.specs.Vec.Iter.{into_iter_len}
 use Rattle.std.proofs.Common.{rules, arith, ap, ◌∙◌, subst, sym, refl}
 use Rattle.ff_net_threads.specs.declared.links.linked.Linked.{Linked}
 use Rattle.ff_net_threads.specs.declared.links.worker.Worker.{Worker}
-use Rattle.ff_net.specs.Nodes.{IsOf}
-use Rattle.ff_net_threads.specs.links.Nodes.{IsLawful, node_of}
-use Rattle.ff_net_threads.specs.links.Workers.{Serves}
+use Rattle.ff_net.specs.laws.Nodes.{IsOf}
+use Rattle.ff_net_threads.specs.laws.links.Nodes.{IsLawful, node_of}
+use Rattle.ff_net_threads.specs.laws.links.Workers.{Serves}
 use Rattle.ff_net_threads.proofs.LinksLemmas.Served.{each_snoc, rest_next, first_next, rest_first}
 use Rattle.ff_net_threads.proofs.links.threads.start_all.Goals as goal
 

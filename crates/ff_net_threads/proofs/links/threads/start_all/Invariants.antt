@@ -1,6 +1,6 @@
 use Rattle.std.specs.Prelude.{◌≡◌, ℕ, ◌+◌, ◌<◌, ◌≤◌, get_or, vec_items, vec_len, vec_capacity}
 use Rattle.std.specs.Vec.Iter.{into_iter_items, into_iter_len}
-use Rattle.ff_net_threads.specs.links.Workers.{Serves}
+use Rattle.ff_net_threads.specs.laws.links.Workers.{Serves}
 use Rattle.ff_net_threads.proofs.links.threads.start_all.Given as goal
 
 abbrev pub invariant-loop-node : goal.invariant-loop-node

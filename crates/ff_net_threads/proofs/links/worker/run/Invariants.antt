@@ -1,4 +1,4 @@
-use Rattle.ff_net_threads.specs.links.Nodes.{Follows}
+use Rattle.ff_net_threads.specs.laws.links.Nodes.{Follows}
 use Rattle.ff_net_threads.proofs.links.worker.run.Given as goal
 
 abbrev pub invariant-loop : goal.invariant-loop

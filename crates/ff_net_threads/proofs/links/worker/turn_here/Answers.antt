@@ -1,6 +1,6 @@
 use Rattle.std.proofs.Common.{subst}
 use Rattle.ff_net_threads.specs.declared.links.worker.Worker.{Worker}
-use Rattle.ff_net_threads.specs.links.Workers.{Serves}
+use Rattle.ff_net_threads.specs.laws.links.Workers.{Serves}
 use Rattle.ff_net_threads.proofs.LinksLemmas.Linking.{of_after}
 use Rattle.ff_net_threads.proofs.links.worker.turn_here.Goals as goal
 

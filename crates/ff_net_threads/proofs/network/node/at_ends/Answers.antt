@@ -1,6 +1,6 @@
 use Rattle.std.proofs.Common.{All, List, ap, sym, subst, ◌∙◌, ◌≡◌, ℕ}
 use Rattle.ff_net.specs.declared.node.Node.{Node}
-use Rattle.ff_net.specs.Nodes.{machine_of, in_wires_of, out_wires_of}
+use Rattle.ff_net.specs.laws.Nodes.{machine_of, in_wires_of, out_wires_of}
 use Rattle.ff_net_threads.proofs.NetworkLemmas.NewNodes.{new_wired, new_begin, new_linked}
 use Rattle.ff_net_threads.proofs.network.node.at_ends.Goals as goal
 

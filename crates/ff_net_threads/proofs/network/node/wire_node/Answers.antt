@@ -3,11 +3,11 @@ use Rattle.std.proofs.lemmas.Result.{IfOk-weaker}
 use Rattle.ff_stream.specs.declared.item.Lane.{Lane}
 use Rattle.ff_stream.specs.edges.Ports.{edge_to, edge_from, at_ports}
 use Rattle.ff_net.specs.Pasts.{IsIn}
-use Rattle.ff_net.specs.Worlds.{lanes_of}
+use Rattle.ff_net.specs.laws.Worlds.{lanes_of}
 use Rattle.ff_net_threads.specs.declared.links.linked.Linked.{Linked}
 use Rattle.ff_net_threads.specs.network.Fits.{edge_lanes}
-use Rattle.ff_net_threads.specs.network.Nodes.{FitsWires, AreNewIns, AreNewOuts, IsLinked, in_edges, out_edges}
-use Rattle.ff_net_threads.specs.network.Tables.{NewLinks, HaveNewSenders, HaveNewReceivers}
+use Rattle.ff_net_threads.specs.laws.network.Nodes.{FitsWires, AreNewIns, AreNewOuts, IsLinked, in_edges, out_edges}
+use Rattle.ff_net_threads.specs.laws.network.Tables.{NewLinks, HaveNewSenders, HaveNewReceivers}
 use Rattle.ff_net_threads.proofs.network.node.wire_node.Goals as goal
 
 pub take_ins-ins-requires-clause-there : goal.take_ins-ins-requires-clause-there

@@ -1,9 +1,9 @@
 use Rattle.std.proofs.Common.{rules, slice_index_or, sym, ap, ◌∙◌, subst}
 use Rattle.ff_net.specs.declared.node.Node.{Node}
-use Rattle.ff_net.specs.Nodes.{IsSound}
+use Rattle.ff_net.specs.laws.Nodes.{IsSound}
 use Rattle.ff_net_threads.specs.declared.links.linked.Linked.{Linked}
-use Rattle.ff_net_threads.specs.links.Nodes.{node_of}
-use Rattle.ff_net_threads.specs.links.Settling.{nodes_of}
+use Rattle.ff_net_threads.specs.laws.links.Nodes.{node_of}
+use Rattle.ff_net_threads.specs.laws.links.Settling.{nodes_of}
 use Rattle.ff_net_threads.proofs.NetworkLemmas.Each.{each_next}
 use Rattle.ff_net_threads.proofs.NetworkLemmas.Runs.{nodes_at}
 use Rattle.ff_net_threads.proofs.network.run.first_fault.Goals as goal

@@ -1,7 +1,7 @@
 use Rattle.std.proofs.Common.{ℕ, ◌<◌, slice_index_or}
 use Rattle.ff_net.specs.declared.node.Node.{Node}
-use Rattle.ff_net.specs.Nodes.{IsSound}
-use Rattle.ff_net_threads.specs.links.Settling.{nodes_of}
+use Rattle.ff_net.specs.laws.Nodes.{IsSound}
+use Rattle.ff_net_threads.specs.laws.links.Settling.{nodes_of}
 use Rattle.ff_net_threads.proofs.network.run.first_fault.Given as goal
 
 abbrev pub invariant-loop-k : goal.invariant-loop-k

@@ -1,9 +1,9 @@
 use Rattle.std.proofs.Common.{ℕ, ◌≤◌, List, length, sym, subst}
 use Rattle.ff_net_threads.specs.declared.links.linked.Linked.{Linked}
-use Rattle.ff_net_threads.specs.links.Rooms.{links_of}
-use Rattle.ff_net_threads.specs.links.Settling.{nodes_of}
+use Rattle.ff_net_threads.specs.laws.links.Rooms.{links_of}
+use Rattle.ff_net_threads.specs.laws.links.Settling.{nodes_of}
 use Rattle.ff_net_threads.proofs.LinksLemmas.After.{ended_after, linked_after}
-use Rattle.ff_net_threads.specs.network.Runs.{FirstFault}
+use Rattle.ff_net_threads.specs.laws.network.Runs.{FirstFault}
 use Rattle.ff_net_threads.proofs.NetworkLemmas.Runs.{all_kept, all_passed, tells_fault, ran_meets, ran_logged, ran_suffice}
 use Rattle.ff_net_threads.proofs.network.run.run_net.Goals as goal
 

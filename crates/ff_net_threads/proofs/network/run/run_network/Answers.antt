@@ -1,17 +1,17 @@
 use Rattle.std.proofs.Common.{◌≡◌, ◌≤◌, ◌<◌, ◌^◌, ℕ, List, Vec, Global, Option, IfSome, length, true, sym, ap, ◌∙◌, subst, arith}
 use Rattle.std.proofs.lemmas.List.{length-map}
 use Rattle.ff_stream.specs.declared.edges.edge.Edge.{Edge}
-use Rattle.ff_net.specs.Laws.{Laws}
+use Rattle.ff_net.specs.laws.Laws.{Laws}
 use Rattle.ff_net.specs.Nets.{solve}
-use Rattle.ff_net.specs.Nodes.{machine_of}
+use Rattle.ff_net.specs.laws.Nodes.{machine_of}
 use Rattle.ff_net.specs.Pasts.{Task}
 use Rattle.ff_net_threads.specs.declared.links.linked.Linked.{Linked}
-use Rattle.ff_net_threads.specs.links.Nodes.{node_of}
+use Rattle.ff_net_threads.specs.laws.links.Nodes.{node_of}
 use Rattle.ff_net_threads.specs.declared.network.run.NodeFault.{NodeFault}
 use Rattle.ff_net_threads.specs.network.Fits.{edge_lanes, network, ins_at, outs_at}
-use Rattle.ff_net_threads.specs.network.Networks.{AllStart, ports_of}
-use Rattle.ff_net_threads.specs.network.Runs.{AllKept, TellsFault, MeetsNetwork, ReadsSuffice}
-use Rattle.ff_net_threads.specs.network.Scheduling.{Scheduled}
+use Rattle.ff_net_threads.specs.laws.network.Networks.{AllStart, ports_of}
+use Rattle.ff_net_threads.specs.laws.network.Runs.{AllKept, TellsFault, MeetsNetwork, ReadsSuffice}
+use Rattle.ff_net_threads.specs.laws.network.Scheduling.{Scheduled}
 use Rattle.ff_net_threads.proofs.NetworkLemmas.Scheduling.{of_cell, all_shares, scheduled, some_weaker}
 use Rattle.ff_net_threads.proofs.NetworkLemmas.WiredUp.{meets_wired, logged_wired, suffice_wired, all_of}
 use Rattle.ff_net_threads.proofs.network.run.run_network.Goals as goal

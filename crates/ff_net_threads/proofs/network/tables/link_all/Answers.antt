@@ -1,7 +1,7 @@
 use Rattle.std.proofs.Common.{◌≡◌, Some, length, get_or, ◌∙◌, subst, arith}
 use Rattle.std.proofs.lemmas.List.{get_or_default}
 use Rattle.ff_stream.specs.declared.edges.edge.Edge.{Edge}
-use Rattle.ff_net_threads.specs.network.Tables.{AreEnds}
+use Rattle.ff_net_threads.specs.laws.network.Tables.{AreEnds}
 use Rattle.ff_net_threads.proofs.NetworkLemmas.Each.{two_pushed}
 use Rattle.ff_net_threads.proofs.network.tables.link_all.Goals as goal
 

@@ -1,5 +1,5 @@
 use Rattle.std.proofs.Common.{◌≡◌, ◌<◌, ℕ, vec_len, get_or}
-use Rattle.ff_net_threads.specs.network.Tables.{AreEnds}
+use Rattle.ff_net_threads.specs.laws.network.Tables.{AreEnds}
 use Rattle.ff_net_threads.proofs.network.tables.link_all.Given as goal
 
 abbrev pub invariant-loop-edge : goal.invariant-loop-edge

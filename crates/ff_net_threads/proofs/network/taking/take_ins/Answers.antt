@@ -2,8 +2,8 @@ use Rattle.std.proofs.Common.{◌≡◌, ◌<◌, ℕ, length, get_or, sym, ap, 
 use Rattle.std.proofs.lemmas.Grind.{common_steps}
 use Rattle.ff_net.specs.Pasts.{IsIn}
 use Rattle.ff_net_threads.specs.declared.links.ends.InEnd.{InEnd}
-use Rattle.ff_net_threads.specs.links.Ends.{no_in}
-use Rattle.ff_net_threads.specs.network.Nodes.{IsNewIn}
+use Rattle.ff_net_threads.specs.laws.links.Ends.{no_in}
+use Rattle.ff_net_threads.specs.laws.network.Nodes.{IsNewIn}
 use Rattle.ff_net_threads.proofs.NetworkLemmas.Each.{one_pushed, nth_in}
 use Rattle.ff_net_threads.proofs.NetworkLemmas.Taken.{one_wire, in_is_new, receiver_stays}
 use Rattle.ff_net_threads.proofs.network.taking.take_ins.Goals as goal

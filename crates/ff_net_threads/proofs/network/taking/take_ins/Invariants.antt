@@ -1,10 +1,10 @@
 use Rattle.std.proofs.Common.{◌≡◌, ◌<◌, ◌≤◌, ℕ, length, take, vec_len, vec_capacity, slice_index_or, Option}
-use Rattle.ff_link.specs.Views.{Receiving}
+use Rattle.ff_link.specs.laws.Views.{Receiving}
 use Rattle.ff_net.specs.Pasts.{IsIn}
-use Rattle.ff_net_threads.specs.links.Nodes.{in_ends_wires}
-use Rattle.ff_net_threads.specs.links.Ends.{in_end_at}
-use Rattle.ff_net_threads.specs.network.Nodes.{IsNewIn}
-use Rattle.ff_net_threads.specs.network.Tables.{NewLinks, HaveNewReceivers}
+use Rattle.ff_net_threads.specs.laws.links.Nodes.{in_ends_wires}
+use Rattle.ff_net_threads.specs.laws.links.Ends.{in_end_at}
+use Rattle.ff_net_threads.specs.laws.network.Nodes.{IsNewIn}
+use Rattle.ff_net_threads.specs.laws.network.Tables.{NewLinks, HaveNewReceivers}
 use Rattle.ff_net_threads.proofs.network.taking.take_ins.Given as goal
 
 abbrev pub invariant-loop-k : goal.invariant-loop-k

@@ -2,7 +2,7 @@ use Rattle.std.proofs.Common.{◌≡◌, ◌<◌, ℕ, length, get_or, sym, ap, 
 use Rattle.std.proofs.lemmas.Grind.{common_steps}
 use Rattle.ff_net.specs.Pasts.{IsIn}
 use Rattle.ff_net_threads.specs.declared.links.ends.OutEnd.{OutEnd}
-use Rattle.ff_net_threads.specs.network.Nodes.{IsNewOut}
+use Rattle.ff_net_threads.specs.laws.network.Nodes.{IsNewOut}
 use Rattle.ff_net_threads.proofs.NetworkLemmas.Each.{one_pushed, nth_in}
 use Rattle.ff_net_threads.proofs.NetworkLemmas.Taken.{one_wire, out_is_new, sender_stays}
 use Rattle.ff_net_threads.proofs.network.taking.take_outs.Goals as goal

@@ -1,10 +1,10 @@
 use Rattle.std.proofs.Common.{◌≡◌, ◌<◌, ◌≤◌, ℕ, length, take, vec_len, vec_capacity, slice_index_or, Option}
-use Rattle.ff_link.specs.Views.{Sending}
+use Rattle.ff_link.specs.laws.Views.{Sending}
 use Rattle.ff_net.specs.Pasts.{IsIn}
-use Rattle.ff_net_threads.specs.links.Nodes.{out_ends_wires}
+use Rattle.ff_net_threads.specs.laws.links.Nodes.{out_ends_wires}
 use Rattle.ff_net_threads.specs.declared.links.ends.OutEnd.{OutEnd}
-use Rattle.ff_net_threads.specs.network.Nodes.{IsNewOut}
-use Rattle.ff_net_threads.specs.network.Tables.{NewLinks, HaveNewSenders}
+use Rattle.ff_net_threads.specs.laws.network.Nodes.{IsNewOut}
+use Rattle.ff_net_threads.specs.laws.network.Tables.{NewLinks, HaveNewSenders}
 use Rattle.ff_net_threads.proofs.network.taking.take_outs.Given as goal
 
 abbrev pub invariant-loop-k : goal.invariant-loop-k

@@ -1,6 +1,6 @@
 use Rattle.std.proofs.Common.{◌≡◌, ◌≤◌, ◌+◌, ◌++◌, ◌∷◌, vec_items, vec_len, vec_capacity}
 use Rattle.std.specs.Vec.Iter.{into_iter_items, into_iter_len}
-use Rattle.ff_net_threads.specs.network.Networks.{machines_in}
+use Rattle.ff_net_threads.specs.laws.network.Networks.{machines_in}
 use Rattle.ff_net_threads.proofs.network.wiring.gathered.Given as goal
 
 abbrev pub invariant-loop-machine : goal.invariant-loop-machine

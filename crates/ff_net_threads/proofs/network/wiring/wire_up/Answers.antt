@@ -2,15 +2,15 @@ use Rattle.std.proofs.Common.{◌≡◌, ◌++◌, ◌-◌, ◌*◌, ◌^◌, �
 use Rattle.std.proofs.lemmas.Grind.{common_steps}
 use Rattle.std.proofs.lemmas.List.{length-map}
 use Rattle.std.specs.Vec.Iter.{into_iter_items}
-use Rattle.ff_net.specs.Nodes.{machine_of, pass_of}
-use Rattle.ff_sched.specs.Passing.{Passing}
+use Rattle.ff_net.specs.laws.Nodes.{machine_of, pass_of}
+use Rattle.ff_sched.specs.laws.Passing.{Passing}
 use Rattle.ff_net.specs.Pasts.{IsIn}
 use Rattle.ff_net_threads.specs.declared.links.linked.Linked.{Linked}
-use Rattle.ff_net_threads.specs.links.Nodes.{node_of}
+use Rattle.ff_net_threads.specs.laws.links.Nodes.{node_of}
 use Rattle.ff_net_threads.specs.network.Fits.{ins_at, outs_at}
-use Rattle.ff_net_threads.specs.network.Networks.{machines_in, ports_of}
-use Rattle.ff_net_threads.specs.network.Nodes.{IsLinked}
-use Rattle.ff_net_threads.specs.network.Scheduling.{new_pass, node_share}
+use Rattle.ff_net_threads.specs.laws.network.Networks.{machines_in, ports_of}
+use Rattle.ff_net_threads.specs.laws.network.Nodes.{IsLinked}
+use Rattle.ff_net_threads.specs.laws.network.Scheduling.{new_pass, node_share}
 use Rattle.ff_net_threads.proofs.NetworkLemmas.Each.{one_pushed}
 use Rattle.ff_net_threads.proofs.NetworkLemmas.Fitting.{ins_there, outs_there}
 use Rattle.ff_net_threads.proofs.NetworkLemmas.WiredUp.{new_links, new_sender_there, new_receiver_there, next_there, next_ins, next_outs, next_fits, next_linked, next_parts, later_in, later_out, wired_up, none_left, no_length, all_done}

@@ -1,13 +1,13 @@
 use Rattle.std.proofs.Common.{◌≡◌, ◌<◌, ◌≤◌, ◌-◌, ◌*◌, ◌^◌, ◌++◌, ℕ, length, slice_index_or, vec_items, vec_len, vec_capacity}
 use Rattle.std.specs.Vec.Iter.{into_iter_items}
-use Rattle.ff_net.specs.Nodes.{machine_of, pass_of}
+use Rattle.ff_net.specs.laws.Nodes.{machine_of, pass_of}
 use Rattle.ff_net.specs.Pasts.{IsIn}
 use Rattle.ff_net_threads.specs.declared.links.linked.Linked.{Linked}
 use Rattle.ff_net_threads.specs.network.Fits.{edge_lanes, ins_at, outs_at}
-use Rattle.ff_net_threads.specs.network.Networks.{machines_in, node_at, ports_of}
-use Rattle.ff_net_threads.specs.network.Nodes.{IsLinked}
-use Rattle.ff_net_threads.specs.network.Scheduling.{new_pass, node_share}
-use Rattle.ff_net_threads.specs.network.Tables.{NewLinks, HasNewSender, HasNewReceiver, links_in}
+use Rattle.ff_net_threads.specs.laws.network.Networks.{machines_in, node_at, ports_of}
+use Rattle.ff_net_threads.specs.laws.network.Nodes.{IsLinked}
+use Rattle.ff_net_threads.specs.laws.network.Scheduling.{new_pass, node_share}
+use Rattle.ff_net_threads.specs.laws.network.Tables.{NewLinks, HasNewSender, HasNewReceiver, links_in}
 use Rattle.ff_net_threads.proofs.network.wiring.wire_up.Given as goal
 
 abbrev pub invariant-loop-number : goal.invariant-loop-number

@@ -1,4 +1,4 @@
-use Rattle.ff_node_codec.specs.codecs.FlacLaws.{sounds_are}
+use Rattle.ff_node_codec.specs.laws.codecs.FlacLaws.{sounds_are}
 use Rattle.ff_node_codec.proofs.codecs.flac.flac_frames_are_their_packets.Goals as goal
 
 pub returns : goal.returns

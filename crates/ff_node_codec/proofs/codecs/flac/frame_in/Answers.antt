@@ -1,8 +1,8 @@
 use Rattle.std.proofs.Common.{ℕ, List, length, Err, ap, sym, subst, ◌∙◌}
 use Rattle.ff_flac_frame.specs.Frame.{Begins, IsNever}
-use Rattle.ff_flac_frame.specs.Parts.{frame_of}
+use Rattle.ff_flac_frame.specs.laws.Parts.{frame_of}
 use Rattle.ff_flac_dec.specs.Streams.{stream_of}
-use Rattle.ff_node_codec.specs.codecs.FlacLaws.{held_more, whole_begins, none_begins, none_ever}
+use Rattle.ff_node_codec.specs.laws.codecs.FlacLaws.{held_more, whole_begins, none_begins, none_ever}
 use Rattle.ff_node_codec.proofs.codecs.flac.frame_in.Goals as goal
 
 pub returns-then-frame-bytes : goal.returns-then-frame-bytes

@@ -2,10 +2,10 @@ use Rattle.std.proofs.Common.{ℕ, List, length, Option, Some, None, IfSome, ref
 use Rattle.ff_flac_frame.specs.declared.stream.FlacStream.{FlacStream}
 use Rattle.ff_flac_frame.specs.declared.frame.FlacFrame.{FlacFrame}
 use Rattle.ff_flac_frame.specs.Frame.{Begins}
-use Rattle.ff_flac_frame.specs.Parts.{frame_of}
+use Rattle.ff_flac_frame.specs.laws.Parts.{frame_of}
 use Rattle.ff_flac_dec.specs.Streams.{stream_of}
 use Rattle.ff_node_codec.specs.codecs.Decoding.{IsFlacPacket}
-use Rattle.ff_node_codec.specs.codecs.FlacLaws.{whole_begins}
+use Rattle.ff_node_codec.specs.laws.codecs.FlacLaws.{whole_begins}
 use Rattle.ff_node_codec.proofs.codecs.flac.frame_sent.Goals as goal
 
 weaker : {A : Type 0} (P Q : A → Type 0) (o : Option A) → ((a : A) → P a → Q a) → IfSome o P → IfSome o Q

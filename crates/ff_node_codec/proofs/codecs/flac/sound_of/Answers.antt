@@ -4,10 +4,10 @@ use Rattle.std.specs.Int.{w64}
 use Rattle.std.proofs.lemmas.Int.{to_z-of_z}
 use Rattle.ff_flac_frame.specs.declared.stream.FlacStream.{FlacStream}
 use Rattle.ff_flac_frame.specs.declared.frame.FlacFrame.{FlacFrame}
-use Rattle.ff_flac_frame.specs.Parts.{frame_of}
+use Rattle.ff_flac_frame.specs.laws.Parts.{frame_of}
 use Rattle.ff_flac_dec.specs.Channels.{decoded}
 use Rattle.ff_flac_dec.specs.Streams.{stream_of}
-use Rattle.ff_node_codec.specs.codecs.FlacLaws.{begins_whole, held_other, sounds_are, LastsAs, decoded_again, within_again}
+use Rattle.ff_node_codec.specs.laws.codecs.FlacLaws.{begins_whole, held_other, sounds_are, LastsAs, decoded_again, within_again}
 use Rattle.ff_node_codec.proofs.codecs.flac.sound_of.Goals as goal
 
 at_time : (s : FlacStream) (pts : ℤ) (number : ℕ) (f : FlacFrame) → FitsSigned w64 pts

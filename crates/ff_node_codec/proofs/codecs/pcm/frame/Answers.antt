@@ -2,7 +2,7 @@ use Rattle.std.proofs.Common.{◌≡◌, ℕ, ◌<◌, List, get_or, sym, subst}
 use Rattle.std.specs.Result.{IfOk}
 use Rattle.ff_frame.specs.declared.audio.AFrame.{AFrame}
 use Rattle.ff_pcm.specs.Frames.{frame_of}
-use Rattle.ff_node_codec.specs.codecs.PcmLaws.{octets_same}
+use Rattle.ff_node_codec.specs.laws.codecs.PcmLaws.{octets_same}
 use Rattle.ff_node_codec.proofs.codecs.pcm.frame.Goals as goal
 
 pub returns : goal.returns

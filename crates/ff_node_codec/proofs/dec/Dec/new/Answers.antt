@@ -5,10 +5,10 @@ use Rattle.ff_stream.specs.Ports.{nothing}
 use Rattle.ff_stream.specs.Stream.{whole_stream}
 use Rattle.ff_net.specs.Pasts.{start}
 use Rattle.ff_net.specs.Ways.{Flow}
-use Rattle.ff_node_codec.specs.CutFrames.{frames_make, cut_first}
+use Rattle.ff_node_codec.specs.laws.CutFrames.{frames_make, cut_first}
 use Rattle.ff_node_codec.specs.Decoding.{cut_frames, dec_task}
-use Rattle.ff_node_codec.specs.DecodeLaws.{decoding_carries}
-use Rattle.ff_node_codec.specs.Standing.{at_first, SpreadStands}
+use Rattle.ff_node_codec.specs.laws.DecodeLaws.{decoding_carries}
+use Rattle.ff_node_codec.specs.laws.Standing.{at_first, SpreadStands}
 use Rattle.ff_node_codec.proofs.dec.Dec.new.Goals as goal
 
 first : (b : Bool) → ◌≡◌ {A = Flow} (cond b (whole_stream []) nothing) (at_first b)

@@ -3,18 +3,18 @@ use Rattle.std.specs.Result.{OnErr, OnOk}
 use Rattle.ff_frame.specs.declared.head.StreamHead.{StreamHead}
 use Rattle.ff_stream.specs.Ports.{stream_at}
 use Rattle.ff_stream.specs.declared.item.Lane.TheVariants.{Frames, Packets}
-use Rattle.ff_net.specs.Laws.{FaultStep}
+use Rattle.ff_net.specs.laws.Laws.{FaultStep}
 use Rattle.ff_net.specs.Pasts.{Past}
-use Rattle.ff_node_codec.specs.CutFrames.{not_empty}
+use Rattle.ff_node_codec.specs.laws.CutFrames.{not_empty}
 use Rattle.ff_node_codec.specs.declared.dec.Dec.{Dec}
 use Rattle.ff_node_codec.specs.declared.spread.Spread.{Spread}
-use Rattle.ff_node_codec.specs.Coders.{dec_stands}
+use Rattle.ff_node_codec.specs.laws.Coders.{dec_stands}
 use Rattle.ff_node_codec.specs.Decoding.{decoded, cut_frames}
-use Rattle.ff_node_codec.specs.DecodeLaws.{decoding_carries, taken_packet}
-use Rattle.ff_node_codec.specs.Feeding.{StandsFed, IsFollowed}
-use Rattle.ff_node_codec.specs.Kinds.{dec_view, fares}
-use Rattle.ff_node_codec.specs.Standing.{IsSameSpread}
-use Rattle.ff_node_codec.specs.Steps.{IsCutTo}
+use Rattle.ff_node_codec.specs.laws.DecodeLaws.{decoding_carries, taken_packet}
+use Rattle.ff_node_codec.specs.laws.Feeding.{StandsFed, IsFollowed}
+use Rattle.ff_node_codec.specs.laws.Kinds.{dec_view, fares}
+use Rattle.ff_node_codec.specs.laws.Standing.{IsSameSpread}
+use Rattle.ff_node_codec.specs.laws.Steps.{IsCutTo}
 use Rattle.ff_node_codec.proofs.CutSteps.{cut_step_for, has_spare, spared_shared, spared_cut}
 use Rattle.ff_node_codec.proofs.SpreadSteps.{fits_at, over_at, open_made, spread_same, on_ok, on_err}
 use Rattle.ff_node_codec.proofs.dec.DecMachine.feed.Goals as goal

@@ -1,9 +1,9 @@
 use Rattle.std.proofs.Common.{refl, ap, sym}
 use Rattle.ff_stream.specs.declared.item.Lane.TheVariants.{Frames, Packets}
 use Rattle.ff_node_codec.specs.Making.{by_items, fault_by}
-use Rattle.ff_node_codec.specs.MakingLaws.{items_make}
+use Rattle.ff_node_codec.specs.laws.MakingLaws.{items_make}
 use Rattle.ff_node_codec.specs.Encoding.{encoded_item, enc_task}
-use Rattle.ff_node_codec.specs.EncodeLaws.{encoding_carries, no_damage}
+use Rattle.ff_node_codec.specs.laws.EncodeLaws.{encoding_carries, no_damage}
 use Rattle.ff_node_codec.proofs.enc.Enc.new.Goals as goal
 
 pub returns-clause-stands : goal.returns-clause-stands

@@ -1,10 +1,10 @@
 use Rattle.std.proofs.Common.{◌≡◌, [], ◌∷◌, false, sym, ◌∙◌}
 use Rattle.ff_stream.specs.declared.item.Lane.TheVariants.{Frames, Packets}
 use Rattle.ff_node_codec.specs.Encoding.{encoded_item}
-use Rattle.ff_node_codec.specs.EncodeLaws.{encoding_carries, taken_frame}
+use Rattle.ff_node_codec.specs.laws.EncodeLaws.{encoding_carries, taken_frame}
 use Rattle.ff_node_codec.specs.Making.{by_items}
-use Rattle.ff_node_codec.specs.Feeding.{StandsFed, IsFollowed}
-use Rattle.ff_node_codec.specs.Standing.{SpreadStands}
+use Rattle.ff_node_codec.specs.laws.Feeding.{StandsFed, IsFollowed}
+use Rattle.ff_node_codec.specs.laws.Standing.{SpreadStands}
 use Rattle.ff_node_codec.proofs.SpreadSteps.{fits_at, over_at, step_for, spread_same, on_ok}
 use Rattle.ff_node_codec.proofs.enc.EncMachine.feed.Goals as goal
 

@@ -1,6 +1,6 @@
 use Rattle.std.proofs.Common.{subst}
 use Rattle.ff_node_codec.specs.declared.step.Step.{Step}
-use Rattle.ff_node_codec.specs.Steps.{IsStepFor}
+use Rattle.ff_node_codec.specs.laws.Steps.{IsStepFor}
 use Rattle.ff_node_codec.proofs.SpreadSteps.{passed_at}
 use Rattle.ff_node_codec.proofs.spread.Spread.follow.Goals as goal
 

@@ -1,7 +1,7 @@
 use Rattle.std.proofs.Common.{◌≡◌, ◌↔◌, ◌⊎◌, ℕ, Bool, true, false, not, IsTrue, Option, None, Some, inl, inr, refl, sym, ◌∙◌, length, rules}
 use Rattle.std.specs.Option.{is_some}
-use Rattle.ff_node_codec.specs.Lines.{line_at}
-use Rattle.ff_node_codec.specs.Puts.{IsLast}
+use Rattle.ff_node_codec.specs.laws.Lines.{line_at}
+use Rattle.ff_node_codec.specs.laws.Puts.{IsLast}
 use Rattle.ff_node_codec.specs.Spreads.{AllStopped}
 use Rattle.ff_node_codec.proofs.spread.Spread.is_spent.Goals as goal
 

@@ -1,6 +1,6 @@
 use Rattle.std.proofs.Common.{◌≡◌, [], ◌∷◌, ◌++◌, List, false, length, length-append, arith, ap, sym, ◌∙◌, subst, inl, inr}
 use Rattle.ff_node_codec.specs.declared.ready.Ready.{Ready}
-use Rattle.ff_node_codec.specs.Lines.{line_at, first_items}
+use Rattle.ff_node_codec.specs.laws.Lines.{line_at, first_items}
 use Rattle.ff_node_codec.specs.Spreads.{Line}
 use Rattle.ff_node_codec.proofs.LineSteps.{line_front, line_last, lower_or_same}
 use Rattle.ff_node_codec.proofs.SpreadSteps.{new_at}

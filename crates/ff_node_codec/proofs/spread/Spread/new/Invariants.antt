@@ -1,5 +1,5 @@
 use Rattle.std.proofs.Common.{◌≡◌, ◌<◌, ℕ, false, length}
-use Rattle.ff_node_codec.specs.Lines.{line_at, first_items}
+use Rattle.ff_node_codec.specs.laws.Lines.{line_at, first_items}
 use Rattle.ff_node_codec.proofs.spread.Spread.new.Given as goal
 
 abbrev pub invariant-loop-q : goal.invariant-loop-q

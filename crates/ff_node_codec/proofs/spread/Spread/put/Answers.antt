@@ -1,8 +1,8 @@
 use Rattle.std.proofs.Common.{◌≡◌, ℕ, true, false, None, Some, Option, refl}
 use Rattle.std.specs.Option.{is_some}
-use Rattle.ff_node_codec.specs.Lines.{line_at}
-use Rattle.ff_node_codec.specs.Puts.{ArePut}
-use Rattle.ff_node_codec.specs.Standing.{first_damage}
+use Rattle.ff_node_codec.specs.laws.Lines.{line_at}
+use Rattle.ff_node_codec.specs.laws.Puts.{ArePut}
+use Rattle.ff_node_codec.specs.laws.Standing.{first_damage}
 use Rattle.ff_node_codec.proofs.SpreadSteps.{put_at}
 use Rattle.ff_node_codec.proofs.spread.Spread.put.Goals as goal
 

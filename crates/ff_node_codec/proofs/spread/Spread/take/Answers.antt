@@ -1,6 +1,6 @@
 use Rattle.std.proofs.Common.{◌≡◌, List, ◌∷◌, [], ◌++◌, length, drop, refl, arith, ap, ◌∙◌, sym, option_to_list, Option}
 use Rattle.ff_stream.specs.declared.item.Item.{Item}
-use Rattle.ff_node_codec.specs.Lines.{line_of}
+use Rattle.ff_node_codec.specs.laws.Lines.{line_of}
 use Rattle.ff_node_codec.specs.Spreads.{Line}
 use Rattle.ff_node_codec.proofs.LineSteps.{line_is, line_set_same, line_set_other, set_count, same_set}
 use Rattle.ff_node_codec.proofs.SpreadSteps.{gives_at, none_at, asked_at, same_stands}

@@ -1,4 +1,4 @@
-use Rattle.ff_node_demux.specs.DemuxLaws.{demux_few}
+use Rattle.ff_node_demux.specs.laws.DemuxLaws.{demux_few}
 use Rattle.ff_node_demux.proofs.ExitSteps.{exits_alone, exits_some, is_over, over_seen}
 use Rattle.ff_node_demux.proofs.demux.Demux.into_source.Goals as goal
 

@@ -9,7 +9,7 @@ use Rattle.ff_reader.specs.Cutters.{KeepsCut}
 use Rattle.ff_node_demux.specs.Demuxing.{DemuxStands, passes_in_demux}
 use Rattle.ff_node_demux.specs.Exiting.{Exits}
 use Rattle.ff_node_demux.proofs.DemuxSteps.{no_fault, Gives, gives_flags, flags, on_err, demux_packet, demux_long, demux_end, demux_break, demux_kept, demux_asked}
-use Rattle.ff_node_demux.specs.Reading.{Reads, FeedsOn}
+use Rattle.ff_node_demux.specs.laws.Reading.{Reads, FeedsOn}
 use Rattle.ff_node_demux.proofs.ExitSteps.{exits_same}
 use Rattle.ff_node_demux.proofs.ReadSteps.{reads_nothing, reads_kept, reads_piece, reads_packet, reads_over}
 use Rattle.ff_node_demux.proofs.demux.DemuxMachine.pull.Goals as goal

@@ -1,7 +1,7 @@
 use Rattle.std.proofs.Common.{◌≡◌, ◌+◌, ◌-◌, length, None, true, false, cond}
 use Rattle.ff_net.specs.Pasts.{Past}
 use Rattle.ff_node_demux.specs.Demuxing.{DemuxStands}
-use Rattle.ff_node_demux.specs.Reading.{Reads}
+use Rattle.ff_node_demux.specs.laws.Reading.{Reads}
 use Rattle.ff_node_demux.proofs.demux.DemuxMachine.pull.Given as goal
 
 abbrev pub invariant-units : goal.invariant-units

@@ -2,11 +2,11 @@ use Rattle.std.proofs.Common.{List, subst}
 use Rattle.ff_frame.specs.declared.head.StreamHead.{StreamHead}
 use Rattle.ff_stream.specs.declared.item.Item.{Item}
 use Rattle.ff_net.specs.Pasts.{start}
-use Rattle.ff_source.specs.Left.{left as left_of}
+use Rattle.ff_source.specs.laws.Left.{left as left_of}
 use Rattle.ff_source.specs.Sources.{frames_of}
 use Rattle.ff_source.proofs.Shapes.{all_left}
 use Rattle.ff_node_demux.specs.gens.Generating.{frames_task}
-use Rattle.ff_node_demux.specs.gens.Generators.{gen_stands}
+use Rattle.ff_node_demux.specs.laws.gens.Generators.{gen_stands}
 use Rattle.ff_node_demux.proofs.gens.filters.generator_of.Goals as goal
 
 pub returns-clause-stands : goal.returns-clause-stands

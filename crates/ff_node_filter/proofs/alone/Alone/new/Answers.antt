@@ -1,5 +1,5 @@
 use Rattle.std.proofs.Common.{length}
-use Rattle.ff_node_filter.specs.StandLaws.{starts}
+use Rattle.ff_node_filter.specs.laws.StandLaws.{starts}
 use Rattle.ff_node_filter.specs.Limiting.{limit_cause, lawful}
 use Rattle.ff_node_filter.proofs.alone.Alone.new.Goals as goal
 

@@ -1,6 +1,6 @@
 use Rattle.std.proofs.Common.{Bool, ◌||◌, sym, subst}
 use Rattle.ff_node_filter.specs.Tasks.{Stands}
-use Rattle.ff_node_filter.specs.StandLaws.{feeds, stays}
+use Rattle.ff_node_filter.specs.laws.StandLaws.{feeds, stays}
 use Rattle.ff_net.specs.Pasts.{fed}
 use Rattle.ff_node_filter.proofs.alone.AloneMachine.feed.Goals as goal
 

@@ -1,7 +1,7 @@
 use Rattle.std.proofs.Common.{◌≡◌, inl, refl, subst}
 use Rattle.ff_stream.specs.declared.item.Item.{Item}
 use Rattle.ff_filter.specs.Views.{Gave, breaks}
-use Rattle.ff_node_filter.specs.StandLaws.{gives, open_gave, next_due, waits, none_due, stays, goes_on}
+use Rattle.ff_node_filter.specs.laws.StandLaws.{gives, open_gave, next_due, waits, none_due, stays, goes_on}
 use Rattle.ff_node_filter.proofs.Notes.{noted, unnoted}
 use Rattle.ff_node_filter.proofs.alone.AloneMachine.pull.Goals as goal
 

@@ -1,4 +1,4 @@
-use Rattle.ff_node_filter.specs.StandLaws.{stopping}
+use Rattle.ff_node_filter.specs.laws.StandLaws.{stopping}
 use Rattle.ff_node_filter.proofs.alone.AloneMachine.stop.Goals as goal
 
 pub returns-clause-stopped : goal.returns-clause-stopped

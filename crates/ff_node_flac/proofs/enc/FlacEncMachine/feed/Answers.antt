@@ -1,7 +1,7 @@
 use Rattle.std.proofs.Common.{rules, ◌≡◌, false}
 use Rattle.ff_stream.specs.declared.item.Item.TheVariants.{Video, Packet, Trailer, End, Broken}
 use Rattle.ff_node_flac.specs.declared.shut.Shut.TheVariants as shut
-use Rattle.ff_node_flac.specs.Queues.{queue_ended}
+use Rattle.ff_node_flac.specs.laws.Queues.{queue_ended}
 use Rattle.ff_node_flac.proofs.EncoderSteps.{no_picture, no_packet, no_trailer, end_fed, break_fed, feeds_at}
 use Rattle.ff_node_flac.proofs.enc.FlacEncMachine.feed.Goals as goal
 

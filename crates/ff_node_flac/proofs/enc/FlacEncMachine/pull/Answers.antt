@@ -2,7 +2,7 @@ use Rattle.std.proofs.Common.{rules, ◌≡◌, ◌∙◌, true, false, Ok, ap, 
 use Rattle.ff_stream.specs.Ports.{stream_at}
 use Rattle.ff_stream.specs.declared.item.Item.TheVariants.{Packet, Trailer, End, Broken}
 use Rattle.ff_net.specs.Pasts.{due, was_asked}
-use Rattle.ff_node_flac.specs.Encoders.{Encodes}
+use Rattle.ff_node_flac.specs.laws.Encoders.{Encodes}
 use Rattle.ff_node_flac.proofs.EncoderSteps.{packet_given, long_given, all_waits, totals_given, break_given, end_given, at_first, gives_at}
 use Rattle.ff_node_flac.proofs.enc.FlacEncMachine.pull.Goals as goal
 

@@ -1,7 +1,7 @@
 use Rattle.std.proofs.Common.{◌≡◌, ◌+◌, ◌<◌, ℕ, List, [], length}
 use Rattle.std.specs.Prelude.{slice_index_or}
 use Rattle.ff_frame.specs.declared.audio.AFrame.{AFrame}
-use Rattle.ff_flac_enc.specs.Blocks.{IsCoded}
+use Rattle.ff_flac_enc.specs.laws.Blocks.{IsCoded}
 use Rattle.ff_node_flac.proofs.in_order.InOrderCoder.code.Given as goal
 
 abbrev pub invariant-loop-i : goal.invariant-loop-i

@@ -1,6 +1,6 @@
 use Rattle.std.proofs.Common.{ap, subst, ◌∙◌, List, take}
 use Rattle.ff_frame.specs.declared.audio.AFrame.{AFrame}
-use Rattle.ff_flac_enc.specs.Blocks.{AreCoded}
+use Rattle.ff_flac_enc.specs.laws.Blocks.{AreCoded}
 use Rattle.ff_node_flac.proofs.Codes.{codes_of}
 use Rattle.ff_node_flac.proofs.Gathers.{front_blocks}
 use Rattle.ff_node_flac.proofs.queue.Queue.code.Goals as goal

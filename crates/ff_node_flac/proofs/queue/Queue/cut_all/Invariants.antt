@@ -1,5 +1,5 @@
 use Rattle.std.proofs.Common.{◌≡◌, length}
-use Rattle.ff_node_flac.specs.Queues.{format_of_queue, queue_ended, StillQueues}
+use Rattle.ff_node_flac.specs.laws.Queues.{format_of_queue, queue_ended, StillQueues}
 use Rattle.ff_node_flac.proofs.queue.Queue.cut_all.Given as goal
 
 abbrev pub invariant-loop-turn : goal.invariant-loop-turn

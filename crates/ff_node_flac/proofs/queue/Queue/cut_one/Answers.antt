@@ -1,7 +1,7 @@
 use Rattle.std.proofs.Common.{ap, ◌∙◌, ◌++◌, ◌∷◌, [], Ok, List, subst, sym}
 use Rattle.std.specs.List.{All}
 use Rattle.ff_frame.specs.declared.audio.AFrame.{AFrame}
-use Rattle.ff_node_flac.specs.Kept.{IsCut}
+use Rattle.ff_node_flac.specs.laws.Kept.{IsCut}
 use Rattle.ff_node_flac.proofs.Gathers.{cut_more, block_cut, all_more}
 use Rattle.ff_node_flac.proofs.queue.Queue.cut_one.Goals as goal
 

@@ -1,6 +1,6 @@
 use Rattle.std.proofs.Common.{sym, subst, [], ◌∷◌, ◌++◌, ◌+◌, length}
 use Rattle.ff_frame.specs.declared.audio.AFrame.{AFrame}
-use Rattle.ff_flac_enc.specs.Cuts.{Cuts}
+use Rattle.ff_flac_enc.specs.laws.Cuts.{Cuts}
 use Rattle.ff_flac_enc.specs.Gathered.{EndInTime}
 use Rattle.ff_node_flac.specs.Packets.{at_coded}
 use Rattle.ff_node_flac.proofs.Gathers.{fed_more, same_depth, on_ok}

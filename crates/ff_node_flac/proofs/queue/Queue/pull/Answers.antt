@@ -1,7 +1,7 @@
 use Rattle.std.proofs.Common.{rules, subst, ◌∙◌, [], ◌∷◌, ◌++◌, length, Bool, arith, ◌≤◌, ◌≡◌, inl, inr}
 use mathlib.Core.List.{IsPrefix}
 use Rattle.ff_flac_enc.specs.Gathered.{blocks_due}
-use Rattle.ff_node_flac.specs.Queues.{IsTooLong, HasGivenAll}
+use Rattle.ff_node_flac.specs.laws.Queues.{IsTooLong, HasGivenAll}
 use Rattle.ff_node_flac.proofs.Gathers.{given_all, no_number}
 use Rattle.ff_node_flac.proofs.queue.Queue.pull.Goals as goal
 

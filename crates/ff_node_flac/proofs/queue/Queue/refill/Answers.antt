@@ -1,7 +1,7 @@
 use Rattle.std.proofs.Common.{sym, ◌∙◌, ap, List, ◌++◌, length, ℕ, Bool, arith, ◌≤◌, ◌≡◌, ◌⊎◌, ◌^◌, inl, inr, zero, suc}
 use Rattle.ff_frame.specs.declared.audio.AFrame.{AFrame}
 use Rattle.ff_flac_enc.specs.Gathered.{blocks_due}
-use Rattle.ff_node_flac.specs.Queues.{AllCutSince}
+use Rattle.ff_node_flac.specs.laws.Queues.{AllCutSince}
 use Rattle.ff_node_flac.proofs.Gathers.{on_ok}
 use Rattle.ff_node_flac.proofs.queue.Queue.refill.Goals as goal
 

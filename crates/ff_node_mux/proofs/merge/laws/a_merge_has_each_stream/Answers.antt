@@ -1,4 +1,4 @@
-use Rattle.ff_node_mux.specs.merge.Ordered.{has_each}
+use Rattle.ff_node_mux.specs.laws.merge.Ordered.{has_each}
 use Rattle.ff_node_mux.proofs.merge.laws.a_merge_has_each_stream.Goals as goal
 
 pub returns : goal.returns

@@ -1,4 +1,4 @@
-use Rattle.ff_node_mux.specs.merge.Ordered.{in_order}
+use Rattle.ff_node_mux.specs.laws.merge.Ordered.{in_order}
 use Rattle.ff_node_mux.proofs.merge.laws.a_merge_is_in_order.Goals as goal
 
 pub returns : goal.returns

@@ -1,4 +1,4 @@
-use Rattle.ff_node_mux.specs.merge.Ordered.{stays}
+use Rattle.ff_node_mux.specs.laws.merge.Ordered.{stays}
 use Rattle.ff_node_mux.proofs.merge.laws.what_is_decided_stays.Goals as goal
 
 pub returns : goal.returns

@@ -1,4 +1,4 @@
-use Rattle.ff_node_mux.specs.merge.Ordered.{all_whole}
+use Rattle.ff_node_mux.specs.laws.merge.Ordered.{all_whole}
 use Rattle.ff_node_mux.proofs.merge.laws.whole_streams_are_merged_whole.Goals as goal
 
 pub returns : goal.returns

@@ -1,7 +1,7 @@
 use Rattle.std.proofs.Common.{◌+◌, ap, ◌∙◌}
 use Rattle.ff_stream.specs.Ports.{stream_at}
 use Rattle.ff_net.specs.Pasts.{Task}
-use Rattle.ff_node_mux.specs.MuxLaws.{mux_holds_nothing, mux_holds, mux_holds_file, mux_holds_part, mux_lane}
+use Rattle.ff_node_mux.specs.laws.MuxLaws.{mux_holds_nothing, mux_holds, mux_holds_file, mux_holds_part, mux_lane}
 use Rattle.ff_node_mux.specs.StreamEvents.{events_of}
 use Rattle.ff_node_mux.proofs.Ones.{mux_holds_small}
 use Rattle.ff_node_mux.proofs.StreamTells.{told_of_streams}

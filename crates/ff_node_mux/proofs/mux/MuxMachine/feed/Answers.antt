@@ -4,7 +4,7 @@ use Rattle.ff_frame.specs.declared.event.Event.{Event}
 use Rattle.ff_node_mux.specs.merge.Queues.{merging}
 use Rattle.ff_net.specs.Pasts.{Past, fed}
 use Rattle.ff_format.specs.Layouts.{Layout}
-use Rattle.ff_node_mux.specs.Mixing.{lanes_long}
+use Rattle.ff_node_mux.specs.laws.Mixing.{lanes_long}
 use Rattle.ff_node_mux.specs.Muxing.{head_bases, MuxStands}
 use Rattle.ff_node_mux.specs.Telling.{TellsFed}
 use Rattle.ff_node_mux.proofs.MuxSteps.{mux_after, mux_fed, mux_same}

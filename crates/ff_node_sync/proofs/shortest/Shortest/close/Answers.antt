@@ -1,6 +1,6 @@
 use Rattle.std.proofs.Common.{sym, subst, set}
 use Rattle.ff_node_sync.specs.Lines.{Line, line_of, line_at, lines_of}
-use Rattle.ff_node_sync.specs.Moves.{IsEnded}
+use Rattle.ff_node_sync.specs.laws.Moves.{IsEnded}
 use Rattle.ff_node_sync.proofs.Moving.{line_there, replaced, set_lanes}
 use Rattle.ff_node_sync.proofs.shortest.Shortest.close.Goals as goal
 

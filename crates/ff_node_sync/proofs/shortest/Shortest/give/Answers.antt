@@ -3,7 +3,7 @@ use Rattle.ff_stream.specs.declared.item.Item.{Item}
 use Rattle.ff_filter.specs.Made.{mark_after}
 use Rattle.ff_node_sync.specs.Shortened.{Kept, Held}
 use Rattle.ff_node_sync.specs.Lines.{Line, line_of, line_at, lines_of, lanes_of, next_fate}
-use Rattle.ff_node_sync.specs.Moves.{IsTaken}
+use Rattle.ff_node_sync.specs.laws.Moves.{IsTaken}
 use Rattle.ff_node_sync.proofs.Moving.{line_there, replaced, set_lanes, gave_kept}
 use Rattle.ff_node_sync.proofs.shortest.Shortest.give.Goals as goal
 

@@ -3,7 +3,7 @@ use Rattle.ff_stream.specs.declared.item.Lane.{Lane}
 use Rattle.ff_filter.specs.Made.{is_over}
 use Rattle.ff_filter.specs.Views.{Same}
 use Rattle.ff_node_sync.specs.Lines.{Line, line_of, lines_of, lanes_of, shortest_view}
-use Rattle.ff_node_sync.specs.Moves.{Takes}
+use Rattle.ff_node_sync.specs.laws.Moves.{Takes}
 use Rattle.ff_node_sync.proofs.Moving.{line_there, port_there, replaced, set_lanes, set_same, same_self, fed_by}
 use Rattle.ff_node_sync.proofs.shortest.ShortestFilter.feed.Goals as goal
 

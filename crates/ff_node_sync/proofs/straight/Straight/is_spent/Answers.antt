@@ -3,7 +3,7 @@ use Rattle.std.specs.Prelude.{◌||◌}
 use Rattle.std.proofs.lemmas.Bool.{or_left}
 use Rattle.ff_filter.specs.Made.{is_over}
 use Rattle.ff_node_sync.specs.Lines.{Line, lines_of, line_at}
-use Rattle.ff_node_sync.specs.Straights.{through_to}
+use Rattle.ff_node_sync.specs.laws.Straights.{through_to}
 use Rattle.ff_node_sync.proofs.Moving.{line_there}
 use Rattle.ff_node_sync.proofs.Straightening.{straight_exact}
 use Rattle.ff_node_sync.proofs.straight.Straight.is_spent.Goals as goal

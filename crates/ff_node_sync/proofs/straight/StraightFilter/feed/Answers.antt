@@ -3,8 +3,8 @@ use Rattle.ff_stream.specs.declared.item.Lane.{Lane}
 use Rattle.ff_filter.specs.Made.{is_over}
 use Rattle.ff_filter.specs.Views.{Same}
 use Rattle.ff_node_sync.specs.Lines.{Line, line_of, lines_of, lanes_of}
-use Rattle.ff_node_sync.specs.Straights.{straight_view}
-use Rattle.ff_node_sync.specs.Moves.{Takes}
+use Rattle.ff_node_sync.specs.laws.Straights.{straight_view}
+use Rattle.ff_node_sync.specs.laws.Moves.{Takes}
 use Rattle.ff_node_sync.proofs.Moving.{line_there, port_there, replaced, set_lanes, set_same}
 use Rattle.ff_node_sync.proofs.Straightening.{self_same, fed_straight}
 use Rattle.ff_node_sync.proofs.straight.StraightFilter.feed.Goals as goal

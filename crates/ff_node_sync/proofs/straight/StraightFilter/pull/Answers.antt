@@ -1,6 +1,6 @@
 use Rattle.std.proofs.Common.{sym, subst, set}
 use Rattle.ff_node_sync.specs.Lines.{Line, line_of, lines_of, lanes_of}
-use Rattle.ff_node_sync.specs.Straights.{IsGiven, IsHeld}
+use Rattle.ff_node_sync.specs.laws.Straights.{IsGiven, IsHeld}
 use Rattle.ff_node_sync.proofs.Moving.{line_there, port_there, replaced, set_lanes}
 use Rattle.ff_node_sync.proofs.Straightening.{gave_straight, waits_straight}
 use Rattle.ff_node_sync.proofs.straight.StraightFilter.pull.Goals as goal

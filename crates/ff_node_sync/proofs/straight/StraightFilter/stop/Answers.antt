@@ -1,6 +1,6 @@
 use Rattle.std.proofs.Common.{sym, subst, set}
 use Rattle.ff_node_sync.specs.Lines.{Line, line_of, lines_of, lanes_of}
-use Rattle.ff_node_sync.specs.Moves.{IsStopped}
+use Rattle.ff_node_sync.specs.laws.Moves.{IsStopped}
 use Rattle.ff_node_sync.proofs.Moving.{line_there, port_there, replaced, set_lanes}
 use Rattle.ff_node_sync.proofs.Straightening.{stopped_straight}
 use Rattle.ff_node_sync.proofs.straight.StraightFilter.stop.Goals as goal

@@ -1,5 +1,5 @@
 use Rattle.ff_run.specs.build.Parts.{all_kinds}
-use Rattle.ff_run.specs.build.Events.{parts_tell_of_themselves}
+use Rattle.ff_run.specs.laws.build.Events.{parts_tell_of_themselves}
 use Rattle.ff_run_plan.proofs.EventSteps.{plans_tell_alone}
 use Rattle.ff_run.proofs.build.laws.events_of_a_plan.Goals as goal
 

@@ -1,6 +1,6 @@
 use Rattle.std.proofs.Common.{rules, Result, Ok, Err, IfOk}
 use Rattle.ff_run.specs.build.Parts.{all_kinds}
-use Rattle.ff_run_plan.specs.Accepting.{IsAccepted}
+use Rattle.ff_run_plan.specs.laws.Accepting.{IsAccepted}
 use Rattle.ff_run.proofs.Accepted.{accepted}
 use Rattle.ff_run.proofs.worker.ThreadedWorker.plan.Goals as goal
 

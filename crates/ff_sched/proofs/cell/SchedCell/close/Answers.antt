@@ -2,8 +2,8 @@ use Rattle.std.proofs.Common.{◌≡◌, ◌++◌, ◌∷◌, [], List, All, len
 use Rattle.crossbeam_utils.specs.Seq.{cell_view}
 use Rattle.std.proofs.lemmas.List.Elements.{All-weaker}
 use Rattle.ff_sched.specs.Histories.{all_in, Rises}
-use Rattle.ff_sched.specs.Passing.{Scheduler, Passing, IsHistory, logs_of}
-use Rattle.ff_sched.specs.Writing.{write_all}
+use Rattle.ff_sched.specs.laws.Passing.{Scheduler, Passing, IsHistory, logs_of}
+use Rattle.ff_sched.specs.laws.Writing.{write_all}
 use Rattle.ff_sched.proofs.Closing.{closed, all_left, all_last}
 use Rattle.ff_sched.proofs.cell.SchedCell.close.Goals as goal
 

@@ -1,7 +1,7 @@
 use Rattle.std.proofs.Common.{◌-◌, subst, refl, arith, vec_len, vec_capacity}
 use Rattle.crossbeam_utils.specs.Seq.{cell_view}
 use Rattle.ff_frame.specs.declared.event.Event.TheVariants.{Grant}
-use Rattle.ff_sched.specs.Passing.{Passing, Told, IsChoked}
+use Rattle.ff_sched.specs.laws.Passing.{Passing, Told, IsChoked}
 use Rattle.ff_sched.proofs.Passings.{told_pass, choked_pass, seen_as}
 use Rattle.ff_sched.proofs.cell.SchedCell.take_grant.Goals as goal
 

@@ -2,7 +2,7 @@ use Rattle.std.proofs.Common.{◌≡◌, ◌++◌, ◌∷◌, [], List, sym, ap,
 use Rattle.ff_frame.specs.declared.event.Event.{Event}
 use Rattle.ff_sched.specs.State.{State}
 use Rattle.ff_sched.specs.Events.{IsInRange}
-use Rattle.ff_sched.specs.Plain.{Plain, IsPlain}
+use Rattle.ff_sched.specs.laws.Plain.{Plain, IsPlain}
 use Rattle.ff_sched.proofs.Histories.{plain_more, told_may, heard}
 use Rattle.ff_sched.proofs.node.SchedNode.hear.Goals as goal
 

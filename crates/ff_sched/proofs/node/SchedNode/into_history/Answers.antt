@@ -1,6 +1,6 @@
 use Rattle.std.proofs.Common.{subst}
 use Rattle.ff_sched.specs.Histories.{IsLegal}
-use Rattle.ff_sched.specs.Plain.{Plain}
+use Rattle.ff_sched.specs.laws.Plain.{Plain}
 use Rattle.ff_sched.proofs.node.SchedNode.into_history.Goals as goal
 
 pub returns-clause-legal : goal.returns-clause-legal

@@ -3,7 +3,7 @@ use Rattle.ff_frame.specs.declared.event.Event.{Event}
 use Rattle.ff_frame.specs.declared.event.Event.TheVariants.{Grant}
 use Rattle.ff_sched.specs.State.{State}
 use Rattle.ff_sched.specs.Unchoked.{Unchokes}
-use Rattle.ff_sched.specs.Plain.{Plain, IsPlain, held_by}
+use Rattle.ff_sched.specs.laws.Plain.{Plain, IsPlain, held_by}
 use Rattle.ff_sched.proofs.Histories.{plain_more, heard}
 use Rattle.ff_sched.proofs.node.SchedNode.offer.Goals as goal
 

@@ -1,7 +1,7 @@
 use Rattle.std.proofs.Common.{sym, subst}
 use Rattle.ff_sched.specs.State.{State}
 use Rattle.ff_sched.specs.Unchoked.{Unchokes}
-use Rattle.ff_sched.specs.Plain.{Plain, held_by}
+use Rattle.ff_sched.specs.laws.Plain.{Plain, held_by}
 use Rattle.ff_sched.proofs.node.SchedNode.unchokes.Goals as goal
 
 pub returns-clause-yes : goal.returns-clause-yes

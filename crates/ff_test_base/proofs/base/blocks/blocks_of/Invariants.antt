@@ -1,5 +1,5 @@
 use Rattle.std.proofs.Common.{◌≡◌, ◌≤◌, ◌⊎◌, false, Some, None}
-use Rattle.ff_flac_enc.specs.Cuts.{has_ended, format_in}
+use Rattle.ff_flac_enc.specs.laws.Cuts.{has_ended, format_in}
 use Rattle.ff_test_base.proofs.base.blocks.blocks_of.Given as goal
 
 -- the first frame is still to come, or the frames fed have this format

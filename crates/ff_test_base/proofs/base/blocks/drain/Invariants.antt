@@ -1,5 +1,5 @@
 use Rattle.std.proofs.Common.{◌≡◌}
-use Rattle.ff_flac_enc.specs.Cuts.{has_ended, format_in}
+use Rattle.ff_flac_enc.specs.laws.Cuts.{has_ended, format_in}
 use Rattle.ff_test_base.proofs.base.blocks.drain.Given as goal
 
 abbrev pub invariant-turns : goal.invariant-turns

@@ -3,7 +3,7 @@ use Rattle.ff_net_threads.specs.declared.links.linked.Linked.{Linked}
 use Rattle.ff_test_machines.specs.declared.plain.Plain.{Plain}
 use Rattle.ff_test_machines.specs.Packets.{byte_lane}
 use Rattle.ff_test_net.specs.net.Chains.{IsChain, chain_tasks}
-use Rattle.ff_net_threads.specs.links.Runs.{AllOf}
+use Rattle.ff_net_threads.specs.laws.links.Runs.{AllOf}
 use Rattle.ff_test_machines.specs.Plains.{plain_view}
 use Rattle.ff_test_net.proofs.NetLemmas.Chains.{chain_is, three_of}
 use Rattle.ff_test_net.proofs.net.chain.chain.Goals as goal

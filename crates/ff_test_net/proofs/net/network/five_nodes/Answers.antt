@@ -1,6 +1,6 @@
 use Rattle.std.proofs.Common.{List, ap, length, subst, sym}
 use Rattle.ff_net.specs.declared.node.Node.{Node}
-use Rattle.ff_net.specs.Serial.{AreOf}
+use Rattle.ff_net.specs.laws.Serial.{AreOf}
 use Rattle.ff_test_machines.specs.declared.plain.Plain.{Plain}
 use Rattle.ff_test_machines.specs.Plains.{plain_view}
 use Rattle.ff_test_machines.specs.Trials.{trial_lane}

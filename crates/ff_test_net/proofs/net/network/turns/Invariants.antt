@@ -1,5 +1,5 @@
 use Rattle.std.proofs.Common.{◌≡◌, length}
-use Rattle.ff_net.specs.Serial.{AreOf, AreShaped}
+use Rattle.ff_net.specs.laws.Serial.{AreOf, AreShaped}
 use Rattle.ff_test_machines.specs.Plains.{plain_view}
 use Rattle.ff_test_net.proofs.net.network.turns.Given as goal
 

@@ -1,7 +1,7 @@
 use Rattle.std.proofs.Common.{◌≡◌, ◌∙◌, [], ◌∷◌}
 use Rattle.ff_stream.specs.declared.item.Lane.{Lane}
-use Rattle.ff_net.specs.Nodes.{in_wires_of, out_wires_of}
-use Rattle.ff_net.specs.Worlds.{lanes_of}
+use Rattle.ff_net.specs.laws.Nodes.{in_wires_of, out_wires_of}
+use Rattle.ff_net.specs.laws.Worlds.{lanes_of}
 use Rattle.ff_test_machines.specs.Packets.{byte_lane}
 use Rattle.ff_test_net.proofs.NetLemmas.Chains.{begins}
 use Rattle.ff_test_net.proofs.net.node.on_links.Goals as goal

@@ -1,7 +1,7 @@
 use Rattle.std.proofs.Common.{◌<◌, ℕ, slice_index_or}
-use Rattle.ff_net.specs.Nodes.{IsSound}
+use Rattle.ff_net.specs.laws.Nodes.{IsSound}
 use Rattle.ff_net_threads.specs.declared.links.linked.Linked.{Linked}
-use Rattle.ff_net_threads.specs.links.Nodes.{node_of}
+use Rattle.ff_net_threads.specs.laws.links.Nodes.{node_of}
 use Rattle.ff_test_machines.specs.declared.plain.Plain.{Plain}
 use Rattle.ff_test_machines.specs.Plains.{plain_view}
 use Rattle.ff_test_net.proofs.net.run.all_sound.Given as goal

@@ -1,5 +1,5 @@
 use Rattle.std.proofs.Common.{◌≡◌, ◌≤◌, ℕ, length, sym, subst}
-use Rattle.ff_net_threads.specs.links.Rooms.{links_of}
+use Rattle.ff_net_threads.specs.laws.links.Rooms.{links_of}
 use Rattle.ff_test_machines.specs.Packets.{byte_lane}
 use Rattle.ff_test_net.specs.net.Chains.{chain_tasks}
 use Rattle.ff_net_threads.proofs.LinksLemmas.After.{ended_after}

@@ -1,6 +1,6 @@
 use Rattle.std.proofs.Common.{◌≡◌, ◌≤◌, length}
-use Rattle.ff_net.specs.Serial.{AreOf, AreShaped}
-use Rattle.ff_net.specs.Worlds.{lanes_of}
+use Rattle.ff_net.specs.laws.Serial.{AreOf, AreShaped}
+use Rattle.ff_net.specs.laws.Worlds.{lanes_of}
 use Rattle.ff_test_machines.specs.Kinds.{relay_view}
 use Rattle.ff_test_net.proofs.net.trial.turns.Given as goal
 

@@ -1,7 +1,7 @@
 use Rattle.std.proofs.Common.{List, sym, ◌∙◌, subst, arith}
 use Rattle.ff_stream.specs.declared.edges.edge.Edge.{Edge}
 use Rattle.ff_test_machines.specs.Plains.{plain_view}
-use Rattle.ff_net_threads.specs.network.Networks.{Fits}
+use Rattle.ff_net_threads.specs.laws.network.Networks.{Fits}
 use Rattle.ff_test_net.proofs.NetworkLemmas.Fives.{five_count, five_fit, five_routed}
 use Rattle.ff_test_net.proofs.network.five.run_five.Goals as goal
 

@@ -1,6 +1,6 @@
 use Rattle.std.proofs.Common.{◌∙◌, is_some, ap, sym}
 use Rattle.ff_filter.specs.Made.{is_over}
-use Rattle.ff_trim.specs.Taps.{Way}
+use Rattle.ff_trim.specs.laws.Taps.{Way}
 use Rattle.ff_trim.proofs.Ways.{way_there}
 use Rattle.ff_trim.proofs.cutting.Cutting.advance.Goals as goal
 

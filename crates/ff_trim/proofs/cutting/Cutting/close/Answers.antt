@@ -1,6 +1,6 @@
 use Rattle.std.proofs.Common.{◌<◌, ◌∙◌, length, arith, ap, sym, subst, set}
 use Rattle.ff_filter.specs.Made.{is_over}
-use Rattle.ff_trim.specs.Taps.{Way, way_of, ways_of, IsShut}
+use Rattle.ff_trim.specs.laws.Taps.{Way, way_of, ways_of, IsShut}
 use Rattle.ff_trim.proofs.Ways.{way_there, replaced, long_ways}
 use Rattle.ff_trim.proofs.Moving.{shut_tied, shut_gave}
 use Rattle.ff_trim.proofs.cutting.Cutting.close.Goals as goal

@@ -1,6 +1,6 @@
 use Rattle.std.proofs.Common.{◌≡◌, ◌<◌, ◌∙◌, Ok, Some, None, is_some, length, refl, arith, ap, sym, subst, set, OnErr}
 use Rattle.ff_filter.specs.Made.{is_over}
-use Rattle.ff_trim.specs.Taps.{Way, way_of, ways_of, IsPut, IsKept}
+use Rattle.ff_trim.specs.laws.Taps.{Way, way_of, ways_of, IsPut, IsKept}
 use Rattle.ff_trim.proofs.Ways.{way_there, replaced, long_ways}
 use Rattle.ff_trim.proofs.Moving.{put_any, waits_cut, same_cut, not_over, not_held}
 use Rattle.ff_trim.proofs.Turns.{failed, waited, put_turn}

@@ -1,6 +1,6 @@
 use Rattle.std.proofs.Common.{◌<◌, ◌∙◌, Some, None, is_some, length, arith, ap, sym, subst, set, OnErr}
 use Rattle.ff_filter.specs.Made.{is_over}
-use Rattle.ff_trim.specs.Taps.{Way, way_of, ways_of, IsResumed, IsKeptStill}
+use Rattle.ff_trim.specs.laws.Taps.{Way, way_of, ways_of, IsResumed, IsKeptStill}
 use Rattle.ff_trim.proofs.Ways.{way_there, replaced, long_ways}
 use Rattle.ff_trim.proofs.Moving.{resumed_any, not_over}
 use Rattle.ff_trim.proofs.Turns.{resumed_turn}

@@ -1,4 +1,4 @@
-use Rattle.ff_trim.specs.Taps.{ways_of}
+use Rattle.ff_trim.specs.laws.Taps.{ways_of}
 use Rattle.ff_trim.proofs.Moving.{fed_cut, same_cut, on_ok, on_err}
 use Rattle.ff_trim.proofs.cutting.CuttingFilter.feed.Goals as goal
 

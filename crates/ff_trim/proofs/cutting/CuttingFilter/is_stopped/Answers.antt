@@ -1,5 +1,5 @@
 use Rattle.std.proofs.Common.{◌<◌, length, arith, ap, sym}
-use Rattle.ff_trim.specs.Taps.{Way}
+use Rattle.ff_trim.specs.laws.Taps.{Way}
 use Rattle.ff_trim.proofs.Ways.{way_there, long_ways}
 use Rattle.ff_trim.proofs.cutting.CuttingFilter.is_stopped.Goals as goal
 

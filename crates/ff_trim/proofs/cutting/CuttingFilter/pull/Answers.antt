@@ -1,6 +1,6 @@
 use Rattle.std.proofs.Common.{◌≡◌, ◌<◌, ◌∙◌, Ok, length, arith, ap}
 use Rattle.ff_filter.proofs.Moves.{same_self, same_gave}
-use Rattle.ff_trim.specs.Taps.{Way, ways_of, cut_view}
+use Rattle.ff_trim.specs.laws.Taps.{Way, ways_of, cut_view}
 use Rattle.ff_trim.specs.declared.tap.Turn.TheVariants.{Gave as Turned}
 use Rattle.ff_trim.proofs.Moving.{waits_closed}
 use Rattle.ff_trim.proofs.Ways.{way_there, long_ways}

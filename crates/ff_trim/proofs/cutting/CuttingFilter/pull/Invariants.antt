@@ -1,6 +1,6 @@
 use Rattle.std.proofs.Common.{◌≡◌, ◌<◌, false, length}
 use Rattle.ff_filter.specs.Views.{Same}
-use Rattle.ff_trim.specs.Taps.{ways_of, way_at, cut_view, to_go}
+use Rattle.ff_trim.specs.laws.Taps.{ways_of, way_at, cut_view, to_go}
 use Rattle.ff_trim.proofs.cutting.CuttingFilter.pull.Given as goal
 
 abbrev pub invariant-loop-error : goal.invariant-loop-error

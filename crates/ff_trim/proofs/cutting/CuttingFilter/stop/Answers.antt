@@ -1,5 +1,5 @@
 use Rattle.std.proofs.Common.{◌<◌, length, arith, sym, subst, set}
-use Rattle.ff_trim.specs.Taps.{Way, way_of, ways_of, IsLeft}
+use Rattle.ff_trim.specs.laws.Taps.{Way, way_of, ways_of, IsLeft}
 use Rattle.ff_trim.proofs.Ways.{way_there, replaced, long_ways}
 use Rattle.ff_trim.proofs.Moving.{left_tied, left_stopped}
 use Rattle.ff_trim.proofs.cutting.CuttingFilter.stop.Goals as goal

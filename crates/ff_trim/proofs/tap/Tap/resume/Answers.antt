@@ -1,5 +1,5 @@
 use Rattle.std.proofs.Common.{Some, sym, ◌∙◌}
-use Rattle.ff_trim.specs.Taps.{way_of}
+use Rattle.ff_trim.specs.laws.Taps.{way_of}
 use Rattle.ff_trim.proofs.Tapping.{resumed}
 use Rattle.ff_trim.proofs.tap.Tap.resume.Goals as goal
 

@@ -1,6 +1,6 @@
 use Rattle.std.proofs.Common.{◌≡◌, ◌<◌, ℕ, nat_le, false, arith}
 use Rattle.std.proofs.lemmas.Bool.Decides.{nat_tests}
-use Rattle.ff_vfilter.specs.LastingLaws.{lasting_skips}
+use Rattle.ff_vfilter.specs.laws.LastingLaws.{lasting_skips}
 use Rattle.ff_vfilter.proofs.lasting_trim.LastingTrimStep.step.Goals as goal
 
 before_start : (start time at : ℕ) → time < start → time ≡ at → nat_le start at ≡ false

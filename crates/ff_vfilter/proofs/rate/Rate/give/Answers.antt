@@ -2,7 +2,7 @@ use Rattle.std.proofs.Common.{◌≡◌, ◌<◌, ◌∙◌, sym, subst, true, S
 use Rattle.ff_stream.specs.declared.item.Item.{Item}
 use Rattle.ff_stream.specs.declared.item.Item.TheVariants.{Broken}
 use Rattle.ff_filter.specs.Views.{Gave}
-use Rattle.ff_vfilter.specs.RateViews.{rate_view, limit_of, Shown}
+use Rattle.ff_vfilter.specs.laws.RateViews.{rate_view, limit_of, Shown}
 use Rattle.ff_vfilter.proofs.Rating.{rate_gave, rate_cut, some_there, few_given}
 use Rattle.ff_vfilter.proofs.rate.Rate.give.Goals as goal
 

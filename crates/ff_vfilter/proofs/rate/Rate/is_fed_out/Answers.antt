@@ -1,6 +1,6 @@
 use Rattle.std.proofs.Common.{◌∙◌, sym, ap, Option}
 use Rattle.ff_vfilter.specs.declared.span.Span.{Span}
-use Rattle.ff_vfilter.specs.RateCuts.{is_cut}
+use Rattle.ff_vfilter.specs.laws.RateCuts.{is_cut}
 use Rattle.ff_vfilter.proofs.Cutting.{fed_open, fed_end}
 use Rattle.ff_vfilter.proofs.rate.Rate.is_fed_out.Goals as goal
 

@@ -1,6 +1,6 @@
 use Rattle.std.proofs.Common.{◌+◌, ◌<◌, ◌≤◌, ◌∙◌, sym, ap, arith, length, drop, Option}
 use Rattle.ff_vfilter.specs.declared.span.Span.{Span}
-use Rattle.ff_vfilter.specs.RateCuts.{span_of, span_ahead}
+use Rattle.ff_vfilter.specs.laws.RateCuts.{span_of, span_ahead}
 use Rattle.ff_vfilter.proofs.Cutting.{span_more, span_last}
 use Rattle.ff_vfilter.proofs.rate.Rate.span.Goals as goal
 

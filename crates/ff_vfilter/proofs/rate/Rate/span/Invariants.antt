@@ -1,5 +1,5 @@
 use Rattle.std.proofs.Common.{◌≡◌, drop}
-use Rattle.ff_vfilter.specs.RateCuts.{span_of, span_ahead}
+use Rattle.ff_vfilter.specs.laws.RateCuts.{span_of, span_ahead}
 use Rattle.ff_vfilter.proofs.rate.Rate.span.Given as goal
 
 abbrev pub invariant-items : goal.invariant-items

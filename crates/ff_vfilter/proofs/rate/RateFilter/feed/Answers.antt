@@ -1,4 +1,4 @@
-use Rattle.ff_vfilter.specs.RateSeen.{seen}
+use Rattle.ff_vfilter.specs.laws.RateSeen.{seen}
 use Rattle.ff_vfilter.proofs.Rating.{fed_there}
 use Rattle.ff_vfilter.proofs.rate.RateFilter.feed.Goals as goal
 

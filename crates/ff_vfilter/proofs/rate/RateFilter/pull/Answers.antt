@@ -1,6 +1,6 @@
 use Rattle.std.proofs.Common.{◌≡◌, ◌∙◌, sym, false, true}
 use Rattle.ff_filter.proofs.Moves.{same_trans, same_gave, gave_same, same_waits}
-use Rattle.ff_vfilter.specs.RateViews.{rate_view}
+use Rattle.ff_vfilter.specs.laws.RateViews.{rate_view}
 use Rattle.ff_vfilter.proofs.Rating.{gave_there, waits_there}
 use Rattle.ff_vfilter.proofs.rate.RateFilter.pull.Goals as goal
 

@@ -1,6 +1,6 @@
 use Rattle.std.specs.Prelude.{◌≡◌, false}
 use Rattle.ff_filter.specs.Views.{Same}
-use Rattle.ff_vfilter.specs.RateViews.{rate_view, work_left}
+use Rattle.ff_vfilter.specs.laws.RateViews.{rate_view, work_left}
 use Rattle.ff_vfilter.proofs.rate.RateFilter.pull.Given as goal
 
 abbrev pub invariant-loop-error : goal.invariant-loop-error

@@ -1,5 +1,5 @@
 use Rattle.std.specs.Prelude.{true}
-use Rattle.ff_vfilter.specs.RateSeen.{seen}
+use Rattle.ff_vfilter.specs.laws.RateSeen.{seen}
 use Rattle.ff_vfilter.proofs.Rating.{stopped_there}
 use Rattle.ff_vfilter.proofs.rate.RateFilter.stop.Goals as goal
 

@@ -3,7 +3,7 @@ use Rattle.ff_frame.specs.declared.video.VFrame.{VFrame}
 use Rattle.ff_stream.specs.declared.item.Item.{Item}
 use Rattle.ff_filter.specs.Joins.{before}
 use Rattle.ff_vfilter.specs.Rates.{shown, rated}
-use Rattle.ff_vfilter.specs.RateViews.{ahead_then}
+use Rattle.ff_vfilter.specs.laws.RateViews.{ahead_then}
 use Rattle.ff_vfilter.proofs.Rating.{shows_once}
 use Rattle.ff_vfilter.proofs.showing.Showing.show_one.Goals as goal
 

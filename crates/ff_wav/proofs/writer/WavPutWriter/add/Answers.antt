@@ -1,7 +1,7 @@
 use Rattle.std.proofs.Common.{◌↔◌, ℕ, ◌<◌, ap, subst, arith, length}
 use Rattle.std.specs.Prelude.{IsErr}
 use Rattle.std.proofs.lemmas.Result.{on_ok_weaker, on_err_weaker}
-use Rattle.ff_format.specs.Bodies.{size_then}
+use Rattle.ff_format.specs.laws.Bodies.{size_then}
 use Rattle.ff_wav.specs.Header.{written_mode}
 use Rattle.ff_wav.specs.Limits.{longest_of}
 use Rattle.ff_wav.proofs.writer.WavPutWriter.add.Goals as goal

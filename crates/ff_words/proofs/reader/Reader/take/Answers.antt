@@ -1,5 +1,5 @@
 use Rattle.std.proofs.Common.{sym, ◌∙◌, ap}
-use Rattle.ff_words.specs.Reading.{output_wrong}
+use Rattle.ff_words.specs.laws.Reading.{output_wrong}
 use Rattle.ff_words.proofs.Snoc.{taken-output, taken-input, taken-option, not_file}
 use Rattle.ff_words.proofs.reader.Reader.take.Goals as goal
 

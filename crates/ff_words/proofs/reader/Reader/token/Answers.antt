@@ -3,7 +3,7 @@ use Rattle.ff_words.specs.declared.table.Concern.TheVariants.{Itself}
 use Rattle.ff_words.specs.declared.value.Value.TheVariants as value
 use Rattle.ff_words.specs.Words.{texts, is_too_much, is_dashed, is_no_name}
 use Rattle.ff_words.specs.declared.reader.Reader.{Reader}
-use Rattle.ff_words.specs.Reading.{Taken, word_at}
+use Rattle.ff_words.specs.laws.Reading.{Taken, word_at}
 use Rattle.ff_words.specs.Table.{option_named, format_ending}
 use Rattle.ff_words.proofs.Tokens.{token-lone, token-output, token-unknown, token-switch}
 use Rattle.ff_words.proofs.reader.Reader.token.Goals as goal

@@ -1,4 +1,4 @@
-use Rattle.ff_filter.specs.spread.Lines.{lines}
+use Rattle.ff_filter.specs.laws.spread.Lines.{lines}
 use Rattle.ff_filter.proofs.SpreadLemmas.Spreading.{spread_gave}
 use Rattle.ff_filter.proofs.spread.spreader.SpreaderFilter.pull.Goals as goal
 

@@ -3,7 +3,7 @@ use Rattle.ff_stream.specs.declared.item.Item.{Item}
 use Rattle.ff_stream.specs.declared.item.Lane.TheVariants.{Frames}
 use Rattle.ff_filter.specs.Views.{View, Fed}
 use Rattle.ff_fsync.specs.Sides.{sync_view}
-use Rattle.ff_fsync.specs.Syncs.{sides_of}
+use Rattle.ff_fsync.specs.laws.Syncs.{sides_of}
 use Rattle.ff_fsync.specs.stacks.Bases.{item_in, units_at, told_view}
 use Rattle.ff_fsync.specs.stacks.Shapes.{stacked}
 use Rattle.ff_fsync.proofs.StacksLemmas.Limiting.{fed_on, same_on}

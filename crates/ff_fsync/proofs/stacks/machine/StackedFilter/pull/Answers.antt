@@ -3,11 +3,11 @@ use Rattle.ff_stream.specs.declared.item.Item.{Item}
 use Rattle.ff_stream.specs.declared.item.Lane.TheVariants.{Frames}
 use Rattle.ff_filter.specs.Views.{View, Gave}
 use Rattle.ff_fsync.specs.Sides.{sync_view}
-use Rattle.ff_fsync.specs.Syncs.{sides_of}
+use Rattle.ff_fsync.specs.laws.Syncs.{sides_of}
 use Rattle.ff_fsync.specs.stacks.Bases.{told_view}
-use Rattle.ff_fsync.specs.stacks.Limits.{limits_view}
+use Rattle.ff_fsync.specs.laws.stacks.Limits.{limits_view}
 use Rattle.ff_fsync.specs.stacks.Shapes.{stacked}
-use Rattle.ff_fsync.specs.stacks.Stacked.{seen}
+use Rattle.ff_fsync.specs.laws.stacks.Stacked.{seen}
 use Rattle.ff_fsync.proofs.StacksLemmas.Limiting.{same_on, waits_on, gave_on}
 use Rattle.ff_fsync.proofs.StacksLemmas.Telling.{told_same, told_waits, told_gave}
 use Rattle.ff_fsync.proofs.stacks.machine.StackedFilter.pull.Goals as goal

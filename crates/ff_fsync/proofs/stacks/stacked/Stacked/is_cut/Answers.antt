@@ -4,11 +4,11 @@ use Rattle.ff_stream.specs.declared.item.Lane.TheVariants.{Frames}
 use Rattle.ff_stream.specs.Within.{some_pass, passes_limits}
 use Rattle.ff_filter.specs.Joins.{silence}
 use Rattle.ff_fsync.specs.Sides.{left_to_show, frames_of}
-use Rattle.ff_fsync.specs.Syncs.{sides_of, standing_of, timing_of}
+use Rattle.ff_fsync.specs.laws.Syncs.{sides_of, standing_of, timing_of}
 use Rattle.ff_fsync.specs.Synced.{pictures}
-use Rattle.ff_fsync.specs.stacks.Limits.{long_at}
+use Rattle.ff_fsync.specs.laws.stacks.Limits.{long_at}
 use Rattle.ff_fsync.specs.stacks.Shapes.{stacked, lasts}
-use Rattle.ff_fsync.specs.stacks.Stacked.{is_cut}
+use Rattle.ff_fsync.specs.laws.stacks.Stacked.{is_cut}
 use Rattle.ff_fsync.proofs.StacksLemmas.Lasting.{cut_next, cut_none}
 use Rattle.ff_fsync.proofs.stacks.stacked.Stacked.is_cut.Goals as goal
 

@@ -3,9 +3,9 @@ use Rattle.ff_stream.specs.declared.item.Lane.TheVariants.{Frames}
 use Rattle.ff_stream.specs.Within.{some_pass, passes_limits}
 use Rattle.ff_filter.specs.Joins.{silence}
 use Rattle.ff_fsync.specs.Sides.{left_to_show}
-use Rattle.ff_fsync.specs.Syncs.{sides_of}
+use Rattle.ff_fsync.specs.laws.Syncs.{sides_of}
 use Rattle.ff_fsync.specs.stacks.Shapes.{stacked}
-use Rattle.ff_fsync.specs.stacks.Stacked.{is_cut}
+use Rattle.ff_fsync.specs.laws.stacks.Stacked.{is_cut}
 use Rattle.ff_fsync.proofs.stacks.stacked.Stacked.is_cut.Given as goal
 
 abbrev pub invariant-loop-time : goal.invariant-loop-time

@@ -1,6 +1,6 @@
 use Rattle.std.proofs.Common.{◌≡◌, ◌||◌, refl, sym, ◌∙◌}
-use Rattle.ff_fsync.specs.stacks.Stacked.{stack_spent}
-use Rattle.ff_fsync.specs.stacks.StackedLaws.{stacked-spent_only, stacked-spent_if}
+use Rattle.ff_fsync.specs.laws.stacks.Stacked.{stack_spent}
+use Rattle.ff_fsync.specs.laws.stacks.StackedLaws.{stacked-spent_only, stacked-spent_if}
 use Rattle.ff_fsync.proofs.stacks.stacked.Stacked.is_spent.Goals as goal
 
 pub returns-clause-exact : goal.returns-clause-exact

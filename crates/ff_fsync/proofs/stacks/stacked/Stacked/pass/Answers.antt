@@ -5,14 +5,14 @@ use Rattle.std.proofs.lemmas.Bool.{iff_false}
 use Rattle.ff_stream.specs.declared.item.Lane.{Lane}
 use Rattle.ff_stream.specs.declared.item.Lane.TheVariants.{Frames}
 use Rattle.ff_stream.specs.Within.{passes_limits}
-use Rattle.ff_filter.specs.Limits.{limited}
+use Rattle.ff_filter.specs.laws.Limits.{limited}
 use Rattle.ff_filter.specs.Views.{View, closes}
 use Rattle.ff_fsync.specs.Sides.{side_at, sync_view}
-use Rattle.ff_fsync.specs.Syncs.{sides_of}
+use Rattle.ff_fsync.specs.laws.Syncs.{sides_of}
 use Rattle.ff_fsync.specs.stacks.Bases.{told_view}
-use Rattle.ff_fsync.specs.stacks.Limits.{long_at, limits_view}
+use Rattle.ff_fsync.specs.laws.stacks.Limits.{long_at, limits_view}
 use Rattle.ff_fsync.specs.stacks.Shapes.{stacked}
-use Rattle.ff_fsync.specs.stacks.Stacked.{sync_seen}
+use Rattle.ff_fsync.specs.laws.stacks.Stacked.{sync_seen}
 use Rattle.ff_fsync.proofs.StacksLemmas.Closing.{closes_so, closes_not}
 use Rattle.ff_fsync.proofs.StacksLemmas.Limiting.{limits_gave, limits_cut, limited_on, limited_last, alone_at}
 use Rattle.ff_fsync.proofs.stacks.stacked.Stacked.pass.Goals as goal

@@ -1,6 +1,6 @@
 use Rattle.std.proofs.Common.{◌∙◌, ◌↔◌, List, IsTrue, subst, sym, refl}
-use Rattle.ff_host.specs.memory.MemHost.{marks_in}
-use Rattle.ff_host.specs.memory.Plan.{IsPlannedNext}
+use Rattle.ff_host.specs.laws.memory.MemHost.{marks_in}
+use Rattle.ff_host.specs.laws.memory.Plan.{IsPlannedNext}
 use Rattle.ff_host.specs.declared.memory.plan.FailAt.{FailAt}
 use Rattle.ff_host.specs.declared.memory.plan.HostCall.TheVariants.{CloseSink}
 use Rattle.ff_host.specs.declared.tally.Marks.{Marks}

@@ -1,6 +1,6 @@
 use Rattle.std.proofs.Common.{subst, ℕ, List, refl}
-use Rattle.ff_host.specs.memory.MemEnds.{MemWriting}
-use Rattle.ff_host.specs.memory.Plan.{FailsNext}
+use Rattle.ff_host.specs.laws.memory.MemEnds.{MemWriting}
+use Rattle.ff_host.specs.laws.memory.Plan.{FailsNext}
 use Rattle.ff_host.proofs.memory.mem_sink.MemSinkSink.patch.Goals as goal
 
 pub returns-then-fails-clause-exact : goal.returns-then-fails-clause-exact

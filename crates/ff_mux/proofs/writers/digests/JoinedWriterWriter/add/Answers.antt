@@ -1,7 +1,7 @@
 use Rattle.std.proofs.Common.{◌++◌, ◌∙◌, ℕ, List, ap, sym, subst}
-use Rattle.ff_format.specs.Bodies.{bytes_then}
+use Rattle.ff_format.specs.laws.Bodies.{bytes_then}
 use Rattle.ff_format.specs.Layouts.{bytes_in}
-use Rattle.ff_mux.specs.Hashers.{HasTaken}
+use Rattle.ff_mux.specs.laws.Hashers.{HasTaken}
 use Rattle.ff_mux.proofs.writers.digests.JoinedWriterWriter.add.Goals as goal
 
 pub returns-clause-ok : goal.returns-clause-ok

@@ -5,7 +5,7 @@ use Rattle.ff_format.specs.Layouts.{bytes_in}
 use Rattle.ff_frame.specs.declared.hash.HashKind.{HashKind}
 use Rattle.ff_frame.specs.declared.head.StreamHead.{StreamHead}
 use Rattle.ff_mux.specs.DigestTexts.{letter, named_digest, packets_of, stream_line, stream_lines_from}
-use Rattle.ff_mux.specs.Hashers.{hasher_kind, HasTaken}
+use Rattle.ff_mux.specs.laws.Hashers.{hasher_kind, HasTaken}
 use Rattle.ff_mux.proofs.StreamDigests.{kind_at, taken_at}
 use Rattle.ff_mux.proofs.writers.digests.StreamsWriterWriter.tail.Goals as goal
 

@@ -1,7 +1,7 @@
 use Rattle.std.proofs.Common.{◌≡◌, ◌++◌, drop, ℕ, List}
 use Rattle.ff_frame.specs.declared.packet.Pkt.{Pkt}
 use Rattle.ff_mux.specs.DigestTexts.{stream_lines_from}
-use Rattle.ff_mux.specs.writers.Writers.{HasStreams, streams_heads, streams_kind}
+use Rattle.ff_mux.specs.laws.writers.Writers.{HasStreams, streams_heads, streams_kind}
 use Rattle.ff_mux.proofs.writers.digests.StreamsWriterWriter.tail.Given as goal
 
 abbrev pub invariant-streams : goal.invariant-streams

@@ -1,7 +1,7 @@
 use Rattle.std.proofs.Common.{◌++◌, ◌∙◌, ℕ, List, ap, sym, subst}
-use Rattle.ff_format.specs.Bodies.{bytes_then}
+use Rattle.ff_format.specs.laws.Bodies.{bytes_then}
 use Rattle.ff_format.specs.Layouts.{bytes_in}
-use Rattle.ff_mux.specs.Hashers.{AreSums}
+use Rattle.ff_mux.specs.laws.Hashers.{AreSums}
 use Rattle.ff_mux.proofs.AdlerRuns.{sums-more}
 use Rattle.ff_mux.proofs.writers.digests.SumWriterWriter.add.Goals as goal
 

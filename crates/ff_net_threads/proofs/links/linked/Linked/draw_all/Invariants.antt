@@ -1,7 +1,7 @@
 use Rattle.std.proofs.Common.{◌≡◌, ◌<◌, ◌≤◌, ℕ, length, true, false}
-use Rattle.ff_net_threads.specs.links.Ends.{in_end_at}
-use Rattle.ff_net_threads.specs.links.Nodes.{Follows}
-use Rattle.ff_net_threads.specs.links.Turns.{TakesOneAtMost, InMoves, InRests, CannotTake}
+use Rattle.ff_net_threads.specs.laws.links.Ends.{in_end_at}
+use Rattle.ff_net_threads.specs.laws.links.Nodes.{Follows}
+use Rattle.ff_net_threads.specs.laws.links.Turns.{TakesOneAtMost, InMoves, InRests, CannotTake}
 use Rattle.ff_net_threads.proofs.links.linked.Linked.draw_all.Given as goal
 
 abbrev pub invariant-loop-p : goal.invariant-loop-p

@@ -1,12 +1,12 @@
 use Rattle.std.proofs.Common.{◌<◌, length, sym, ◌∙◌, ap, subst}
 use Rattle.ff_net.specs.declared.node.Node.{Node}
 use Rattle.ff_net.specs.declared.wires.Wires.{Wires}
-use Rattle.ff_net.specs.Nodes.{pass_of}
-use Rattle.ff_net.specs.Steps.{Stepped}
+use Rattle.ff_net.specs.laws.Nodes.{pass_of}
+use Rattle.ff_net.specs.laws.Steps.{Stepped}
 use Rattle.ff_net.proofs.Changes.{true_not_false}
 use Rattle.ff_net.proofs.Moments.{stepped_as, stepped_self}
-use Rattle.ff_net_threads.specs.links.Ends.{in_end_at, taken_of}
-use Rattle.ff_net_threads.specs.links.Turns.{TakesOneAtMost, InMoves, InRests, CannotTake, due, cannot}
+use Rattle.ff_net_threads.specs.laws.links.Ends.{in_end_at, taken_of}
+use Rattle.ff_net_threads.specs.laws.links.Turns.{TakesOneAtMost, InMoves, InRests, CannotTake, due, cannot}
 use Rattle.ff_net_threads.proofs.LinksLemmas.Linking.{follows_self, follows_then, lawful_after}
 use Rattle.ff_net_threads.proofs.LinksLemmas.Turns.{takes_self, in_rests_self}
 use Rattle.ff_net_threads.proofs.links.linked.Linked.draw_if_free.Goals as goal

@@ -5,7 +5,7 @@ use Rattle.ff_net.specs.declared.wires.Wires.{Wires}
 use Rattle.ff_net.proofs.Rounds.{or_true, or_false}
 use Rattle.ff_net_threads.specs.declared.links.ends.OutEnd.{OutEnd}
 use Rattle.ff_net_threads.specs.declared.links.linked.Linked.{Linked}
-use Rattle.ff_net_threads.specs.links.Turns.{SendsOneAtMost, OutMoves, OutRests, CannotSend}
+use Rattle.ff_net_threads.specs.laws.links.Turns.{SendsOneAtMost, OutMoves, OutRests, CannotSend}
 use Rattle.ff_net_threads.proofs.LinksLemmas.Linking.{follows_self, follows_then, poured, out_end_there, can_pour, wired_after, lawful_after}
 use Rattle.ff_net_threads.proofs.LinksLemmas.Turns.{out_other, out_each, sends_self, out_rests_self}
 use Rattle.ff_net_threads.proofs.links.linked.Linked.pour_all.Goals as goal

@@ -1,7 +1,7 @@
 use Rattle.std.proofs.Common.{◌≡◌, ◌<◌, ◌≤◌, ℕ, length, true, false, slice_index_or}
 use Rattle.ff_net_threads.specs.declared.links.ends.OutEnd.{OutEnd}
-use Rattle.ff_net_threads.specs.links.Nodes.{Follows}
-use Rattle.ff_net_threads.specs.links.Turns.{SendsOneAtMost, OutMoves, OutRests, CannotSend}
+use Rattle.ff_net_threads.specs.laws.links.Nodes.{Follows}
+use Rattle.ff_net_threads.specs.laws.links.Turns.{SendsOneAtMost, OutMoves, OutRests, CannotSend}
 use Rattle.ff_net_threads.proofs.links.linked.Linked.pour_all.Given as goal
 
 abbrev pub invariant-loop-q : goal.invariant-loop-q

@@ -1,8 +1,8 @@
 use Rattle.std.proofs.Common.{◌≡◌, ◌<◌, ◌≤◌, ℕ, length, true, false, None}
-use Rattle.ff_net.specs.Worlds.{Wire, Stand}
-use Rattle.ff_net_threads.specs.links.Ends.{in_end_at}
-use Rattle.ff_net_threads.specs.links.Nodes.{Follows}
-use Rattle.ff_net_threads.specs.links.Turns.{Shuts, InMoves}
+use Rattle.ff_net.specs.laws.Worlds.{Wire, Stand}
+use Rattle.ff_net_threads.specs.laws.links.Ends.{in_end_at}
+use Rattle.ff_net_threads.specs.laws.links.Nodes.{Follows}
+use Rattle.ff_net_threads.specs.laws.links.Turns.{Shuts, InMoves}
 use Rattle.ff_net_threads.proofs.links.linked.Linked.shut_ends.Given as goal
 
 abbrev pub invariant-loop-p : goal.invariant-loop-p

@@ -2,17 +2,17 @@ use Rattle.std.proofs.Common.{◌≡◌, ℕ, ◌<◌, ◌≤◌, ◌+◌, lengt
 use Rattle.ff_stream.specs.Ports.{IsClosed}
 use Rattle.ff_net.specs.declared.node.Node.{Node}
 use Rattle.ff_net.specs.Pasts.{Past}
-use Rattle.ff_net.specs.Worlds.{Wire}
+use Rattle.ff_net.specs.laws.Worlds.{Wire}
 use Rattle.ff_net.specs.declared.wires.Wires.{Wires}
-use Rattle.ff_net.specs.Logs.{tickets_in}
-use Rattle.ff_net.specs.Nodes.{IsSound, NodeStands, HasFinished, IsOver, machine_of, pass_of, inputs_of, outputs_of, in_wire_of}
-use Rattle.ff_sched.specs.Passing.{Passing}
-use Rattle.ff_net.specs.Steps.{Moves, Stepped}
+use Rattle.ff_net.specs.laws.Logs.{tickets_in}
+use Rattle.ff_net.specs.laws.Nodes.{IsSound, NodeStands, HasFinished, IsOver, machine_of, pass_of, inputs_of, outputs_of, in_wire_of}
+use Rattle.ff_sched.specs.laws.Passing.{Passing}
+use Rattle.ff_net.specs.laws.Steps.{Moves, Stepped}
 use Rattle.ff_net.proofs.Changes.{true_not_false}
 use Rattle.ff_net.proofs.Rounds.{or_false}
 use Rattle.ff_net_threads.specs.declared.links.ends.InEnd.{InEnd}
-use Rattle.ff_net_threads.specs.links.Ends.{in_end_at, taken_of}
-use Rattle.ff_net_threads.specs.links.Turns.{InMoves, InRests, Shuts, SendsOneAtMost, OutMoves, OutRests, CannotSend}
+use Rattle.ff_net_threads.specs.laws.links.Ends.{in_end_at, taken_of}
+use Rattle.ff_net_threads.specs.laws.links.Turns.{InMoves, InRests, Shuts, SendsOneAtMost, OutMoves, OutRests, CannotSend}
 use Rattle.ff_net_threads.proofs.LinksLemmas.Linking.{follows_then, lawful_after, of_after}
 use Rattle.ff_net_threads.proofs.LinksLemmas.Turns.{takes_then, drawn_none_then, false_if_not, shut_port, stop_port, after_stop, node_idle, moved_of}
 use Rattle.ff_net_threads.proofs.links.linked.Linked.turn.Goals as goal

@@ -1,6 +1,6 @@
 use Rattle.std.proofs.Common.{◌∙◌, ℤ, Bool, Option, ap, sym}
 use Rattle.std.specs.Prelude.{slice_set}
-use Rattle.ff_node_filter.specs.best.Ends.{ends_at, end_behind, closed_behind}
+use Rattle.ff_node_filter.specs.laws.best.Ends.{ends_at, end_behind, closed_behind}
 use Rattle.ff_node_filter.proofs.BestLemmas.Noting.{keeps_on}
 use Rattle.ff_node_filter.proofs.BestLemmas.Placing.{end_there, closed_there, set_end_here, set_end_others, set_closed_here, set_closed_others, set_bases}
 use Rattle.ff_node_filter.proofs.best.lead.Lead.keep.Goals as goal

@@ -1,7 +1,7 @@
 use Rattle.std.proofs.Common.{[], List, ap, sym, ◌∙◌}
 use Rattle.ff_frame.specs.declared.event.Event.{Event}
 use Rattle.ff_net.specs.Pasts.{Feed}
-use Rattle.ff_node_filter.specs.best.Laws.{last_named}
+use Rattle.ff_node_filter.specs.laws.best.Laws.{last_named}
 use Rattle.ff_node_filter.proofs.BestLemmas.Namings.{events_name}
 use Rattle.ff_node_filter.proofs.best.leading.Leading.best.Goals as goal
 

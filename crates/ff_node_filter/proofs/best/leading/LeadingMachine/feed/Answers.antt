@@ -1,4 +1,4 @@
-use Rattle.ff_node_filter.specs.best.Views.{quiet}
+use Rattle.ff_node_filter.specs.laws.best.Views.{quiet}
 use Rattle.ff_node_filter.proofs.BestLemmas.Moving.{same_count}
 use Rattle.ff_node_filter.proofs.BestLemmas.Noting.{same_tells}
 use Rattle.ff_node_filter.proofs.best.leading.LeadingMachine.feed.Goals as goal

@@ -1,4 +1,4 @@
-use Rattle.ff_node_filter.specs.best.LeadLaws.{reads_nothing}
+use Rattle.ff_node_filter.specs.laws.best.LeadLaws.{reads_nothing}
 use Rattle.ff_node_filter.proofs.best.leading.LeadingMachine.next_event.Goals as goal
 
 pub returns-clause-gives : goal.returns-clause-gives

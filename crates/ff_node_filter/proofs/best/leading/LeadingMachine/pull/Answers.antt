@@ -1,6 +1,6 @@
 use Rattle.std.proofs.Common.{refl}
 use Rattle.ff_net.specs.Pasts.{gave_item}
-use Rattle.ff_node_filter.specs.best.Views.{quiet}
+use Rattle.ff_node_filter.specs.laws.best.Views.{quiet}
 use Rattle.ff_node_filter.proofs.BestLemmas.Moving.{moves}
 use Rattle.ff_node_filter.proofs.best.leading.LeadingMachine.pull.Goals as goal
 

@@ -1,4 +1,4 @@
-use Rattle.ff_node_mux.specs.merge.Fronts.{IsFirst}
+use Rattle.ff_node_mux.specs.laws.merge.Fronts.{IsFirst}
 use Rattle.ff_node_mux.proofs.merge.interleave.Interleave.first.Given as goal
 
 abbrev pub invariant-streams : goal.invariant-streams

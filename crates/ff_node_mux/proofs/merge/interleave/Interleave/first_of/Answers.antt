@@ -1,7 +1,7 @@
 use Rattle.std.proofs.Common.{◌≡◌, ◌∙◌, sym, ap, subst, arith, true, Option, ℕ}
 use Rattle.ff_node_mux.specs.merge.Merges.{is_some}
 use Rattle.ff_node_mux.specs.merge.Queues.{Waiting}
-use Rattle.ff_node_mux.specs.merge.Fronts.{waits_of, IsFirst}
+use Rattle.ff_node_mux.specs.laws.merge.Fronts.{waits_of, IsFirst}
 use Rattle.ff_node_mux.proofs.MergeLemmas.Placing.{waiting_there, some_by, none_by, none_of, some_from, first_skip, first_alone, first_new, first_kept}
 use Rattle.ff_node_mux.proofs.merge.interleave.Interleave.first_of.Goals as goal
 

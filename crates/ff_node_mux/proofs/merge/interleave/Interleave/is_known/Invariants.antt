@@ -1,5 +1,5 @@
 use Rattle.std.proofs.Common.{◌≡◌, true}
-use Rattle.ff_node_mux.specs.merge.Fronts.{known_to}
+use Rattle.ff_node_mux.specs.laws.merge.Fronts.{known_to}
 use Rattle.ff_node_mux.proofs.merge.interleave.Interleave.is_known.Given as goal
 
 abbrev pub invariant-streams : goal.invariant-streams

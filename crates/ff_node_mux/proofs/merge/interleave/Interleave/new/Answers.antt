@@ -5,7 +5,7 @@ use Rattle.ff_node_mux.specs.declared.merge.queue.PacketQueue.{PacketQueue}
 use Rattle.ff_frame.specs.declared.packet.Pkt.{Pkt}
 use Rattle.ff_filter.specs.declared.after.After.{After}
 use Rattle.ff_node_mux.specs.merge.Queues.{Waiting, waiting_of, no_packets}
-use Rattle.ff_node_mux.specs.merge.Fronts.{AreNew}
+use Rattle.ff_node_mux.specs.laws.merge.Fronts.{AreNew}
 use Rattle.ff_node_mux.proofs.MergeLemmas.Placing.{new_more}
 use Rattle.ff_node_mux.proofs.merge.interleave.Interleave.new.Goals as goal
 

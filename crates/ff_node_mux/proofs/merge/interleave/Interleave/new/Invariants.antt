@@ -1,5 +1,5 @@
 use Rattle.std.proofs.Common.{take}
-use Rattle.ff_node_mux.specs.merge.Fronts.{AreNew}
+use Rattle.ff_node_mux.specs.laws.merge.Fronts.{AreNew}
 use Rattle.ff_node_mux.proofs.merge.interleave.Interleave.new.Given as goal
 
 abbrev pub invariant-streams : goal.invariant-streams

@@ -3,12 +3,12 @@ use Rattle.std.specs.Result.{OnOk, OnErr}
 use Rattle.std.proofs.Common.{subst, sym}
 use Rattle.ff_stream.specs.Ports.{stream_at}
 use Rattle.ff_stream.specs.Stream.{still_open}
-use Rattle.ff_node_mux.specs.Muxers.{mux_stands}
+use Rattle.ff_node_mux.specs.laws.Muxers.{mux_stands}
 use Rattle.ff_net.specs.Pasts.{Past, fed}
 use Rattle.ff_net.specs.Ways.{AreValid}
 use Rattle.ff_run.specs.declared.build.part.Part.{Part}
-use Rattle.ff_run.specs.build.PartViews.{part_view}
-use Rattle.ff_run.specs.build.Throughs.{through_shown}
+use Rattle.ff_run.specs.laws.build.PartViews.{part_view}
+use Rattle.ff_run.specs.laws.build.Throughs.{through_shown}
 use Rattle.ff_run.proofs.build.part.PartMachine.feed.Goals as goal
 
 pub returns-in-Mux-clause-accepted : goal.returns-in-Mux-clause-accepted

@@ -1,12 +1,12 @@
-use Rattle.ff_run.specs.build.PartViews.{part_view}
+use Rattle.ff_run.specs.laws.build.PartViews.{part_view}
 use Rattle.ff_run.specs.declared.build.part.Part.{Part}
 use Rattle.ff_net.specs.Pasts.{Past}
 use Rattle.std.proofs.Common.{subst, sym}
 use Rattle.std.specs.Result.{OnErr}
-use Rattle.ff_node_demux.specs.Demuxers.{demux_stands}
-use Rattle.ff_node_demux.specs.gens.Generators.{gen_stands}
-use Rattle.ff_source.specs.Left.{left as frames_left}
-use Rattle.ff_run.specs.build.Throughs.{through_shown}
+use Rattle.ff_node_demux.specs.laws.Demuxers.{demux_stands}
+use Rattle.ff_node_demux.specs.laws.gens.Generators.{gen_stands}
+use Rattle.ff_source.specs.laws.Left.{left as frames_left}
+use Rattle.ff_run.specs.laws.build.Throughs.{through_shown}
 use Rattle.ff_run.proofs.build.part.PartMachine.pull.Goals as goal
 
 pub returns-in-Demux-clause-gives : goal.returns-in-Demux-clause-gives

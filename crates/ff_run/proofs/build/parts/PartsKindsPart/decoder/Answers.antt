@@ -1,7 +1,7 @@
 use Rattle.std.specs.Prelude.{Option}
 use Rattle.std.proofs.Common.{subst}
-use Rattle.ff_node_codec.specs.codecs.AnyCoders.{any_head, any_frame}
-use Rattle.ff_node_codec.specs.Coders.{dec_stands}
+use Rattle.ff_node_codec.specs.laws.codecs.AnyCoders.{any_head, any_frame}
+use Rattle.ff_node_codec.specs.laws.Coders.{dec_stands}
 use Rattle.ff_node_codec.specs.Decoding.{dec_task}
 use Rattle.ff_stream.specs.declared.item.Item.{Item}
 use Rattle.ff_net.specs.Pasts.{start}

@@ -4,9 +4,9 @@ use Rattle.ff_stream.specs.declared.item.Lane.TheVariants.{Frames}
 use Rattle.ff_frame.specs.declared.head.StreamHead.{StreamHead}
 use Rattle.ff_graph.specs.composed.Cuts.{graph_outs, graph_task}
 use Rattle.ff_net.specs.Pasts.{start}
-use Rattle.ff_net.specs.Views.{View}
+use Rattle.ff_net.specs.laws.Views.{View}
 use Rattle.ff_run_plan.specs.Kinds.{IsNew}
-use Rattle.ff_run.specs.build.Graphs.{are_heard, are_timed}
+use Rattle.ff_run.specs.laws.build.Graphs.{are_heard, are_timed}
 use Rattle.ff_run.specs.build.Parts.{told_graph}
 use Rattle.ff_run.proofs.BuildLemmas.Leads.{shown_as, two_steps}
 use Rattle.ff_run.proofs.build.parts.PartsKindsPart.graph.Goals as goal

@@ -1,12 +1,12 @@
 use Rattle.std.specs.Prelude.{◌≡◌, ◌+◌, ◌<◌, ◌≤◌, ℕ, zero, suc, List, [], ◌∷◌, length, Option, IsSome, replicate}
 use Rattle.std.proofs.Common.{ap, refl, arith, inl, inr, subst, sym, ◌∙◌}
-use Rattle.ff_node_codec.specs.codecs.AnyCoders.{any_head, any_coded}
+use Rattle.ff_node_codec.specs.laws.codecs.AnyCoders.{any_head, any_coded}
 use Rattle.ff_node_flac.specs.Coding.{coded_head}
 use Rattle.ff_stream.specs.declared.item.Lane.{Lane}
 use Rattle.ff_stream.specs.declared.item.Lane.TheVariants.{Frames, Packets}
 use Rattle.ff_stream.specs.Ports.{stream_at}
-use Rattle.ff_node_mux.specs.Held.{part_by}
-use Rattle.ff_node_mux.specs.Mixing.{bases_long}
+use Rattle.ff_node_mux.specs.laws.Held.{part_by}
+use Rattle.ff_node_mux.specs.laws.Mixing.{bases_long}
 use Rattle.ff_node_mux.specs.Muxing.{head_bases, head_lanes}
 use Rattle.ff_mux.specs.writers.AnyWriters.{layout_of}
 use Rattle.ff_node_mux.specs.StreamEvents.{stream_events}
@@ -15,7 +15,7 @@ use Rattle.ff_frame.specs.declared.head.StreamHead.{StreamHead}
 use Rattle.ff_run_plan.specs.Kinds.{AreOneStream, IsEndOf, IsSinkOf}
 use Rattle.ff_run.specs.declared.build.part.Part.{Part}
 use Rattle.ff_run.specs.build.Parts.{all_kinds, options_of}
-use Rattle.ff_run.specs.build.PartViews.{part_view}
+use Rattle.ff_run.specs.laws.build.PartViews.{part_view}
 use Rattle.ff_run.proofs.BuildLemmas.Sinks.{file_first, head_there, same_events, text_first}
 use Rattle.ff_run.proofs.build.parts.PartsKindsPart.into_ends.Goals as goal
 

@@ -1,0 +1,4 @@
+pub mod ChannelLaws
+pub mod Ends
+pub mod LastingLaws
+pub mod TrimLaws

@@ -1,0 +1,4 @@
+pub mod Hosts
+pub mod Inputs
+pub mod Runs
+pub mod Targets

@@ -1,0 +1,7 @@
+pub mod Held
+pub mod Inlets
+pub mod LimitLaws
+pub mod Limits
+pub mod Sound
+pub mod StepperLaws
+pub mod spread

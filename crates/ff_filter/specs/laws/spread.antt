@@ -1,0 +1,5 @@
+pub mod LineLaws
+pub mod Lines
+pub mod Many
+pub mod SpreadLaws
+pub mod Valid

@@ -1,0 +1,7 @@
+pub mod BlockLaws
+pub mod HandedOver
+pub mod HeadLaws
+pub mod Info
+pub mod Joins
+pub mod SoundLaws
+pub mod Units

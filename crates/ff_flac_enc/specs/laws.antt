@@ -1,0 +1,5 @@
+pub mod Blocks
+pub mod Choice
+pub mod Cuts
+pub mod Shape
+pub mod Signal

@@ -1,0 +1,9 @@
+pub mod Bounds
+pub mod Facts
+pub mod Front
+pub mod Gives
+pub mod Parts
+pub mod Passed
+pub mod Restoring
+pub mod Rules
+pub mod Types

@@ -1,0 +1,5 @@
+pub mod Leads
+pub mod Outlook
+pub mod Part
+pub mod Plan
+pub mod rice

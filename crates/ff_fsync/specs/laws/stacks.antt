@@ -1,0 +1,4 @@
+pub mod Examples
+pub mod Limits
+pub mod Stacked
+pub mod StackedLaws

@@ -1,0 +1,4 @@
+pub mod Begun
+pub mod Opens
+pub mod Tally
+pub mod memory

@@ -1,0 +1,16 @@
+pub mod ConcatBreaks
+pub mod ConcatExamples
+pub mod ConcatLaws
+pub mod JoinBreaks
+pub mod JoinCuts
+pub mod JoinDrawing
+pub mod JoinExamples
+pub mod JoinLaws
+pub mod JoinRule
+pub mod JoinSeen
+pub mod JoinShapes
+pub mod JoinedLaws
+pub mod LotLaws
+pub mod Lots
+pub mod SegmentLaws
+pub mod Segmented

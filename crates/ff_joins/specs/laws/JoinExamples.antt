@@ -1,0 +1,22 @@
+-- A worked example of streams side by side.
+use Rattle.std.specs.Prelude.{◌≡◌, ℕ, ℤ, pos, List, [], ◌∷◌, refl}
+use Rattle.ff_frame.specs.Frame.{audio_frame}
+use Rattle.ff_stream.specs.declared.item.Item.{Item}
+use Rattle.ff_stream.specs.declared.item.Item.TheVariants.{Audio}
+use Rattle.ff_filter.specs.Joins.{Flow}
+use Rattle.ff_joins.specs.Joined.{side_to_side}
+use Rattle.ff_joins.specs.laws.ConcatExamples.{all_of, two_whole}
+
+-- sound of so many channels from this time on
+abbrev pub sound_at : ℕ → ℕ → List ℤ → Item
+sound_at start channels samples = Audio (audio_frame (pos start) 48000 16 channels samples)
+
+abbrev pub one_channel : ℕ → ℕ
+one_channel p = 1
+
+abbrev pub all_sound : Item → Flow
+all_sound x = all_of (x ∷ [])
+
+pub mono_joined : (a b x y z : ℤ)
+    → side_to_side 1 one_channel 48000 16 2 (two_whole (sound_at 5 1 (a ∷ b ∷ [])) (sound_at 0 1 (x ∷ y ∷ z ∷ []))) ≡ all_sound (sound_at 5 2 (a ∷ x ∷ b ∷ y ∷ []))
+mono_joined a b x y z = refl

@@ -1,0 +1,4 @@
+pub mod FlacLaws
+pub mod Hashers
+pub mod Puts
+pub mod writers

@@ -1,0 +1,2 @@
+pub mod FlacWritten
+pub mod Writers

@@ -1,0 +1,11 @@
+pub mod Laws
+pub mod Logs
+pub mod Nodes
+pub mod Ports
+pub mod Serial
+pub mod Silence
+pub mod Steps
+pub mod Theorem
+pub mod Turns
+pub mod Views
+pub mod Worlds

@@ -1,0 +1,5 @@
+pub mod Networks
+pub mod Nodes
+pub mod Runs
+pub mod Scheduling
+pub mod Tables

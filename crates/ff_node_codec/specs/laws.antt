@@ -1,0 +1,15 @@
+pub mod Coders
+pub mod CodingLaws
+pub mod CutFrames
+pub mod DecodeLaws
+pub mod EncodeLaws
+pub mod Feeding
+pub mod Kinds
+pub mod Lines
+pub mod MakingLaws
+pub mod Puts
+pub mod SpreadLaws
+pub mod Standing
+pub mod Steps
+pub mod Taken
+pub mod codecs

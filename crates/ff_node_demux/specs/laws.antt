@@ -1,0 +1,8 @@
+pub mod DemuxClaims
+pub mod DemuxLaws
+pub mod DemuxShapes
+pub mod DemuxViews
+pub mod Demuxers
+pub mod Reading
+pub mod SourceLaws
+pub mod gens

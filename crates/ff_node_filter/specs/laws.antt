@@ -1,0 +1,4 @@
+pub mod AloneLaws
+pub mod Alones
+pub mod StandLaws
+pub mod best

@@ -1,0 +1,9 @@
+pub mod CodingLaws
+pub mod EncoderLaws
+pub mod Encoders
+pub mod FilesRead
+pub mod Gathering
+pub mod Kept
+pub mod Machines
+pub mod Queues
+pub mod Steps

@@ -1,0 +1,11 @@
+pub mod Feeding
+pub mod Growing
+pub mod Held
+pub mod Kinds
+pub mod Mixing
+pub mod MuxLaws
+pub mod Muxers
+pub mod Sizes
+pub mod TaskLaws
+pub mod Writing
+pub mod merge

@@ -1,0 +1,6 @@
+pub mod Alike
+pub mod Fronting
+pub mod Fronts
+pub mod MergeLaws
+pub mod Ordered
+pub mod Orders

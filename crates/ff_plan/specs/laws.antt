@@ -1,0 +1,9 @@
+pub mod EndFits
+pub mod Examples
+pub mod GraphFits
+pub mod Laws
+pub mod NodeRows
+pub mod Numbering
+pub mod Sound
+pub mod StartFits
+pub mod Taken

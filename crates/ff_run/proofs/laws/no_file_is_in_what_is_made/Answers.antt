@@ -1,6 +1,0 @@
-use Rattle.ff_run.specs.Meaning.{job_means}
-use Rattle.ff_command.proofs.Answers.{alone_means}
-use Rattle.ff_run.proofs.laws.no_file_is_in_what_is_made.Goals as goal
-
-pub returns : goal.returns
-returns c = λ job none files output. alone_means job_means job none files output

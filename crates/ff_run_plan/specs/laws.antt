@@ -1,0 +1,4 @@
+pub mod Accepting
+pub mod Claims
+pub mod Rooms
+pub mod Runs

@@ -1,0 +1,9 @@
+pub mod Answers
+pub mod Laws
+pub mod Passes
+pub mod Passing
+pub mod Plain
+pub mod Routes
+pub mod Rule
+pub mod Words
+pub mod Writing

@@ -1,0 +1,4 @@
+pub mod ChunkLaws
+pub mod HeadLaws
+pub mod Sound
+pub mod SoundLaws
