@@ -27,7 +27,8 @@ use Rattle.ff_vfilter.specs.declared.showing.Ahead.TheVariants as ahead
 use Rattle.ff_vfilter.specs.declared.showing.Showing.{Showing}
 use Rattle.ff_vfilter.specs.declared.span.Span.{Span}
 use Rattle.ff_vfilter.specs.laws.RateCuts.{span_by, span_of, span_at, span_then, span_ahead, is_end, is_late, is_cut}
-use Rattle.ff_vfilter.specs.Rates.{Held, number_of, shown, shows, shows_to_end, rate_step, rated}
+use Rattle.ff_vfilter.specs.Rates.{number_of, shown}
+use Rattle.ff_vfilter.specs.laws.RateSteps.{Held, shows, shows_to_end, rate_step, rated}
 use Rattle.ff_vfilter.specs.laws.RateViews.{ahead_then}
 
 -- so many pictures from a number on --------------------------------------------------------------------------------------

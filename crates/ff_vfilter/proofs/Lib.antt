@@ -2,6 +2,7 @@ pub mod Cutting
 pub mod Evenly
 pub mod RateStart
 pub mod Keeping
+pub mod LastFrames
 pub mod RateShape
 pub mod Rating
 pub mod Resizing

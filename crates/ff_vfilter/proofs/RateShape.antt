@@ -13,10 +13,13 @@ use Rattle.ff_stream.specs.declared.item.Lane.{Lane}
 use Rattle.ff_stream.specs.declared.item.Lane.TheVariants.{Frames}
 use Rattle.ff_stream.specs.Lanes.{IsItemFor, Follows, InOrder}
 use Rattle.ff_stream.specs.Stream.{Mark, still_open, whole, broken}
+use Rattle.ff_filter.specs.Joins.{Flow}
 use Rattle.ff_filter.specs.Runs.{run_at}
 use Rattle.ff_filter.specs.laws.Sound.{IsSound}
 use Rattle.ff_vfilter.specs.declared.scale.Scale.{Scale}
-use Rattle.ff_vfilter.specs.Rates.{Held, number_of, end_number, shown, shows, shows_to_end, rate_step, rated, none_held}
+use Rattle.ff_vfilter.specs.Rates.{number_of, end_number, shown, even}
+use Rattle.ff_vfilter.specs.laws.RateSteps.{Held, shows, shows_to_end, rate_step, rated, none_held}
+use Rattle.ff_vfilter.proofs.Evenly.{steps_are_even}
 
 module _ (scale : Scale) (tb base : Fraction) (format : Format) (width height sar_num sar_den : ℕ) where
   abbrev came : Lane
@@ -123,10 +126,13 @@ module _ (scale : Scale) (tb base : Fraction) (format : Format) (width height sa
   stays_unbroken h (End ∷ xs) m = stays_unbroken h xs m
   stays_unbroken h (Broken ∷ xs) m = stays_unbroken h xs m
 
-  pub rate_sound : IsSound came given (λ s. rated scale none_held s)
-  rate_sound = record {
+  steps_sound : IsSound came given (λ s. rated scale none_held s)
+  steps_sound = record {
     shape = λ s v.
         let a = all_numbered s.items s.mark v.shape.each in
         record { each = each_so a.0 (rated scale none_held s).items a.1; in_order = order_so a.0 (rated scale none_held s).items a.1 };
     unbroken = λ s v u. subst (λ (m : Mark). m ≡ broken → ⊥) (sym (stays_unbroken none_held s.items s.mark)) u;
   }
+
+  pub rate_sound : IsSound came given (λ s. even scale s)
+  rate_sound = subst (λ (f : Flow → Flow). IsSound came given f) (steps_are_even scale) steps_sound

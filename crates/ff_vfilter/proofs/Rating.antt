@@ -19,7 +19,8 @@ use Rattle.ff_vfilter.specs.declared.scale.Scale.{Scale}
 use Rattle.ff_vfilter.specs.declared.showing.Ahead.{Ahead}
 use Rattle.ff_vfilter.specs.declared.showing.Ahead.TheVariants as ahead
 use Rattle.ff_vfilter.specs.declared.showing.Showing.{Showing}
-use Rattle.ff_vfilter.specs.Rates.{number_of, end_number, shown, shows, number_from, rated}
+use Rattle.ff_vfilter.specs.Rates.{number_of, end_number, shown}
+use Rattle.ff_vfilter.specs.laws.RateSteps.{shows, number_from, rated}
 use Rattle.ff_vfilter.specs.laws.RateViews.{ahead_then, still_shown, limit_of, rate_view, Shown}
 
 module _ (s : Scale) where

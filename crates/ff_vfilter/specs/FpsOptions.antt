@@ -1,10 +1,9 @@
 -- `fps` by its arguments.
-use Rattle.std.specs.Prelude.{◌≡◌, ℕ, Bool, false, List, [], ◌∷◌, codes, Result, Ok}
+use Rattle.std.specs.Prelude.{◌≡◌, ℕ, false, List, [], ◌∷◌, codes, Result, Ok}
 use Rattle.ff_time.specs.Digits.{IsRate}
 use Rattle.ff_time.specs.Fraction.{Fraction}
 use Rattle.ff_frame.specs.declared.config.ConfigError.{ConfigError}
 use Rattle.ff_frame.specs.declared.head.StreamHead.{StreamHead}
-use Rattle.ff_frame.specs.declared.head.StreamHead.TheVariants.{Audio, Video}
 use Rattle.ff_frame.specs.Heads.{base_of_head}
 use Rattle.ff_stream.specs.declared.item.Lane.TheVariants.{Frames}
 use Rattle.ff_stream.specs.Within.{within, passes_limits}
@@ -13,7 +12,7 @@ use Rattle.ff_lang.specs.declared.graph.Arg.{Arg}
 use Rattle.ff_filter.specs.Views.{View}
 use Rattle.ff_filter.specs.Options.{Manual, is_video, IsConfigured}
 use Rattle.ff_vfilter.specs.declared.fps.FpsSettings.{FpsSettings}
-use Rattle.ff_vfilter.specs.Rates.{rated, none_held}
+use Rattle.ff_vfilter.specs.Rates.{even}
 
 -- `fps` is N or N/D pictures a second
 abbrev pub SetsFps : List ℕ → FpsSettings → Type 0
@@ -38,7 +37,7 @@ abbrev pub fps_view : StreamHead × Fraction → View
 fps_view m = record {
   ins = Frames m.0 ∷ [];
   outs = Frames (fps_head m) ∷ [];
-  rest = λ ext q. within (passes_limits (Frames (fps_head m))) (rated (record { from = base_of_head m.0; to = m.1 }) none_held (ext 0));
+  rest = λ ext q. within (passes_limits (Frames (fps_head m))) (even (record { from = base_of_head m.0; to = m.1 }) (ext 0));
   shut = λ p. false;
   ended = λ q. false;
   stopped = λ q. false;

@@ -1,7 +1,9 @@
+pub mod LastFrames
 pub mod LastingLaws
 pub mod RateCuts
 pub mod RateLaws
 pub mod RateSeen
 pub mod RateSpent
+pub mod RateSteps
 pub mod RateViews
 pub mod TrimLaws

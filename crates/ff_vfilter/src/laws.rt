@@ -1,5 +1,5 @@
 //! Laws of the filters' functions: functions that do nothing, whose clauses hold of all values.
-ghost use Rattle.std.specs.Prelude.{◌≡◌, ◌*◌, ℕ, List, None, pos};
+ghost use Rattle.std.specs.Prelude.{◌≡◌, ◌*◌, ◌∷◌, ℕ, List, None, pos};
 ghost use Rattle.ff_time.specs.Fraction.{Fraction, IsBase};
 ghost use Rattle.ff_time.specs.Rescale.{IsRescaled};
 ghost use Rattle.ff_frame.specs.declared.head.StreamHead.TheVariants.{Video as VideoHead};
@@ -14,7 +14,9 @@ ghost use Rattle.ff_stream.specs.Ports.{stream_at};
 ghost use Rattle.ff_filter.specs.Joins.{Flow};
 ghost use Rattle.ff_filter.specs.Shifts.{shifted};
 ghost use Rattle.ff_vfilter.specs.declared.scale.Scale.{Scale};
-ghost use Rattle.ff_vfilter.specs.Rates.{even, nearest, none_held, rated};
+ghost use Rattle.ff_vfilter.specs.Rates.{even, known_below, nearest, pictures_of, shown_at};
+ghost use Rattle.ff_vfilter.specs.laws.LastFrames.{last_by, last_number};
+ghost use Rattle.ff_vfilter.specs.laws.RateSteps.{none_held, rated};
 ghost use Rattle.ff_planes.specs.declared.rectangle.Rectangle.{Rectangle as Part};
 ghost use Rattle.ff_planes.specs.Parts.{IsPart};
 ghost use Rattle.ff_vfilter.specs.Pictures.{repainted};
@@ -70,12 +72,19 @@ pub fn pictures_keep_the_broken_rule()
         → KeepsBrokenRule (λ (ss : List Flow). IsValid lane (stream_at ss 0)) (λ (ss : List Flow). even scale (stream_at ss 0)) }
 {}
 
-/// At an even rate number n shows the last frame whose own number is at most n. A number is the time rescaled to the
-/// nearest, halves upwards.
+/// At an even rate of a valid stream number n shows the last frame whose own number is at most n. Numbers go up to the
+/// last frame's own, on a whole stream to the one at its end. A number is the time rescaled to the nearest, halves
+/// upwards. Of each stream, valid or not, the steps frame by frame give the same as the definition.
 pub fn pictures_at_an_even_rate()
-    ensures even { (scale : Scale) → IsBase scale.from → IsBase scale.to
-        → (tb : Fraction) (format : Format) (width height sar_num sar_den : ℕ) (t : Flow)
-        → IsValid (Frames (VideoHead tb format width height sar_num sar_den)) t → rated scale none_held t ≡ even scale t }
+    ensures last { (scale : Scale) → IsBase scale.from → IsBase scale.to
+        → (tb : Fraction) (format : Format) (width height sar_num sar_den : ℕ) (t : Flow) (f : VFrame) (gs : List VFrame)
+        → IsValid (Frames (VideoHead tb format width height sar_num sar_den)) t → pictures_of t.items ≡ f ∷ gs
+        → (n : ℕ) → shown_at scale n f gs ≡ last_by scale n f gs }
+    ensures known { (scale : Scale) → IsBase scale.from → IsBase scale.to
+        → (tb : Fraction) (format : Format) (width height sar_num sar_den : ℕ) (t : Flow) (f : VFrame) (gs : List VFrame)
+        → IsValid (Frames (VideoHead tb format width height sar_num sar_den)) t → pictures_of t.items ≡ f ∷ gs
+        → known_below scale f gs t.mark ≡ last_number scale f gs t.mark }
+    ensures steps { (scale : Scale) (t : Flow) → rated scale none_held t ≡ even scale t }
     ensures rescaled { (from to : Fraction) → IsBase from → IsBase to → (t : ℕ)
         → IsRescaled (pos t) from to (pos (nearest (t * (from.num * to.den)) (from.den * to.num))) }
 {}
@@ -85,5 +94,5 @@ pub fn pictures_at_an_even_rate()
 pub fn pictures_at_an_even_rate_are_sound()
     ensures { (scale : Scale) (tb base : Fraction) (format : Format) (width height sar_num sar_den : ℕ)
         → IsSound (Frames (VideoHead tb format width height sar_num sar_den)) (Frames (VideoHead base format width height sar_num sar_den))
-        (λ s. rated scale none_held s) }
+        (λ s. even scale s) }
 {}

@@ -27,7 +27,6 @@ use Rattle.ff_filter.specs.declared.range.Range.{Range}
 use Rattle.ff_filter.specs.Joins.{Flow, Ports}
 use Rattle.ff_filter.specs.Options.{is_sound, is_video}
 use Rattle.ff_filter.specs.Plain.{pass_view, rebase_view}
-use Rattle.ff_filter.specs.Runs.{run_below, run_calm}
 use Rattle.ff_filter.specs.Shifts.{shifted, shifted-below}
 use Rattle.ff_filter.specs.Singles.{single_view}
 use Rattle.ff_filter.specs.laws.Sound.{IsSound}
@@ -46,9 +45,10 @@ use Rattle.ff_vfilter.specs.FpsOptions.{fps_view}
 use Rattle.ff_vfilter.specs.HFlips.{hflip_frame, hflip_view}
 use Rattle.ff_vfilter.specs.VFlips.{vflip_frame, vflip_view}
 use Rattle.ff_vfilter.specs.Pictures.{repainted, repainted-below}
-use Rattle.ff_vfilter.specs.Rates.{Held, rate_step, shows_to_end, rated, none_held}
+use Rattle.ff_vfilter.specs.Rates.{even}
 use Rattle.ff_vfilter.specs.Trims.{lasting_trimmed, at_once, trim_view}
 use Rattle.ff_vfilter.specs.laws.LastingLaws.{lasting-below, lasting-calm}
+use Rattle.ff_vfilter.proofs.Evenly.{even_below, even_calm}
 use Rattle.ff_vfilter.proofs.Keeping.{hflip_sound, vflip_sound, crop_sound, pad_sound}
 use Rattle.ff_vfilter.proofs.TrimSound.{lasting_sound}
 use Rattle.ff_vfilter.proofs.RateShape.{rate_sound}
@@ -173,10 +173,8 @@ pub fps_owes : (head : StreamHead) (base : Fraction) → is_video head ≡ true 
 fps_owes (Audio tb rate bits channels codec) base k = cc
 fps_owes (Video tb format width height sar_num sar_den) base k =
     let scale : Scale = record { from = tb; to = base } in
-    let finish : Held → List Item = λ g. shows_to_end scale g.picture g.number in
-    single_owes (Frames (Video tb format width height sar_num sar_den)) (Video base format width height sar_num sar_den) (λ s. rated scale none_held s) More (λ e. cc)
-    (λ r s h. run_below (rate_step scale) finish none_held r s h) (λ r. run_calm (rate_step scale) finish none_held r)
-    (rate_sound scale tb base format width height sar_num sar_den)
+    single_owes (Frames (Video tb format width height sar_num sar_den)) (Video base format width height sar_num sar_den) (λ s. even scale s) More (λ e. cc)
+    (even_below scale) (even_calm scale) (rate_sound scale tb base format width height sar_num sar_den)
 
 -- ---- several outputs
 

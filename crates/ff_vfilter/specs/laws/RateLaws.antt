@@ -20,7 +20,7 @@ use Rattle.ff_vfilter.specs.declared.scale.Scale.{Scale}
 use Rattle.ff_vfilter.specs.declared.showing.Ahead.{Ahead}
 use Rattle.ff_vfilter.specs.declared.showing.Ahead.TheVariants as ahead
 use Rattle.ff_vfilter.specs.declared.showing.Showing.{Showing}
-use Rattle.ff_vfilter.specs.Rates.{Held, rate_step, shows_to_end, rated}
+use Rattle.ff_vfilter.specs.laws.RateSteps.{Held, rate_step, shows_to_end, rated}
 use Rattle.ff_vfilter.specs.laws.RateViews.{ahead_then, still_shown, rate_view}
 
 ahead_below : (a : Ahead) (r s : Flow) → LiesBelow r s → LiesBelow (ahead_then a r) (ahead_then a s)

@@ -1,8 +1,8 @@
 -- The machine of an even rate, as it is seen, and when its input is spent.
-use Rattle.std.specs.Prelude.{◌≡◌, Bool, true, false, ◌||◌, None, []}
+use Rattle.std.specs.Prelude.{◌≡◌, Bool, ◌||◌, None, []}
 use Rattle.ff_stream.specs.declared.item.Lane.TheVariants.{Frames}
 use Rattle.ff_stream.specs.Ports.{nothing}
-use Rattle.ff_stream.specs.Stream.{Mark, still_open, whole, broken, has_closed}
+use Rattle.ff_stream.specs.Stream.{Mark, has_closed}
 use Rattle.ff_stream.specs.Within.{passes_limits}
 use Rattle.ff_filter.specs.laws.Limits.{limited}
 use Rattle.ff_filter.specs.Made.{waiting, is_over}

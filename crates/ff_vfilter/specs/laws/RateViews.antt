@@ -16,7 +16,8 @@ use Rattle.ff_vfilter.specs.declared.scale.Scale.{Scale}
 use Rattle.ff_vfilter.specs.declared.showing.Ahead.{Ahead}
 use Rattle.ff_vfilter.specs.declared.showing.Ahead.TheVariants as ahead
 use Rattle.ff_vfilter.specs.declared.showing.Showing.{Showing}
-use Rattle.ff_vfilter.specs.Rates.{number_of, end_number, shown, rated}
+use Rattle.ff_vfilter.specs.Rates.{number_of, end_number, shown}
+use Rattle.ff_vfilter.specs.laws.RateSteps.{rated}
 
 abbrev pub ahead_then : Ahead → Flow → Flow
 ahead_then ahead.Unknown t = t

@@ -1,4 +1,4 @@
-use Rattle.std.proofs.Common.{◌≡◌, inr, refl, subst}
+use Rattle.std.proofs.Common.{inr, refl, subst}
 use Rattle.ff_time.specs.Fraction.{Fraction}
 use Rattle.ff_filter.specs.Options.{is_video, AreSet}
 use Rattle.ff_filter.proofs.Configuring.{configured, refused, made_of_both}

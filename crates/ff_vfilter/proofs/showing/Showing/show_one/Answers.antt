@@ -2,7 +2,8 @@ use Rattle.std.proofs.Common.{◌≡◌, ◌+◌, Some, refl, ap, sym, ◌∙◌
 use Rattle.ff_frame.specs.declared.video.VFrame.{VFrame}
 use Rattle.ff_stream.specs.declared.item.Item.{Item}
 use Rattle.ff_filter.specs.Joins.{before}
-use Rattle.ff_vfilter.specs.Rates.{shown, rated}
+use Rattle.ff_vfilter.specs.Rates.{shown}
+use Rattle.ff_vfilter.specs.laws.RateSteps.{rated}
 use Rattle.ff_vfilter.specs.laws.RateViews.{ahead_then}
 use Rattle.ff_vfilter.proofs.Rating.{shows_once}
 use Rattle.ff_vfilter.proofs.showing.Showing.show_one.Goals as goal
