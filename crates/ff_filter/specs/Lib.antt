@@ -3,7 +3,6 @@ pub mod Made
 pub mod Options
 pub mod Plain
 pub mod Ranges
-pub mod Runs
 pub mod Shifts
 pub mod Singles
 pub mod Views

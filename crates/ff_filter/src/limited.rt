@@ -3,7 +3,7 @@ ghost use Rattle.std.specs.Prelude.{◌≡◌, ◌≤◌, ◌^◌};
 ghost use Rattle.ff_stream.specs.Within.{passes_limits};
 ghost use Rattle.ff_stream.specs.declared.item.Lane.TheVariants.{Frames};
 ghost use Rattle.ff_filter.specs.Views.{closes};
-ghost use Rattle.ff_filter.specs.Runs.{run_below, run_calm, run_settles, no_more};
+ghost use Rattle.ff_filter.specs.laws.Runs.{run_below, run_calm, run_settles, no_more};
 ghost use Rattle.ff_filter.specs.laws.Limits.{limit_step, limited};
 ghost use Rattle.ff_filter.specs.laws.LimitLaws.{limited-waits, limited-ends, limited-breaks, limited-below, limited-calm, limited-settles};
 

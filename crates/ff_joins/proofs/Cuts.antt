@@ -17,7 +17,7 @@ use Rattle.ff_filter.specs.declared.after.After.TheVariants.{More, Whole, Broke}
 use Rattle.ff_filter.specs.Joins.{Flow, silence, joined}
 use Rattle.ff_filter.specs.laws.Limits.{limit_step}
 use Rattle.ff_filter.specs.Made.{is_over}
-use Rattle.ff_filter.specs.Runs.{run_at, no_more}
+use Rattle.ff_filter.specs.laws.Runs.{run_at, no_more}
 use Rattle.ff_joins.specs.declared.join.Join.{Join}
 use Rattle.ff_joins.specs.declared.sound_inlet.SoundInlet.{SoundInlet}
 use Rattle.ff_joins.specs.Joined.{Row, row_stream, rows_to, join_mark, frames_in, frame_at, frames_to, flattened}

@@ -9,7 +9,7 @@ use Rattle.ff_filter.specs.declared.after.After.TheVariants.{More, Whole, Broke}
 use Rattle.ff_filter.specs.Joins.{Flow, Ports, one, before, before_all, before_all-last, joined}
 use Rattle.ff_filter.specs.Views.{closes}
 use Rattle.ff_filter.specs.Made.{waiting, is_over}
-use Rattle.ff_filter.specs.Runs.{no_more}
+use Rattle.ff_filter.specs.laws.Runs.{no_more}
 use Rattle.ff_filter.specs.laws.Limits.{limit_step, limited, run_next}
 use Rattle.ff_joins.specs.Concats.{later, onward}
 use Rattle.ff_joins.specs.laws.ConcatLaws.{data_before, later-closes, onward-next}

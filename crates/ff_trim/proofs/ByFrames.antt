@@ -9,7 +9,7 @@ use Rattle.ff_stream.specs.Stream.{Mark, still_open, whole, broken}
 use Rattle.ff_filter.specs.declared.range.Range.{Range}
 use Rattle.ff_filter.specs.Joins.{Flow, joined}
 use Rattle.ff_filter.specs.Ranges.{is_past}
-use Rattle.ff_filter.specs.Runs.{run, run_at, no_more}
+use Rattle.ff_filter.specs.laws.Runs.{run, run_at, no_more}
 use Rattle.ff_filter.specs.Shifts.{earlier, start_ticks}
 use Rattle.ff_vfilter.specs.Trims.{from_start, before_stop, reaches}
 use Rattle.ff_afilter.specs.Trims.{kept as sound_kept, kept_all, ends_past, reaches as sound_reaches}

@@ -23,7 +23,7 @@ ghost use Rattle.ff_trim.specs.Cuts.{counted, cut, cut_each, from_range, is_empt
 ghost use Rattle.ff_trim.specs.declared.counted.OutputCut.{OutputCut};
 ghost use Rattle.ff_trim.specs.laws.Frames.{cut_step};
 ghost use Rattle.ff_trim.specs.laws.Taps.{IsCutting};
-ghost use Rattle.ff_filter.specs.Runs.{run, no_more};
+ghost use Rattle.ff_filter.specs.laws.Runs.{run, no_more};
 ghost use Rattle.ff_filter.specs.Views.{View};
 ghost use Rattle.ff_filter.specs.declared.range.Range.{Range};
 ghost use Rattle.ff_trim.specs.laws.Rules.{by_rule};

@@ -19,7 +19,7 @@ use Rattle.ff_filter.specs.declared.after.After.TheVariants.{More, Whole, Broke}
 use Rattle.ff_filter.specs.Joins.{Flow, one, before, before_all, joined}
 use Rattle.ff_filter.specs.laws.Limits.{limited, limit_step}
 use Rattle.ff_filter.specs.Made.{waiting, is_over}
-use Rattle.ff_filter.specs.Runs.{run_at, no_more}
+use Rattle.ff_filter.specs.laws.Runs.{run_at, no_more}
 use Rattle.ff_filter.specs.Views.{none_closes}
 use Rattle.ff_vfilter.specs.declared.scale.Scale.{Scale}
 use Rattle.ff_vfilter.specs.declared.showing.Ahead.{Ahead}

@@ -7,7 +7,7 @@ use Rattle.ff_stream.specs.declared.item.Item.{Item}
 use Rattle.ff_stream.specs.declared.item.Item.TheVariants.{Audio, Video, Packet, Trailer, End, Broken}
 use Rattle.ff_stream.specs.Stream.{Mark, still_open, whole, broken, LiesBelow, opened, opened_mark}
 use Rattle.ff_filter.specs.Joins.{Flow}
-use Rattle.ff_filter.specs.Runs.{run_at, run_below, run_calm}
+use Rattle.ff_filter.specs.laws.Runs.{run_at, run_below, run_calm}
 use Rattle.ff_vfilter.specs.declared.scale.Scale.{Scale}
 use Rattle.ff_vfilter.specs.Rates.{number_of, end_number, shown, pictures_of, shown_at, shown_from, known_below, evenly, even}
 use Rattle.ff_vfilter.specs.laws.RateSteps.{shows, Held, rate_step, shows_to_end, rated, none_held}
@@ -113,7 +113,8 @@ module _ (s : Scale) where
   runs_so f n (End ∷ xs) m le = runs_so f n xs m le
   runs_so f n (Broken ∷ xs) m le = runs_so f n xs m le
 
-  starts_so : (xs : List Item) (m : Mark) → run_at (rate_step s) (λ (h : Held). shows_to_end s h.picture h.number) none_held xs m ≡ stream_of (evenly s (pictures_of xs) m) m
+  starts_so : (xs : List Item) (m : Mark) → run_at (rate_step s) (λ (h : Held). shows_to_end s h.picture h.number) none_held xs m
+      ≡ stream_of (evenly s (pictures_of xs) m) m
   starts_so [] still_open = refl
   starts_so [] whole = refl
   starts_so [] broken = refl

@@ -136,7 +136,8 @@ module _ (s : Scale) (from_base : IsBase s.from) (to_base : IsBase s.to) (tb : F
   came = Frames (VideoHead tb format width height sar_num sar_den)
 
   lasts_so : (f : VFrame) → IsItemFor came (Video f) → number_of s f ≤ end_number s f
-  lasts_so f i = number_keeps s from_base to_base (ticks f.pts) (ticks (f.pts +ℤ f.duration)) (ticks_keep f.pts (f.pts +ℤ f.duration) (less_or f.pts (f.pts +ℤ f.duration) (i.lasts tt)))
+  lasts_so f i = number_keeps s from_base to_base (ticks f.pts) (ticks (f.pts +ℤ f.duration))
+      (ticks_keep f.pts (f.pts +ℤ f.duration) (less_or f.pts (f.pts +ℤ f.duration) (i.lasts tt)))
 
   valid_runs : (t : ℕ) (x : Item) (xs : List Item) → ((f : VFrame) → x ≡ Video f → t ≤ number_of s f) → All (IsItemFor came) (x ∷ xs)
       → InOrder came (x ∷ xs) → RunsFrom s t (pictures_of (x ∷ xs))

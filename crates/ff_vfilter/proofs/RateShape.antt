@@ -14,7 +14,7 @@ use Rattle.ff_stream.specs.declared.item.Lane.TheVariants.{Frames}
 use Rattle.ff_stream.specs.Lanes.{IsItemFor, Follows, InOrder}
 use Rattle.ff_stream.specs.Stream.{Mark, still_open, whole, broken}
 use Rattle.ff_filter.specs.Joins.{Flow}
-use Rattle.ff_filter.specs.Runs.{run_at}
+use Rattle.ff_filter.specs.laws.Runs.{run_at}
 use Rattle.ff_filter.specs.laws.Sound.{IsSound}
 use Rattle.ff_vfilter.specs.declared.scale.Scale.{Scale}
 use Rattle.ff_vfilter.specs.Rates.{number_of, end_number, shown, even}

@@ -72,9 +72,9 @@ pub fn pictures_keep_the_broken_rule()
         → KeepsBrokenRule (λ (ss : List Flow). IsValid lane (stream_at ss 0)) (λ (ss : List Flow). even scale (stream_at ss 0)) }
 {}
 
-/// At an even rate of a valid stream number n shows the last frame whose own number is at most n. Numbers go up to the
-/// last frame's own, on a whole stream to the one at its end. A number is the time rescaled to the nearest, halves
-/// upwards. Of each stream, valid or not, the steps frame by frame give the same as the definition.
+/// At an even rate of a valid stream number n shows the last frame whose own number is at most n. Numbers go to below
+/// the last frame's own, on a whole stream to below the one at its end. A number is the time rescaled to the nearest,
+/// halves upwards. Of each stream, valid or not, the steps frame by frame give the same as the definition.
 pub fn pictures_at_an_even_rate()
     ensures last { (scale : Scale) → IsBase scale.from → IsBase scale.to
         → (tb : Fraction) (format : Format) (width height sar_num sar_den : ℕ) (t : Flow) (f : VFrame) (gs : List VFrame)

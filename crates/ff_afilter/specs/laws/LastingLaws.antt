@@ -17,7 +17,7 @@ use Rattle.ff_filter.specs.Made.{made_of, listed_option}
 use Rattle.ff_filter.specs.laws.Limits.{run_next, single}
 use Rattle.ff_filter.specs.Ranges.{is_past}
 use Rattle.ff_filter.specs.lasting.Lastings.{later_of, stop_that_counts, lasting, range_same}
-use Rattle.ff_filter.specs.Runs.{Stepped, run, run_at, no_more, run_below, run_calm, run_settles}
+use Rattle.ff_filter.specs.laws.Runs.{Stepped, run, run_at, no_more, run_below, run_calm, run_settles}
 use Rattle.ff_filter.specs.Shifts.{start_ticks}
 use Rattle.ff_afilter.specs.Trims.{count_of, before_stop, kept, ends_past, sound_trimmed, after_if, ends_after, first_kept, sound_lasting}
 use Rattle.ff_afilter.specs.laws.TrimLaws.{trim_step, run_is, trim_gives}

@@ -12,7 +12,7 @@ use Rattle.ff_filter.specs.Joins.{Flow, before, joined}
 use Rattle.ff_filter.specs.Views.{closes}
 use Rattle.ff_filter.specs.Made.{made_of, listed_option}
 use Rattle.ff_filter.specs.laws.Limits.{run_next}
-use Rattle.ff_filter.specs.Runs.{Stepped, run, run_at, no_more, run_below, run_calm, run_settles}
+use Rattle.ff_filter.specs.laws.Runs.{Stepped, run, run_at, no_more, run_below, run_calm, run_settles}
 use Rattle.ff_afilter.specs.Trims.{kept, kept_all, ends_past, reaches, sound_trimmed, after_if}
 
 -- what one frame gives

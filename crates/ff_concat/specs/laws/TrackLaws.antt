@@ -19,7 +19,7 @@ use Rattle.ff_filter.specs.declared.after.After.TheVariants.{More, Whole, Broke}
 use Rattle.ff_filter.specs.Joins.{Flow, Ports, silence, one, before_all, before_all-keeps, before_all-opened, before_all-closed, Grows, HidesBreaks}
 use Rattle.ff_filter.specs.Views.{Settles, IsSpent, AllDone}
 use Rattle.ff_filter.specs.Made.{behind, is_over, waiting}
-use Rattle.ff_filter.specs.Runs.{no_more, run_below, run_calm, run_settles}
+use Rattle.ff_filter.specs.laws.Runs.{no_more, run_below, run_calm, run_settles}
 use Rattle.ff_filter.specs.laws.Limits.{limit_step, limited}
 use Rattle.ff_filter.specs.laws.StepperLaws.{behind_closed}
 use Rattle.ff_concat.specs.declared.reach.Reach.{Reach}

@@ -7,7 +7,7 @@ use Rattle.ff_stream.specs.Stream.{LiesBelow, opened}
 use Rattle.ff_stream.specs.Ports.{nothing, IsClosed}
 use Rattle.ff_stream.specs.laws.Order.{below_trans}
 use Rattle.ff_filter.specs.Joins.{Flow, one}
-use Rattle.ff_filter.specs.Runs.{no_more, run_below, run_calm, run_settles}
+use Rattle.ff_filter.specs.laws.Runs.{no_more, run_below, run_calm, run_settles}
 use Rattle.ff_filter.specs.laws.Limits.{limit_step, limited}
 
 module _ (passes : ℕ → Item → Bool) (n : ℕ) (runs : Flow → Flow) where

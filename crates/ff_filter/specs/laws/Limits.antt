@@ -10,7 +10,7 @@ use Rattle.ff_filter.specs.declared.after.After.TheVariants as after
 use Rattle.ff_filter.specs.Joins.{Flow, one, before, joined, joined_assoc}
 use Rattle.ff_filter.specs.Views.{closes}
 use Rattle.ff_filter.specs.Made.{made_of, mark_after}
-use Rattle.ff_filter.specs.Runs.{Stepped, run, run_at, no_more}
+use Rattle.ff_filter.specs.laws.Runs.{Stepped, run, run_at, no_more}
 
 abbrev pub limit_step : (ℕ → Item → Bool) → ℕ → Item → Stepped ℕ
 limit_step passes n x = record {

@@ -8,7 +8,7 @@ use Rattle.ff_stream.specs.Stream.{still_open, broken}
 use Rattle.ff_stream.specs.Within.{passes_limits}
 use Rattle.ff_filter.specs.Joins.{Flow, joined, before}
 use Rattle.ff_filter.specs.laws.Limits.{limited, limit_step, run_next}
-use Rattle.ff_filter.specs.Runs.{no_more}
+use Rattle.ff_filter.specs.laws.Runs.{no_more}
 use Rattle.ff_filter.specs.Views.{View, Same, Fed, Gave, Waits, Stopped, closes}
 use Rattle.ff_fsync.specs.laws.stacks.Limits.{limits_view}
 

@@ -15,7 +15,7 @@ use Rattle.ff_filter.specs.declared.after.After.TheVariants.{More, Whole, Broke}
 use Rattle.ff_filter.specs.Joins.{Flow, Ports, all_opened, Grows, HidesBreaks}
 use Rattle.ff_filter.specs.laws.Limits.{limited, limit_step}
 use Rattle.ff_filter.specs.Made.{is_over}
-use Rattle.ff_filter.specs.Runs.{no_more, run_below, run_calm, run_settles}
+use Rattle.ff_filter.specs.laws.Runs.{no_more, run_below, run_calm, run_settles}
 use Rattle.ff_filter.specs.laws.StepperLaws.{left_keeps, left_calm, left_closed, stepper-quiet}
 use Rattle.ff_filter.specs.Views.{View, Settles}
 use Rattle.ff_joins.specs.Joined.{Row, all_rows_of, row_stream, rows_to, rows_in, join_mark, joined_rows, first_start}

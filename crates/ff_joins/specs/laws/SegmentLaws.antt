@@ -15,7 +15,7 @@ use Rattle.ff_filter.specs.declared.inlet.Inlet.{Inlet}
 use Rattle.ff_filter.specs.Joins.{Flow, Ports, one, silence, before_all, before_all-keeps, before_all-opened, before_all-closed, Grows, HidesBreaks}
 use Rattle.ff_filter.specs.Views.{Settles, IsSpent, IsOver, AllDone}
 use Rattle.ff_filter.specs.Made.{behind, is_over, waiting, steps_spent}
-use Rattle.ff_filter.specs.Runs.{no_more, run_below, run_calm, run_settles}
+use Rattle.ff_filter.specs.laws.Runs.{no_more, run_below, run_calm, run_settles}
 use Rattle.ff_filter.specs.laws.Limits.{limit_step, limited}
 use Rattle.ff_filter.specs.laws.StepperLaws.{left_keeps, left_calm, left_closed, behind_closed, stepper-quiet, or_left, or_right, or_one}
 use Rattle.ff_joins.specs.declared.segments.Segments.{Segments}

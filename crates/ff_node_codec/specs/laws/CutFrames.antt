@@ -13,7 +13,7 @@ use Rattle.ff_stream.specs.Ports.{nothing, IsUnbroken}
 use Rattle.ff_stream.specs.Stream.{Mark, still_open, whole, broken, whole_stream, LiesBelow, opened}
 use Rattle.ff_filter.specs.declared.range.Range.{Range}
 use Rattle.ff_filter.specs.Joins.{joined, joined_at}
-use Rattle.ff_filter.specs.Runs.{run, run_at, rest_of, run_on, no_more}
+use Rattle.ff_filter.specs.laws.Runs.{run, run_at, rest_of, run_on, no_more}
 use Rattle.ff_net.specs.Ways.{Flow}
 use Rattle.ff_trim.specs.Cuts.{is_uncut, is_empty, range_in, from_range, kept, cut}
 use Rattle.ff_trim.specs.laws.Frames.{cut_step}

@@ -13,7 +13,7 @@ use Rattle.ff_filter.specs.declared.after.After.TheVariants.{More, Whole, Broke}
 use Rattle.ff_filter.specs.Joins.{Flow, one, joined}
 use Rattle.ff_filter.specs.Made.{made_of}
 use Rattle.ff_filter.specs.Views.{closes}
-use Rattle.ff_filter.specs.Runs.{Stepped, run, run_at, no_more, run_below, run_calm, run_settles}
+use Rattle.ff_filter.specs.laws.Runs.{Stepped, run, run_at, no_more, run_below, run_calm, run_settles}
 use Rattle.ff_trim.specs.declared.counted.FirstOf.{FirstOf}
 use Rattle.ff_trim.specs.Cuts.{first_frames, counted}
 use Rattle.ff_trim.specs.laws.Taps.{runs_of, runs_first}

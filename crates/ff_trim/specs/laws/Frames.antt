@@ -6,7 +6,7 @@ use Rattle.ff_stream.specs.declared.item.Item.{Item}
 use Rattle.ff_stream.specs.Stream.{still_open, whole}
 use Rattle.ff_filter.specs.declared.range.Range.{Range}
 use Rattle.ff_filter.specs.Ranges.{is_past}
-use Rattle.ff_filter.specs.Runs.{Stepped}
+use Rattle.ff_filter.specs.laws.Runs.{Stepped}
 use Rattle.ff_filter.specs.Shifts.{earlier, start_ticks}
 use Rattle.ff_afilter.specs.Trims.{kept as sound_kept, ends_past}
 

@@ -14,7 +14,7 @@ use Rattle.ff_filter.specs.Joins.{Flow, Ports, one, before_all-closed, joined_ke
 use Rattle.ff_filter.specs.Views.{Settles}
 use Rattle.ff_filter.specs.Made.{waiting}
 use Rattle.ff_filter.specs.laws.Limits.{limited, limit_step}
-use Rattle.ff_filter.specs.Runs.{run_below, run_calm, run_settles, no_more}
+use Rattle.ff_filter.specs.laws.Runs.{run_below, run_calm, run_settles, no_more}
 use Rattle.ff_filter.specs.laws.StepperLaws.{left_keeps, left_calm, behind_closed}
 use Rattle.ff_vfilter.specs.declared.scale.Scale.{Scale}
 use Rattle.ff_vfilter.specs.declared.showing.Ahead.{Ahead}

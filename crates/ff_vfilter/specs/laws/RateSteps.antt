@@ -6,7 +6,7 @@ use Rattle.ff_stream.specs.declared.item.Item.TheVariants.{Audio, Video, Packet,
 use Rattle.ff_stream.specs.Stream.{still_open}
 use Rattle.ff_stream.specs.Ports.{nothing}
 use Rattle.ff_filter.specs.Joins.{Flow}
-use Rattle.ff_filter.specs.Runs.{Stepped, run}
+use Rattle.ff_filter.specs.laws.Runs.{Stepped, run}
 use Rattle.ff_vfilter.specs.declared.scale.Scale.{Scale}
 use Rattle.ff_vfilter.specs.Rates.{number_of, end_number, shown}
 

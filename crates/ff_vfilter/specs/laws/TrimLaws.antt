@@ -11,7 +11,7 @@ use Rattle.ff_filter.specs.Views.{closes}
 use Rattle.ff_filter.specs.Made.{made_of}
 use Rattle.ff_filter.specs.laws.Limits.{run_next, single}
 use Rattle.ff_filter.specs.Ranges.{is_past}
-use Rattle.ff_filter.specs.Runs.{Stepped, run, run_at, no_more, run_below, run_calm, run_settles}
+use Rattle.ff_filter.specs.laws.Runs.{Stepped, run, run_at, no_more, run_below, run_calm, run_settles}
 use Rattle.ff_filter.specs.Shifts.{start_ticks}
 use Rattle.ff_vfilter.specs.Trims.{before_stop, reaches, from_start, trimmed}
 

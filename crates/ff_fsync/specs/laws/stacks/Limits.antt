@@ -10,7 +10,7 @@ use Rattle.ff_stream.specs.laws.Order.{below_trans}
 use Rattle.ff_stream.specs.Within.{passes_limits}
 use Rattle.ff_filter.specs.Joins.{Flow, Ports, all_opened, Grows, HidesBreaks}
 use Rattle.ff_filter.specs.laws.Limits.{limited, limit_step}
-use Rattle.ff_filter.specs.Runs.{no_more, run_below, run_calm, run_settles}
+use Rattle.ff_filter.specs.laws.Runs.{no_more, run_below, run_calm, run_settles}
 use Rattle.ff_filter.specs.Views.{View, Settles, IsSpent}
 
 -- what it still gives, within the limits of its output, of which so many items were given

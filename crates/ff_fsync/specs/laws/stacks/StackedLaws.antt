@@ -12,7 +12,7 @@ use Rattle.ff_stream.specs.Within.{some_pass, passes_limits}
 use Rattle.ff_filter.specs.Joins.{Flow, Ports, silence, joined, Grows, HidesBreaks, grows_after, hides_after}
 use Rattle.ff_filter.specs.laws.Limits.{limited, limit_step}
 use Rattle.ff_filter.specs.Made.{is_over}
-use Rattle.ff_filter.specs.Runs.{run_at, no_more}
+use Rattle.ff_filter.specs.laws.Runs.{run_at, no_more}
 use Rattle.ff_filter.specs.Views.{Settles, IsSpent, IsOver, AllDone}
 use Rattle.ff_fsync.specs.laws.SideLaws.{sync-grows, sync-hides, sync-settles, sync-quiet, sync-spent_only, sync-spent_if, sync-done_spent}
 use Rattle.ff_fsync.specs.Sides.{side_at, left_to_show, sync_view}
