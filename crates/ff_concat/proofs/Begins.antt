@@ -6,8 +6,8 @@ use Rattle.std.proofs.lemmas.Bool.{cases_eq, cases_lt}
 use Rattle.std.proofs.lemmas.Grind.{div_ceil_times}
 use Rattle.std.proofs.Math.Nat.{mul-le-mul_right}
 use Rattle.ff_time.specs.Fraction.{Fraction}
-use Rattle.ff_concat.specs.laws.Tails.{Tail, latest}
-use Rattle.ff_concat.specs.laws.Concats.{begin_in, product, ticks_by}
+use Rattle.ff_concat.specs.Tails.{Tail, latest}
+use Rattle.ff_concat.specs.Concats.{begin_in, product, ticks_by}
 
 sum_up : (tick time long e : ℕ) → 0 < tick → e * tick ≤ long → div_ceil time tick + e ≤ div_ceil (time + long) tick
 sum_up tick time long e some le =

@@ -10,8 +10,8 @@ use Rattle.ff_filter.specs.Views.{View}
 use Rattle.ff_filter.specs.laws.spread.Many.{AreMade}
 use Rattle.ff_concat.specs.declared.settings.Asked.{Asked}
 use Rattle.ff_concat.specs.declared.settings.ConcatSettings.{ConcatSettings}
-use Rattle.ff_concat.specs.laws.Arguments.{one_if, asked, streams_of, concat_manual, concat_start}
-use Rattle.ff_concat.specs.laws.ConcatOptions.{AreJoined, Checked, AfterRead, are_of_kinds, IsConcat, start_view, start_heads}
+use Rattle.ff_concat.specs.Arguments.{one_if, asked, streams_of, concat_manual, concat_start}
+use Rattle.ff_concat.specs.ConcatOptions.{AreJoined, Checked, AfterRead, are_of_kinds, IsConcat, start_view, start_heads}
 
 checked : {X : Type 0} (b : Bool) (e : ConfigError) (next : Result X ConfigError → Type 0) (r : Result X ConfigError) → b ≡ true → next r → Checked b e next r
 checked true e next r t h = h

@@ -15,9 +15,9 @@ use Rattle.ff_filter.specs.Made.{waiting, mark_after}
 use Rattle.ff_filter.specs.Views.{closes}
 use Rattle.ff_concat.specs.declared.reach.Reach.{Reach}
 use Rattle.ff_concat.specs.declared.track.Track.{Track}
-use Rattle.ff_concat.specs.laws.Silences.{filled}
-use Rattle.ff_concat.specs.laws.Tails.{Tail, together, latest}
-use Rattle.ff_concat.specs.laws.Concats.{begin_in, in_order, later}
+use Rattle.ff_concat.specs.Silences.{filled}
+use Rattle.ff_concat.specs.Tails.{Tail, together, latest}
+use Rattle.ff_concat.specs.Concats.{begin_in, in_order, later}
 use Rattle.ff_concat.specs.laws.ConcatLaws.{cut_off}
 use Rattle.ff_concat.specs.laws.TrackLaws.{made_keeps}
 use Rattle.ff_concat.specs.laws.Tracks.{after_at, tails, queue_at, own, output_of, still_made, still_gives}

@@ -11,8 +11,9 @@ use Rattle.ff_filter.specs.Made.{mark_after, waiting, behind}
 use Rattle.ff_filter.specs.Views.{closes, none_closes}
 use Rattle.ff_concat.specs.declared.backlog.Backlog.{Backlog}
 use Rattle.ff_concat.specs.declared.reach.Reach.{Reach}
-use Rattle.ff_concat.specs.laws.Tails.{together}
-use Rattle.ff_concat.specs.laws.Concats.{is_lost, is_lost_at, closes_at, is_closed}
+use Rattle.ff_concat.specs.Tails.{together}
+use Rattle.ff_concat.specs.Concats.{is_lost, is_lost_at}
+use Rattle.ff_concat.specs.laws.Closing.{closes_at, is_closed}
 use Rattle.ff_concat.specs.laws.ConcatLaws.{data_before}
 use Rattle.ff_concat.specs.declared.track.Track.{Track}
 use Rattle.ff_filter.specs.Options.{is_video}

@@ -20,10 +20,10 @@ use Rattle.ff_stream.specs.Lanes.{FitsFrames, IsItemFor, IsValid}
 use Rattle.ff_stream.specs.Within.{some_pass, before_pass, within, passes_limits}
 use Rattle.ff_filter.specs.Joins.{Flow, Ports}
 use Rattle.ff_filter.specs.Options.{is_video}
-use Rattle.ff_concat.specs.laws.Following.{followed_at, followed, led_by}
-use Rattle.ff_concat.specs.laws.Silences.{filled}
-use Rattle.ff_concat.specs.laws.Tails.{Tail, tail_of, last_end, together, latest}
-use Rattle.ff_concat.specs.laws.Concats.{time_later, moved, later, begin_in, in_order, is_lost, let_through, concatenated}
+use Rattle.ff_concat.specs.Following.{followed_at, followed, led_by}
+use Rattle.ff_concat.specs.Silences.{filled}
+use Rattle.ff_concat.specs.Tails.{Tail, tail_of, last_end, together, latest}
+use Rattle.ff_concat.specs.Concats.{time_later, moved, later, begin_in, in_order, is_lost, let_through, concatenated}
 use Rattle.ff_concat.specs.laws.OneKind.{one_by_one}
 use Rattle.ff_concat.specs.laws.Tracks.{output_of}
 use Rattle.ff_concat.proofs.Zeros.{frames_none}

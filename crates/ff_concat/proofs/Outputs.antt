@@ -5,10 +5,11 @@ use Rattle.ff_stream.specs.declared.item.Item.{Item}
 use Rattle.ff_stream.specs.declared.item.Lane.{Lane}
 use Rattle.ff_filter.specs.Joins.{Flow, before, silence}
 use Rattle.ff_filter.specs.Views as views
-use Rattle.ff_filter.specs.Views.{View, Same, Stopped, closes}
+use Rattle.ff_filter.specs.Views.{Same, Stopped}
 use Rattle.ff_concat.specs.declared.reach.Reach.{Reach}
 use Rattle.ff_concat.specs.declared.track.Track.{Track}
-use Rattle.ff_concat.specs.laws.Tracks.{gives_at, ended_at, stopped_at, repeated, view_of}
+use Rattle.ff_concat.specs.ConcatOptions.{repeated}
+use Rattle.ff_concat.specs.laws.Tracks.{gives_at, ended_at, stopped_at, view_of}
 use Rattle.ff_concat.specs.laws.Moves.{GoesOn, Gave, Waits}
 use Rattle.ff_concat.proofs.Lookups.{gives_read, gives_set, gives_other, ended_read, ended_set, ended_other, stopped_read, stopped_set, stopped_other, lanes_set}
 

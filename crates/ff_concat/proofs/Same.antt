@@ -9,9 +9,9 @@ use Rattle.ff_filter.specs.laws.Limits.{limited}
 use Rattle.ff_filter.specs.Made.{waiting}
 use Rattle.ff_concat.specs.declared.reach.Reach.{Reach}
 use Rattle.ff_concat.specs.declared.track.Track.{Track}
-use Rattle.ff_concat.specs.laws.Tails.{Tail}
-use Rattle.ff_concat.specs.laws.Silences.{filled}
-use Rattle.ff_concat.specs.laws.Concats.{begin_in, in_order}
+use Rattle.ff_concat.specs.Tails.{Tail}
+use Rattle.ff_concat.specs.Silences.{filled}
+use Rattle.ff_concat.specs.Concats.{begin_in, in_order}
 use Rattle.ff_concat.specs.laws.Tracks.{after_at, tails, own, output_of, still_gives}
 use Rattle.ff_concat.specs.laws.Moves.{IsAlike, IsUnchanged, GoesOn}
 

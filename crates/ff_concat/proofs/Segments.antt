@@ -8,7 +8,7 @@ use Rattle.ff_filter.specs.declared.after.After.TheVariants.{More, Whole, Broke}
 use Rattle.ff_filter.specs.Joins.{silence}
 use Rattle.ff_filter.specs.Made.{mark_after}
 use Rattle.ff_concat.specs.declared.reach.Reach.{Reach}
-use Rattle.ff_concat.specs.laws.Tails.{both, together, latest}
+use Rattle.ff_concat.specs.Tails.{both, together, latest}
 use Rattle.ff_concat.specs.laws.Tracks.{after_at, end_at, tail_on, tails}
 use Rattle.ff_concat.proofs.Lookups.{after_get, end_get}
 

@@ -10,9 +10,9 @@ use Rattle.ff_filter.specs.Made.{mark_after}
 use Rattle.ff_filter.specs.Options.{is_video}
 use Rattle.ff_concat.specs.declared.reach.Reach.{Reach}
 use Rattle.ff_concat.specs.declared.track.Track.{Track}
-use Rattle.ff_concat.specs.laws.Following.{followed_at}
-use Rattle.ff_concat.specs.laws.Tails.{together}
-use Rattle.ff_concat.specs.laws.Concats.{let_through}
+use Rattle.ff_concat.specs.Following.{followed_at}
+use Rattle.ff_concat.specs.Tails.{together}
+use Rattle.ff_concat.specs.Concats.{let_through}
 use Rattle.ff_concat.specs.laws.Tracks.{after_at, tails}
 use Rattle.ff_concat.specs.laws.Standing.{lost_from, bare, StandsAs}
 

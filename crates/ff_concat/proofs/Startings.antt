@@ -14,10 +14,10 @@ use Rattle.ff_filter.specs.Made.{waiting, is_over}
 use Rattle.ff_concat.specs.declared.backlog.Backlog.{Backlog}
 use Rattle.ff_concat.specs.declared.reach.Reach.{Reach}
 use Rattle.ff_concat.specs.declared.track.Track.{Track}
-use Rattle.ff_concat.specs.laws.Tails.{Tail, tail_of}
-use Rattle.ff_concat.specs.laws.Concats.{in_order}
-use Rattle.ff_concat.specs.laws.ConcatOptions.{whole_at, start_view}
-use Rattle.ff_concat.specs.laws.Tracks.{queue_at, end_at, after_at, tail_on, tails, own, output_of, still_gives, gives_at, ended_at, stopped_at, repeated, view_of}
+use Rattle.ff_concat.specs.Tails.{Tail, tail_of}
+use Rattle.ff_concat.specs.Concats.{in_order}
+use Rattle.ff_concat.specs.ConcatOptions.{whole_at, start_view, repeated}
+use Rattle.ff_concat.specs.laws.Tracks.{queue_at, end_at, after_at, tail_on, tails, own, output_of, still_gives, gives_at, ended_at, stopped_at, view_of}
 use Rattle.ff_concat.specs.laws.Fresh.{AreEmpty, AreNew, IsFresh}
 use Rattle.ff_concat.proofs.Same.{gives_eq}
 

@@ -10,10 +10,10 @@ use Rattle.ff_stream.specs.Stream.{Mark, still_open, whole, broken, map_stream}
 use Rattle.ff_filter.specs.Joins.{Flow, one, before}
 use Rattle.ff_filter.specs.Options.{is_video}
 use Rattle.ff_filter.specs.Views.{closes}
-use Rattle.ff_concat.specs.laws.Following.{followed_at, followed, led_by}
-use Rattle.ff_concat.specs.laws.Silences.{filled}
-use Rattle.ff_concat.specs.laws.Tails.{Tail, together, latest}
-use Rattle.ff_concat.specs.laws.Concats.{later, begin_in, Output, is_lost, let_through, in_order}
+use Rattle.ff_concat.specs.Following.{followed_at, followed, led_by}
+use Rattle.ff_concat.specs.Silences.{filled}
+use Rattle.ff_concat.specs.Tails.{Tail, together, latest}
+use Rattle.ff_concat.specs.Concats.{later, begin_in, Output, is_lost, let_through, in_order}
 use Rattle.ff_concat.specs.laws.ConcatLaws.{data_before, later-closes, is_lost-same, in_order-same}
 
 -- a time of this many units is past the last one of 64 bits

@@ -14,9 +14,9 @@ use Rattle.ff_filter.specs.laws.Limits.{limited}
 use Rattle.ff_filter.specs.Made.{waiting}
 use Rattle.ff_concat.specs.declared.reach.Reach.{Reach}
 use Rattle.ff_concat.specs.declared.track.Track.{Track}
-use Rattle.ff_concat.specs.laws.Silences.{filled}
-use Rattle.ff_concat.specs.laws.Tails.{together, latest}
-use Rattle.ff_concat.specs.laws.Concats.{begin_in, in_order}
+use Rattle.ff_concat.specs.Silences.{filled}
+use Rattle.ff_concat.specs.Tails.{together, latest}
+use Rattle.ff_concat.specs.Concats.{begin_in, in_order}
 use Rattle.ff_concat.specs.laws.ConcatLaws.{MarkBelow, TailBelow, below_whole, together-keeps, same_whole, latest-same}
 use Rattle.ff_concat.specs.laws.TrackLaws.{tail_keeps}
 use Rattle.ff_concat.specs.laws.Tracks.{after_at, end_at, tail_on, tails, own, output_of, still_made, still_gives}

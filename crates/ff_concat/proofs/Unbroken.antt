@@ -7,9 +7,9 @@ use Rattle.ff_stream.specs.Ports.{IsUnbroken}
 use Rattle.ff_frame.specs.declared.head.StreamHead.{StreamHead}
 use Rattle.ff_filter.specs.Joins.{Flow, Ports}
 use Rattle.ff_filter.specs.Options.{is_video}
-use Rattle.ff_concat.specs.laws.Following.{followed_at}
-use Rattle.ff_concat.specs.laws.Tails.{Tail, tail_of, both, together, latest}
-use Rattle.ff_concat.specs.laws.Concats.{later, begin_in, Output, is_lost_at, is_lost, let_through, in_order, ticks_of, concatenated}
+use Rattle.ff_concat.specs.Following.{followed_at}
+use Rattle.ff_concat.specs.Tails.{Tail, tail_of, both, together, latest}
+use Rattle.ff_concat.specs.Concats.{later, begin_in, Output, is_lost_at, is_lost, let_through, in_order, ticks_of, concatenated}
 
 both_unbroken : (m n : Mark) → m ≢ broken → n ≢ broken → both m n ≢ broken
 both_unbroken broken n u v = absurd (u refl)

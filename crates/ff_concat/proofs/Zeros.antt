@@ -7,7 +7,7 @@ use Rattle.std.proofs.lemmas.Bool.Decides.{nat_tests}
 use Rattle.ff_frame.specs.declared.head.StreamHead.{StreamHead}
 use Rattle.ff_frame.specs.declared.head.StreamHead.TheVariants.{Audio as AudioHead, Video as VideoHead}
 use Rattle.ff_filter.specs.Options.{is_video}
-use Rattle.ff_concat.specs.laws.Silences.{silent_frame, silent_frames, filled}
+use Rattle.ff_concat.specs.Silences.{silent_frame, silent_frames, filled}
 
 count_none : (a b : ℕ) → b ≤ a → div_ceil (b - a) 1024 ≡ 0
 count_none a b le = let e : b - a ≡ 0 = omega arith in ap (λ (n : ℕ). div_ceil n 1024) e

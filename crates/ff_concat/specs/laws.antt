@@ -1,14 +1,10 @@
-pub mod Arguments
+pub mod Closing
 pub mod ConcatLaws
-pub mod ConcatOptions
-pub mod Concats
 pub mod Examples
-pub mod Following
+pub mod FollowingLaws
 pub mod Fresh
 pub mod Moves
 pub mod OneKind
-pub mod Silences
 pub mod Standing
-pub mod Tails
 pub mod TrackLaws
 pub mod Tracks

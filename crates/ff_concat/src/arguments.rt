@@ -1,7 +1,7 @@
 //! The arguments of `concat`.
 ghost use Rattle.std.specs.Prelude.{◌≡◌, ◌≤◌, ◌+◌, IfSome, Some};
-ghost use Rattle.ff_concat.specs.laws.Arguments.{ranged as ranged_of, one_if, too_many as too_many_of, allowed as allowed_of};
-ghost use Rattle.ff_concat.specs.laws.Arguments.{set_segments, set_video, set_audio, concat_set};
+ghost use Rattle.ff_concat.specs.Arguments.{ranged as ranged_of, one_if, too_many as too_many_of, allowed as allowed_of};
+ghost use Rattle.ff_concat.specs.Arguments.{set_segments, set_video, set_audio, concat_set};
 
 use crate::settings::ConcatSettings;
 use ff_filter::Settings;
@@ -122,7 +122,7 @@ impl ConcatSettings {
 }
 
 impl Settings for ConcatSettings {
-    ghost use Rattle.ff_concat.specs.laws.Arguments.{concat_manual};
+    ghost use Rattle.ff_concat.specs.Arguments.{concat_manual};
 
     ghost manual = { concat_manual };
 

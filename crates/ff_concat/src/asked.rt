@@ -1,8 +1,8 @@
 //! What the arguments of `concat` ask for.
 ghost use Rattle.std.specs.Prelude.{◌≡◌, ◌≤◌, ◌||◌, true, false, IfSome};
 ghost use Rattle.ff_filter.specs.Options.{option_of as option_at};
-ghost use Rattle.ff_concat.specs.laws.Arguments.{concat_manual, concat_start, gives, from_number, or_two, video_alone as alone, asked_of as asked_in};
-ghost use Rattle.ff_concat.specs.laws.Arguments.{said as said_of, times_from, ends_with_n as ends_with, asked as asked_all, asked_by as asked_for, streams_of};
+ghost use Rattle.ff_concat.specs.Arguments.{concat_manual, concat_start, gives, from_number, or_two, video_alone as alone, asked_of as asked_in};
+ghost use Rattle.ff_concat.specs.Arguments.{said as said_of, times_from, ends_with_n as ends_with, asked as asked_all, asked_by as asked_for, streams_of};
 
 use crate::arguments::{ranged, streams, too_many};
 use crate::settings::{Asked, ConcatSettings};

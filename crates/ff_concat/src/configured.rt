@@ -2,8 +2,8 @@
 ghost use Rattle.std.specs.Prelude.{◌≡◌, ◌≤◌, ◌*◌, ◌||◌, ◌&&◌, ◌∷◌, [], IfOk, IfErr, cond, length, true, false};
 ghost use Rattle.ff_frame.specs.declared.config.ConfigError.TheVariants.{NoMemory};
 ghost use Rattle.ff_filter.specs.Options.{is_video, is_sound};
-ghost use Rattle.ff_concat.specs.laws.Arguments.{streams_of};
-ghost use Rattle.ff_concat.specs.laws.ConcatOptions.{in_turn, are_of_kinds as are_of_kinds_asked, AreAlike, AreJoined, start_view, start_heads};
+ghost use Rattle.ff_concat.specs.Arguments.{streams_of};
+ghost use Rattle.ff_concat.specs.ConcatOptions.{in_turn, are_of_kinds as are_of_kinds_asked, AreAlike, AreJoined, start_view, start_heads};
 ghost use Rattle.ff_concat.specs.laws.Tracks.{concat_view};
 
 use crate::asked::{asked, start};
@@ -129,7 +129,7 @@ fn two_streams(
 impl Concat {
     ghost use Rattle.ff_filter.specs.Options.{IsRefused};
     ghost use Rattle.ff_filter.specs.laws.spread.Many.{AreMade};
-    ghost use Rattle.ff_concat.specs.laws.ConcatOptions.{IsConcat};
+    ghost use Rattle.ff_concat.specs.ConcatOptions.{IsConcat};
 
     // The machine of segments of these heads.
     fn of_heads(

@@ -8,9 +8,9 @@ ghost use Rattle.ff_stream.specs.Lanes.{IsValid};
 ghost use Rattle.ff_stream.specs.Ports.{IsUnbroken};
 ghost use Rattle.ff_stream.specs.Within.{within, passes_limits};
 ghost use Rattle.ff_filter.specs.Joins.{Ports};
-ghost use Rattle.ff_concat.specs.laws.Concats.{begin_in, product, ticks_by, concatenated};
+ghost use Rattle.ff_concat.specs.Concats.{begin_in, product, ticks_by, concatenated};
 ghost use Rattle.ff_concat.specs.laws.OneKind.{one_by_one};
-ghost use Rattle.ff_concat.specs.laws.Tails.{Tail, latest};
+ghost use Rattle.ff_concat.specs.Tails.{Tail, latest};
 ghost use Rattle.ff_frame.specs.declared.video.VFrame.{VFrame};
 ghost use Rattle.ff_concat.specs.laws.Examples.{video_of, audio_of, all_of, picture_at, sound_at};
 

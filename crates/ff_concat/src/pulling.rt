@@ -5,7 +5,7 @@ ghost use Rattle.ff_stream.specs.declared.item.Item.{Item as AnItem};
 ghost use Rattle.ff_filter.specs.Options.{is_sound};
 ghost use Rattle.ff_filter.specs.Views.{closes};
 ghost use Rattle.ff_concat.specs.laws.Moves.{GoesOn, Gave, Waits, Told};
-ghost use Rattle.ff_concat.specs.laws.Silences.{filled};
+ghost use Rattle.ff_concat.specs.Silences.{filled};
 ghost use Rattle.ff_concat.specs.laws.Standing.{IsPassed};
 
 use crate::reach::Reach;

@@ -3,7 +3,7 @@ ghost use Rattle.std.specs.Prelude.{◌≡◌, ◌<◌, ◌≤◌, ◌+◌, ◌^
 ghost use Rattle.std.specs.List.{All};
 ghost use Rattle.ff_filter.specs.Joins.{silence};
 ghost use Rattle.ff_filter.specs.Made.{mark_after};
-ghost use Rattle.ff_concat.specs.laws.Tails.{both as both_marks, together as together_by, latest as latest_by};
+ghost use Rattle.ff_concat.specs.Tails.{both as both_marks, together as together_by, latest as latest_by};
 ghost use Rattle.ff_concat.specs.laws.Tracks.{tails};
 
 use crate::reach::Reach;

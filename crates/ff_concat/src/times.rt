@@ -1,6 +1,6 @@
 //! Times of items, moved, and times in whole ticks.
 ghost use Rattle.std.specs.Prelude.{◌≡◌, ◌<◌, ◌^◌};
-ghost use Rattle.ff_concat.specs.laws.Concats.{time_later, moved as moved_by, later as later_by, begin_in};
+ghost use Rattle.ff_concat.specs.Concats.{time_later, moved as moved_by, later as later_by, begin_in};
 
 use ff_filter::ticks_of;
 use ff_stream::Item;

@@ -1,6 +1,6 @@
 //! One output of `concat`: what waits of each segment, and how far it has come.
 ghost use Rattle.std.specs.Prelude.{◌≡◌, ◌<◌, ◌≤◌, ◌^◌, length};
-ghost use Rattle.ff_concat.specs.laws.Concats.{begin_in};
+ghost use Rattle.ff_concat.specs.Concats.{begin_in};
 
 use crate::backlog::Backlog;
 use ff_frame::StreamHead;

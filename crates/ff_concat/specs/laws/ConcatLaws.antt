@@ -12,10 +12,12 @@ use Rattle.ff_stream.specs.laws.Order.{below_self, nothing_below}
 use Rattle.ff_filter.specs.Joins.{Flow, before}
 use Rattle.ff_filter.specs.Options.{is_video}
 use Rattle.ff_filter.specs.Views.{closes}
-use Rattle.ff_concat.specs.laws.Following.{followed_at, followed, followed_keeps, then_keeps, then_calm, then_closed, led_by, led_calm}
-use Rattle.ff_concat.specs.laws.Silences.{filled}
-use Rattle.ff_concat.specs.laws.Tails.{Tail, both, together, latest}
-use Rattle.ff_concat.specs.laws.Concats.{moved, later, begin_in, Output, is_lost_at, is_lost, closes_at, is_closed, let_through, in_order}
+use Rattle.ff_concat.specs.Following.{followed_at, followed, led_by}
+use Rattle.ff_concat.specs.laws.FollowingLaws.{followed_keeps, then_keeps, then_calm, then_closed, led_calm}
+use Rattle.ff_concat.specs.Silences.{filled}
+use Rattle.ff_concat.specs.Tails.{Tail, both, together, latest}
+use Rattle.ff_concat.specs.Concats.{moved, later, begin_in, Output, is_lost_at, is_lost, let_through, in_order}
+use Rattle.ff_concat.specs.laws.Closing.{closes_at, is_closed}
 
 -- a stream that breaks off before its first item
 abbrev pub cut_off : Flow

@@ -11,7 +11,7 @@ use Rattle.ff_stream.specs.declared.item.Item.TheVariants.{Audio, Video}
 use Rattle.ff_stream.specs.Stream.{whole}
 use Rattle.ff_stream.specs.Ports.{nothing}
 use Rattle.ff_filter.specs.Joins.{Flow, Ports}
-use Rattle.ff_concat.specs.laws.Concats.{concatenated}
+use Rattle.ff_concat.specs.Concats.{concatenated}
 
 abbrev pub video_head : StreamHead
 video_head = VideoHead (record { num = 1; den = 25 }) Mono 1 1 0 0

@@ -2,9 +2,9 @@
 use Rattle.std.specs.Prelude.{ℕ, zero, suc, ◌+◌, [], map}
 use Rattle.ff_stream.specs.Stream.{whole, map_stream}
 use Rattle.ff_filter.specs.Joins.{Flow, Ports}
-use Rattle.ff_concat.specs.laws.Following.{followed}
-use Rattle.ff_concat.specs.laws.Tails.{last_end}
-use Rattle.ff_concat.specs.laws.Concats.{later}
+use Rattle.ff_concat.specs.Following.{followed}
+use Rattle.ff_concat.specs.Tails.{last_end}
+use Rattle.ff_concat.specs.Concats.{later}
 
 -- So many segments from port p on, one after another: the items of each are later by the end of the last item before them,
 -- which for the first of these segments is e.

@@ -10,10 +10,10 @@ use Rattle.ff_filter.specs.Options.{is_video}
 use Rattle.ff_concat.specs.declared.backlog.Backlog.{Backlog}
 use Rattle.ff_concat.specs.declared.reach.Reach.{Reach}
 use Rattle.ff_concat.specs.declared.track.Track.{Track}
-use Rattle.ff_concat.specs.laws.Following.{followed_at}
-use Rattle.ff_concat.specs.laws.Silences.{filled}
-use Rattle.ff_concat.specs.laws.Tails.{together}
-use Rattle.ff_concat.specs.laws.Concats.{is_lost, let_through}
+use Rattle.ff_concat.specs.Following.{followed_at}
+use Rattle.ff_concat.specs.Silences.{filled}
+use Rattle.ff_concat.specs.Tails.{together}
+use Rattle.ff_concat.specs.Concats.{is_lost, let_through}
 use Rattle.ff_concat.specs.laws.Tracks.{after_at, tails, queue_at, own}
 
 -- of segments from k on nothing can come, as far as is known

@@ -25,11 +25,12 @@ use Rattle.ff_filter.specs.laws.StepperLaws.{behind_closed}
 use Rattle.ff_concat.specs.declared.reach.Reach.{Reach}
 use Rattle.ff_concat.specs.declared.track.Track.{Track}
 use Rattle.ff_concat.specs.declared.concat.Concat.{Concat}
-use Rattle.ff_concat.specs.laws.Tails.{Tail, both, together}
-use Rattle.ff_concat.specs.laws.Concats.{in_order}
+use Rattle.ff_concat.specs.Tails.{Tail, both, together}
+use Rattle.ff_concat.specs.Concats.{in_order}
+use Rattle.ff_concat.specs.ConcatOptions.{repeated}
 use Rattle.ff_concat.specs.laws.ConcatLaws.{TailBelow, KeepsWhole, in_order-keeps, in_order-calm, in_order-closed, in_order-over}
 use Rattle.ff_concat.specs.laws.Tracks.{after_at, end_at, tail_on, tails, queue_at, own, output_of, still_made}
-use Rattle.ff_concat.specs.laws.Tracks.{gives_at, ended_at, stopped_at, lanes_of, repeated, concat_view, closed_from, is_done, each_done}
+use Rattle.ff_concat.specs.laws.Tracks.{gives_at, ended_at, stopped_at, lanes_of, concat_view, closed_from, is_done, each_done}
 
 pub waiting_keeps : (queue : List Item) (after : After) (r s : Flow) → LiesBelow r s → LiesBelow (waiting queue after r) (waiting queue after s)
 waiting_keeps queue More r s h = before_all-keeps queue r s h

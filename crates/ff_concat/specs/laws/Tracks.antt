@@ -1,5 +1,5 @@
 -- How the machine of segments one after another is seen.
-use Rattle.std.specs.Prelude.{ℕ, zero, suc, ◌+◌, ◌-◌, ◌*◌, Bool, true, false, ◌||◌, ◌&&◌, List, [], ◌∷◌, ◌++◌, cond, length, map}
+use Rattle.std.specs.Prelude.{ℕ, zero, suc, ◌+◌, ◌-◌, ◌*◌, Bool, true, false, ◌||◌, ◌&&◌, List, [], ◌∷◌, cond, length, map}
 use Rattle.ff_frame.specs.declared.head.StreamHead.{StreamHead}
 use Rattle.ff_stream.specs.declared.item.Item.{Item}
 use Rattle.ff_stream.specs.declared.item.Lane.{Lane}
@@ -18,8 +18,10 @@ use Rattle.ff_concat.specs.declared.backlog.Backlog.{Backlog}
 use Rattle.ff_concat.specs.declared.reach.Reach.{Reach}
 use Rattle.ff_concat.specs.declared.track.Track.{Track}
 use Rattle.ff_concat.specs.declared.concat.Concat.{Concat}
-use Rattle.ff_concat.specs.laws.Tails.{Tail, last_end}
-use Rattle.ff_concat.specs.laws.Concats.{Output, is_closed, in_order}
+use Rattle.ff_concat.specs.Tails.{Tail, last_end}
+use Rattle.ff_concat.specs.Concats.{Output, in_order}
+use Rattle.ff_concat.specs.ConcatOptions.{repeated}
+use Rattle.ff_concat.specs.laws.Closing.{is_closed}
 
 -- where the items of input p end so far, and how it stands
 abbrev pub end_at : List Reach → ℕ → ℕ
@@ -95,11 +97,6 @@ each_done w q (t ∷ ts) rs = is_done t rs w q && each_done w (q + 1) ts rs
 
 abbrev pub lanes_of : List Track → List Lane
 lanes_of ts = map (λ (t : Track). Frames t.head) ts
-
--- the lanes of the inputs: those of a segment, so many times
-abbrev pub repeated : ℕ → List Lane → List Lane
-repeated zero lanes = []
-repeated (suc n) lanes = lanes ++ repeated n lanes
 
 -- n segments, with a list of how many units a tick of each stream has, how far the inputs have come, and the outputs
 abbrev pub view_of : List ℕ → ℕ → List Reach → List Track → View

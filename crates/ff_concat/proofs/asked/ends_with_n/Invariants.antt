@@ -1,5 +1,5 @@
 use Rattle.std.proofs.Common.{◌≡◌, false, drop}
-use Rattle.ff_concat.specs.laws.Arguments.{ends_with_n}
+use Rattle.ff_concat.specs.Arguments.{ends_with_n}
 use Rattle.ff_concat.proofs.asked.ends_with_n.Given as goal
 
 abbrev pub invariant-each : goal.invariant-each

@@ -1,6 +1,6 @@
 use Rattle.std.proofs.Common.{◌≡◌, ◌≤◌, false, Some, drop}
 use Rattle.std.specs.Prelude.{IfSome}
-use Rattle.ff_concat.specs.laws.Arguments.{said_from}
+use Rattle.ff_concat.specs.Arguments.{said_from}
 use Rattle.ff_concat.proofs.asked.said.Given as goal
 
 abbrev pub invariant-each : goal.invariant-each

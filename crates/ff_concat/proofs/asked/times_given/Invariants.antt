@@ -1,5 +1,5 @@
 use Rattle.std.proofs.Common.{◌≡◌, ◌≤◌, ◌+◌, false, drop}
-use Rattle.ff_concat.specs.laws.Arguments.{times_from}
+use Rattle.ff_concat.specs.Arguments.{times_from}
 use Rattle.ff_concat.proofs.asked.times_given.Given as goal
 
 abbrev pub invariant-each : goal.invariant-each

@@ -1,6 +1,6 @@
 use Rattle.std.proofs.Common.{◌≡◌, drop}
 use Rattle.std.specs.Prelude.{◌&&◌}
-use Rattle.ff_concat.specs.laws.ConcatOptions.{in_turn}
+use Rattle.ff_concat.specs.ConcatOptions.{in_turn}
 use Rattle.ff_concat.proofs.configured.are_of_kinds.Given as goal
 
 abbrev pub invariant-heads : goal.invariant-heads

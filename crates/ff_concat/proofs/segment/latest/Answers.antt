@@ -1,6 +1,6 @@
 use Rattle.std.proofs.Common.{◌≡◌, ℕ, subst, sym, add-one, arith}
 use Rattle.ff_filter.specs.Joins.{silence}
-use Rattle.ff_concat.specs.laws.Tails.{latest as latest_by}
+use Rattle.ff_concat.specs.Tails.{latest as latest_by}
 use Rattle.ff_concat.specs.laws.Tracks.{tails}
 use Rattle.ff_concat.proofs.Segments.{latest_more}
 use Rattle.ff_concat.proofs.segment.latest.Goals as goal

@@ -1,6 +1,6 @@
 use Rattle.std.proofs.Common.{◌≡◌}
 use Rattle.ff_filter.specs.Joins.{silence}
-use Rattle.ff_concat.specs.laws.Tails.{latest as latest_by}
+use Rattle.ff_concat.specs.Tails.{latest as latest_by}
 use Rattle.ff_concat.specs.laws.Tracks.{tails}
 use Rattle.ff_concat.proofs.segment.latest.Given as goal
 

@@ -3,8 +3,8 @@ use Rattle.ff_frame.specs.declared.config.ConfigError.{ConfigError}
 use Rattle.ff_frame.specs.declared.head.StreamHead.{StreamHead}
 use Rattle.ff_filter.specs.Options.{AreRead}
 use Rattle.ff_concat.specs.declared.settings.ConcatSettings.{ConcatSettings}
-use Rattle.ff_concat.specs.laws.Arguments.{streams_of, concat_manual}
-use Rattle.ff_concat.specs.laws.ConcatOptions.{AreJoined, IsConcat}
+use Rattle.ff_concat.specs.Arguments.{streams_of, concat_manual}
+use Rattle.ff_concat.specs.ConcatOptions.{AreJoined, IsConcat}
 use Rattle.ff_concat.specs.laws.Tracks.{concat_view}
 use Rattle.ff_concat.proofs.Configuring.{joined_is, made_by, refused_by}
 use Rattle.ff_concat.proofs.concat.Concat.configure.Goals as goal

@@ -1,7 +1,7 @@
 use Rattle.std.proofs.Common.{◌≡◌, ◌≤◌, ◌*◌, ◌∙◌, ◌∷◌, [], ℕ, List, Ok, get_or, length, take, sym, ap, subst, inl, arith}
 use Rattle.ff_frame.specs.declared.head.StreamHead.{StreamHead}
-use Rattle.ff_concat.specs.laws.Arguments.{streams_of}
-use Rattle.ff_concat.specs.laws.ConcatOptions.{AreAlike, AreJoined}
+use Rattle.ff_concat.specs.Arguments.{streams_of}
+use Rattle.ff_concat.specs.ConcatOptions.{AreAlike, AreJoined}
 use Rattle.ff_concat.specs.laws.Tracks.{concat_view}
 use Rattle.ff_concat.proofs.Configuring.{take_one, take_two, made_of, one_stream_of}
 use Rattle.ff_concat.proofs.concat.Concat.of_heads.Goals as goal

@@ -1,6 +1,6 @@
 use Rattle.std.proofs.Common.{◌<◌, ◌≤◌, ℕ, refl, arith, length, subst}
 use Rattle.ff_stream.specs.declared.item.Item.{Item}
-use Rattle.ff_concat.specs.laws.Concats.{begin_in}
+use Rattle.ff_concat.specs.Concats.{begin_in}
 use Rattle.ff_concat.specs.laws.Moves.{Gave}
 use Rattle.ff_concat.proofs.Draws.{told_gave, zeros_made}
 use Rattle.ff_concat.proofs.track.Track.draw.Goals as goal

@@ -3,7 +3,7 @@ use Rattle.std.specs.Prelude.{◌&&◌}
 use Rattle.ff_stream.specs.Stream.{Mark, whole}
 use Rattle.ff_filter.specs.declared.after.After.TheVariants.{More, Whole, Broke}
 use Rattle.ff_filter.specs.Options.{is_video}
-use Rattle.ff_concat.specs.laws.Concats.{closes_at}
+use Rattle.ff_concat.specs.laws.Closing.{closes_at}
 use Rattle.ff_concat.specs.laws.Standing.{lost_from}
 use Rattle.ff_concat.specs.laws.TrackLaws.{port_there}
 use Rattle.ff_concat.specs.laws.Tracks.{closed_from}

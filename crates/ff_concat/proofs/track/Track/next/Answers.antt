@@ -5,7 +5,7 @@ use Rattle.ff_stream.specs.Within.{passes_limits}
 use Rattle.ff_filter.specs.declared.after.After.{After}
 use Rattle.ff_filter.specs.Joins.{before}
 use Rattle.ff_filter.specs.laws.Limits.{limited}
-use Rattle.ff_concat.specs.laws.Concats.{in_order, later}
+use Rattle.ff_concat.specs.Concats.{in_order, later}
 use Rattle.ff_concat.specs.laws.Tracks.{own, tails, output_of}
 use Rattle.ff_concat.specs.laws.Standing.{StandsAs}
 use Rattle.ff_concat.specs.laws.Moves.{Gave, Told, Waits}

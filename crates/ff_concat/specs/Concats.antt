@@ -11,9 +11,9 @@ use Rattle.ff_stream.specs.Ports.{nothing}
 use Rattle.ff_stream.specs.Times.{ticks}
 use Rattle.ff_filter.specs.Joins.{Flow, Ports}
 use Rattle.ff_filter.specs.Options.{is_video}
-use Rattle.ff_concat.specs.laws.Following.{followed, led_by}
-use Rattle.ff_concat.specs.laws.Silences.{filled}
-use Rattle.ff_concat.specs.laws.Tails.{Tail, tail_of, together, latest}
+use Rattle.ff_concat.specs.Following.{followed, led_by}
+use Rattle.ff_concat.specs.Silences.{filled}
+use Rattle.ff_concat.specs.Tails.{Tail, tail_of, together, latest}
 
 -- A time so many ticks later. It stays at the last time of 64 bits, past which no item within the limits ends.
 abbrev pub time_later : ℕ → ℤ → ℤ
@@ -56,21 +56,6 @@ is_lost_at [] whole whole behind = behind
 abbrev pub is_lost : ℕ → ℕ → ℕ → (ℕ → Flow) → (ℕ → Tail) → Bool
 is_lost w zero k own tails = false
 is_lost w (suc n) k own tails = is_lost_at (own k).items (own k).mark (together w (k * w) tails) (is_lost w n (k + 1) own tails)
-
--- The output of segments, of which the first stream of its own stands so, and the streams of that segment so, has closed:
--- `lost` says that of the segments behind nothing can come, and `behind` that the output of those has closed.
-abbrev pub closes_at : Mark → Mark → Bool → Bool → Bool
-closes_at still_open segment lost behind = false
-closes_at broken segment lost behind = true
-closes_at whole broken lost behind = true
-closes_at whole still_open lost behind = lost
-closes_at whole whole lost behind = behind
-
--- the output of n segments of w streams from segment k on has closed
-abbrev pub is_closed : ℕ → Bool → ℕ → ℕ → (ℕ → Flow) → (ℕ → Tail) → Bool
-is_closed w video zero k own tails = true
-is_closed w video (suc n) k own tails =
-    closes_at (own k).mark (together w (k * w) tails) (video && is_lost w n (k + 1) own tails) (is_closed w video n (k + 1) own tails)
 
 -- What comes behind the items of a segment whose streams stand so: where all are whole, the next segment; else nothing,
 -- and a break where no more can come.

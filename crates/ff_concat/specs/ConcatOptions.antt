@@ -1,9 +1,10 @@
 -- `concat` by its arguments and the heads of its inputs.
 use Rattle.std.specs.Prelude.{◌≡◌, ◌⊎◌, ℕ, zero, suc, ◌+◌, ◌*◌, ◌<◌, ◌==◌, ◌&&◌, Bool, true}
-use Rattle.std.specs.Prelude.{false, not, cond, List, [], ◌∷◌, map, length, take, slice_index_or, Result, Ok, Err}
+use Rattle.std.specs.Prelude.{false, not, cond, List, [], ◌∷◌, ◌++◌, map, length, take, slice_index_or, Result, Ok, Err}
 use Rattle.ff_frame.specs.declared.config.ConfigError.{ConfigError}
 use Rattle.ff_frame.specs.declared.config.ConfigError.TheVariants.{Pads, Kind, Mismatch}
 use Rattle.ff_frame.specs.declared.head.StreamHead.{StreamHead}
+use Rattle.ff_stream.specs.declared.item.Lane.{Lane}
 use Rattle.ff_stream.specs.declared.item.Lane.TheVariants.{Frames}
 use Rattle.ff_stream.specs.Ports.{nothing}
 use Rattle.ff_stream.specs.Within.{within, passes_limits}
@@ -13,9 +14,8 @@ use Rattle.ff_filter.specs.Options.{AreRead, is_video, is_sound}
 use Rattle.ff_filter.specs.Views.{View}
 use Rattle.ff_concat.specs.declared.settings.ConcatSettings.{ConcatSettings}
 use Rattle.ff_concat.specs.declared.settings.Asked.{Asked}
-use Rattle.ff_concat.specs.laws.Arguments.{asked, streams_of, concat_manual, concat_start}
-use Rattle.ff_concat.specs.laws.Concats.{concatenated}
-use Rattle.ff_concat.specs.laws.Tracks.{repeated}
+use Rattle.ff_concat.specs.Arguments.{asked, streams_of, concat_manual, concat_start}
+use Rattle.ff_concat.specs.Concats.{concatenated}
 
 -- The heads are of one kind, or of two kinds in turn, the first of which is this one.
 abbrev pub in_turn : Bool → Bool → List StreamHead → Bool
@@ -54,6 +54,11 @@ abbrev pub whole_at : List StreamHead → ℕ → ℕ → List StreamHead → �
 whole_at all n q [] i ext = nothing
 whole_at all n q (h ∷ hs) zero ext = within (passes_limits (Frames h)) (concatenated all h q n ext)
 whole_at all n q (h ∷ hs) (suc i) ext = whole_at all n q hs i ext
+
+-- the lanes of the inputs: those of a segment, so many times
+abbrev pub repeated : ℕ → List Lane → List Lane
+repeated zero lanes = []
+repeated (suc n) lanes = lanes ++ repeated n lanes
 
 -- n segments of these heads one after another
 abbrev pub start_view : List StreamHead × ℕ → View

@@ -1,4 +1,4 @@
--- One stream and then another.
+-- The laws of one stream and then another.
 use Rattle.std.specs.Prelude.{◌≡◌, List, ◌++◌, map, refl}
 use Rattle.std.proofs.Common.{inl, inr, ap, sym, ◌∙◌, subst, append_assoc}
 use Rattle.std.proofs.lemmas.List.{map-append}
@@ -8,19 +8,7 @@ use Rattle.ff_stream.specs.Stream.{Mark, still_open, whole, broken, LiesBelow, o
 use Rattle.ff_stream.specs.Ports.{IsClosed}
 use Rattle.ff_stream.specs.laws.Order.{prefix_trans}
 use Rattle.ff_filter.specs.Joins.{Flow}
-
--- s, and where it is whole, then t
-abbrev pub followed_at : List Item → Mark → Flow → Flow
-followed_at xs still_open t = record { items = xs; mark = still_open }
-followed_at xs whole t = record { items = xs ++ t.items; mark = t.mark }
-followed_at xs broken t = record { items = xs; mark = broken }
-
-abbrev pub followed : Flow → Flow → Flow
-followed s t = followed_at s.items s.mark t
-
--- these items, and then t
-abbrev pub led_by : List Item → Flow → Flow
-led_by xs t = followed_at xs whole t
+use Rattle.ff_concat.specs.Following.{followed_at, followed, led_by}
 
 pub followed_keeps : (xs : List Item) (m : Mark) (s t : Flow) → LiesBelow s t → LiesBelow (followed_at xs m s) (followed_at xs m t)
 followed_keeps xs m s t (inl e) = inl (ap (λ (r : Flow). followed_at xs m r) e)
