@@ -1,5 +1,5 @@
 -- From what was checked to how `concat` is configured.
-use Rattle.std.proofs.Common.{◌≡◌, ℕ, zero, suc, ◌+◌, ◌*◌, ◌<◌, ◌≤◌, Bool, true, false, ◌||◌, List, [], ◌∷◌, length, take, get_or, Result, Ok, Err, refl, inl, inr, sym, subst, arith}
+use Rattle.std.proofs.Common.{◌≡◌, ℕ, zero, suc, ◌+◌, ◌<◌, ◌≤◌, Bool, true, false, ◌||◌, List, [], ◌∷◌, length, take, get_or, Result, Ok, Err, refl, inl, inr, sym, subst, arith}
 use Rattle.std.specs.Prelude.{IfOk, IfErr, ◌==◌}
 use Rattle.ff_frame.specs.declared.config.ConfigError.{ConfigError}
 use Rattle.ff_frame.specs.declared.config.ConfigError.TheVariants.{Pads, Kind, NoMemory}
@@ -10,8 +10,9 @@ use Rattle.ff_filter.specs.Views.{View}
 use Rattle.ff_filter.specs.laws.spread.Many.{AreMade}
 use Rattle.ff_concat.specs.declared.settings.Asked.{Asked}
 use Rattle.ff_concat.specs.declared.settings.ConcatSettings.{ConcatSettings}
-use Rattle.ff_concat.specs.Arguments.{one_if, asked, streams_of, concat_manual, concat_start}
+use Rattle.ff_concat.specs.Arguments.{one_if, asked, concat_manual, concat_start}
 use Rattle.ff_concat.specs.ConcatOptions.{AreJoined, Checked, AfterRead, are_of_kinds, IsConcat, start_view, start_heads}
+use Rattle.ff_concat.specs.Pads.{inputs_of}
 
 checked : {X : Type 0} (b : Bool) (e : ConfigError) (next : Result X ConfigError → Type 0) (r : Result X ConfigError) → b ≡ true → next r → Checked b e next r
 checked true e next r t h = h
@@ -19,13 +20,13 @@ checked false e next r t h = cc
 
 -- what is made of the heads is what is made of both, where nothing is refused before
 pub joined_is : (args : List Arg) (hs : List StreamHead) (a : Asked) (s : ConcatSettings) (r : Result (List StreamHead × ℕ) ConfigError) → a ≡ asked args
-    → (length hs == a.segments * streams_of a) ≡ true → are_of_kinds a hs ≡ true → AreRead concat_manual false 0 (concat_start args) args (Ok s) → AreJoined a hs r
+    → (length hs == inputs_of a) ≡ true → are_of_kinds a hs ≡ true → AreRead concat_manual false 0 (concat_start args) args (Ok s) → AreJoined a hs r
     → IsConcat args hs r
 joined_is args hs a s r is count kinds read joined =
     let next : Result (List StreamHead × ℕ) ConfigError → Type 0 = λ u. (q : Result ConcatSettings ConfigError) × AreRead concat_manual false 0 (concat_start args) args q
     × AfterRead (AreJoined (asked args) hs) q u in
-    checked (length hs == (asked args).segments * streams_of (asked args)) Pads (λ q. Checked (are_of_kinds (asked args) hs) Kind next q) r
-    (subst (λ (b : Asked). (length hs == b.segments * streams_of b) ≡ true) is count)
+    checked (length hs == inputs_of (asked args)) Pads (λ q. Checked (are_of_kinds (asked args) hs) Kind next q) r
+    (subst (λ (b : Asked). (length hs == inputs_of b) ≡ true) is count)
     (checked (are_of_kinds (asked args) hs) Kind next r (subst (λ (b : Asked). are_of_kinds b hs ≡ true) is kinds)
     (Ok s, read, subst (λ (b : Asked). AreJoined b hs r) is joined))
 

@@ -145,7 +145,7 @@ module _ (h : StreamHead) (base : IsBase (base_of_head h)) where
   ends_later (suc e) x it = ends_moved (suc e) x (omega arith) it
 
   -- the last end so much later, or an item passes a limit
-  last_or : (e b : ℕ) (xs : List Item) → All (IsItemFor (Frames h)) xs
+  pub last_or : (e b : ℕ) (xs : List Item) → All (IsItemFor (Frames h)) xs
       → (last_end e (map (later e) xs) ≡ e + last_end 0 xs) ⊎ (some_pass (passes_limits (Frames h)) b (map (later e) xs) ≡ true)
   last_or e b [] all = inl (omega arith)
   last_or e b (x ∷ []) all = elim (ends_later e x (All-head (IsItemFor (Frames h)) x [] all))

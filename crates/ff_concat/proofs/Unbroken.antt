@@ -10,6 +10,7 @@ use Rattle.ff_filter.specs.Options.{is_video}
 use Rattle.ff_concat.specs.Following.{followed_at}
 use Rattle.ff_concat.specs.Tails.{Tail, tail_of, both, together, latest}
 use Rattle.ff_concat.specs.Concats.{later, begin_in, Output, is_lost_at, is_lost, let_through, in_order, ticks_of, concatenated}
+use Rattle.ff_concat.specs.laws.StartLaws.{uncut_at, start_free}
 
 both_unbroken : (m n : Mark) → m ≢ broken → n ≢ broken → both m n ≢ broken
 both_unbroken broken n u v = absurd (u refl)
@@ -60,4 +61,15 @@ in_order-unbroken tick_list out (suc n) k time end own ts h g =
     (in_order-unbroken tick_list out n (k + 1) (time + latest tick_list w p ts) (c + (ts (p + out.number)).end) own ts h g))
 
 pub unbroken : (heads : List StreamHead) (head : StreamHead) (q n : ℕ) (ss : Ports) → ((p : ℕ) → IsUnbroken (ss p)) → IsUnbroken (concatenated heads head q n ss)
-unbroken heads head q n ss h = in_order-unbroken (ticks_of heads) (record { head = head; tick = slice_index (ticks_of heads) q; number = q }) n 0 0 0 (λ k. ss (k * length heads + q)) (λ p. tail_of (ss p)) (λ k. h (k * length heads + q)) (λ p. h p)
+unbroken heads head q n ss h =
+    in_order-unbroken (ticks_of heads) (record { head = head; tick = slice_index (ticks_of heads) q; number = q }) n 0 0 0 (λ k. ss (k * length heads + q))
+    (λ p. tail_of (ss p)) (λ k. h (k * length heads + q)) (λ p. h p)
+
+uncut_unbroken : (all : List StreamHead) (n q : ℕ) (hs : List StreamHead) (i : ℕ) (ss : Ports) → ((p : ℕ) → IsUnbroken (ss p)) → IsUnbroken (uncut_at all n q hs i ss)
+uncut_unbroken all n q [] i ss u = λ e. cc
+uncut_unbroken all n q (h ∷ hs) zero ss u = unbroken all h q n ss u
+uncut_unbroken all n q (h ∷ hs) (suc i) ss u = uncut_unbroken all n q hs i ss u
+
+-- where no input breaks off, no output would without limits
+pub free_unbroken : (m : List StreamHead × ℕ) (ss : Ports) → ((p : ℕ) → IsUnbroken (ss p)) → (q : ℕ) → IsUnbroken (start_free m ss q)
+free_unbroken m ss u q = uncut_unbroken m.0 m.1 q m.0 q ss u

@@ -1,5 +1,5 @@
 -- `concat` by its arguments and the heads of its inputs.
-use Rattle.std.specs.Prelude.{◌≡◌, ◌⊎◌, ℕ, zero, suc, ◌+◌, ◌*◌, ◌<◌, ◌==◌, ◌&&◌, Bool, true}
+use Rattle.std.specs.Prelude.{◌≡◌, ◌⊎◌, ℕ, zero, suc, ◌+◌, ◌<◌, ◌==◌, ◌&&◌, Bool, true}
 use Rattle.std.specs.Prelude.{false, not, cond, List, [], ◌∷◌, ◌++◌, map, length, take, slice_index_or, Result, Ok, Err}
 use Rattle.ff_frame.specs.declared.config.ConfigError.{ConfigError}
 use Rattle.ff_frame.specs.declared.config.ConfigError.TheVariants.{Pads, Kind, Mismatch}
@@ -16,6 +16,7 @@ use Rattle.ff_concat.specs.declared.settings.ConcatSettings.{ConcatSettings}
 use Rattle.ff_concat.specs.declared.settings.Asked.{Asked}
 use Rattle.ff_concat.specs.Arguments.{asked, streams_of, concat_manual, concat_start}
 use Rattle.ff_concat.specs.Concats.{concatenated}
+use Rattle.ff_concat.specs.Pads.{inputs_of}
 
 -- The heads are of one kind, or of two kinds in turn, the first of which is this one.
 abbrev pub in_turn : Bool → Bool → List StreamHead → Bool
@@ -45,7 +46,7 @@ AfterRead next (Err e) r = r ≡ Err e
 -- `concat`: first the number of inputs and their kinds decide, then the arguments in their order, then whether the heads differ
 abbrev pub IsConcat : List Arg → List StreamHead → Result (List StreamHead × ℕ) ConfigError → Type 0
 IsConcat args hs r =
-    Checked (length hs == (asked args).segments * streams_of (asked args)) Pads
+    Checked (length hs == inputs_of (asked args)) Pads
     (λ q. Checked (are_of_kinds (asked args) hs) Kind
     (λ u. (read : Result ConcatSettings ConfigError) × AreRead concat_manual false 0 (concat_start args) args read × AfterRead (AreJoined (asked args) hs) read u) q) r
 

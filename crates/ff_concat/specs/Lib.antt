@@ -1,7 +1,10 @@
 pub mod Arguments
 pub mod ConcatOptions
 pub mod Concats
+pub mod Configured
 pub mod Following
+pub mod Heads
+pub mod Pads
 pub mod Silences
 pub mod Tails
 pub mod laws

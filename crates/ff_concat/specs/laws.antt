@@ -1,10 +1,12 @@
 pub mod Closing
 pub mod ConcatLaws
 pub mod Examples
+pub mod Fed
 pub mod FollowingLaws
 pub mod Fresh
 pub mod Moves
 pub mod OneKind
 pub mod Standing
+pub mod StartLaws
 pub mod TrackLaws
 pub mod Tracks

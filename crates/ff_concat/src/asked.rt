@@ -1,8 +1,9 @@
 //! What the arguments of `concat` ask for.
 ghost use Rattle.std.specs.Prelude.{◌≡◌, ◌≤◌, ◌||◌, true, false, IfSome};
 ghost use Rattle.ff_filter.specs.Options.{option_of as option_at};
-ghost use Rattle.ff_concat.specs.Arguments.{concat_manual, concat_start, gives, from_number, or_two, video_alone as alone, asked_of as asked_in};
+ghost use Rattle.ff_concat.specs.Arguments.{concat_manual, concat_start, gives, from_number, video_alone as alone, asked_of as asked_in};
 ghost use Rattle.ff_concat.specs.Arguments.{said as said_of, times_from, ends_with_n as ends_with, asked as asked_all, asked_by as asked_for, streams_of};
+ghost use Rattle.ff_concat.specs.Pads.{inputs_of, takes_audio as audio_at};
 
 use crate::arguments::{ranged, streams, too_many};
 use crate::settings::{Asked, ConcatSettings};
@@ -142,20 +143,6 @@ fn of_kinds(segments: usize, video: bool, audio: bool, last: bool) -> Asked
     }
 }
 
-/// What the arguments ask for, whatever they are refused for. For a number of segments that is refused stands 2, and
-/// for the kinds, where one of them is refused, video alone.
-pub(crate) fn asked(args: &[Arg]) -> Asked
-    ensures is { result ≡ asked_all args.now }
-    ensures some { 2 ≤ result.segments }
-    ensures few { result.segments ≤ 16 }
-    ensures kinds { (result.video || result.audio) ≡ true }
-{
-    let n = said(args, 0, 2, 16, 2);
-    let v = said(args, 1, 0, 1, 1);
-    let a = said(args, 2, 0, 1, 0);
-    asked_by(n, v, a, ends_with_n(args))
-}
-
 /// The settings before the first argument was read.
 pub(crate) fn start(args: &[Arg]) -> ConcatSettings
     ensures { result ≡ concat_start args.now }
@@ -170,11 +157,40 @@ pub(crate) fn start(args: &[Arg]) -> ConcatSettings
 }
 
 impl Asked {
+    /// What the arguments ask for, whatever they are refused for. For a number of segments that is refused stands 2, and
+    /// for the kinds, where one of them is refused, video alone.
+    pub fn by(args: &[Arg]) -> Asked
+        ensures is { result ≡ asked_all args.now }
+        ensures some { 2 ≤ result.segments }
+        ensures few { result.segments ≤ 16 }
+        ensures kinds { (result.video || result.audio) ≡ true }
+    {
+        let n = said(args, 0, 2, 16, 2);
+        let v = said(args, 1, 0, 1, 1);
+        let a = said(args, 2, 0, 1, 0);
+        asked_by(n, v, a, ends_with_n(args))
+    }
+
     /// How many streams a segment has.
-    pub(crate) fn streams(&self) -> usize
+    pub fn streams(&self) -> usize
         ensures is { result ≡ streams_of self.now }
         ensures few { result ≤ 2 }
     {
         streams(self.video, self.audio)
+    }
+
+    /// How many inputs are asked for.
+    pub fn inputs(&self) -> usize
+        requires { self.now.segments ≤ 16 }
+        ensures { result ≡ inputs_of self.now }
+    {
+        self.segments * self.streams()
+    }
+
+    /// Whether the pad of this number, of the inputs or of the outputs, takes audio.
+    pub fn takes_audio(&self, pad: usize) -> bool
+        ensures { result ≡ audio_at self.now pad }
+    {
+        self.audio && (!self.video || pad % 2 == 1)
     }
 }

@@ -3,10 +3,10 @@ ghost use Rattle.std.specs.Prelude.{◌≡◌, ◌≤◌, ◌*◌, ◌||◌, ◌
 ghost use Rattle.ff_frame.specs.declared.config.ConfigError.TheVariants.{NoMemory};
 ghost use Rattle.ff_filter.specs.Options.{is_video, is_sound};
 ghost use Rattle.ff_concat.specs.Arguments.{streams_of};
-ghost use Rattle.ff_concat.specs.ConcatOptions.{in_turn, are_of_kinds as are_of_kinds_asked, AreAlike, AreJoined, start_view, start_heads};
+ghost use Rattle.ff_concat.specs.ConcatOptions.{are_of_kinds as are_of_kinds_asked, AreAlike, AreJoined, start_view, start_heads};
 ghost use Rattle.ff_concat.specs.laws.Tracks.{concat_view};
 
-use crate::asked::{asked, start};
+use crate::asked::start;
 use crate::concat::Concat;
 use crate::settings::Asked;
 use crate::starting::{of_one, of_two};
@@ -169,8 +169,8 @@ impl Concat {
             (⟦<Concat as Filter>⟧.view r.0) r.1.items) }
         ensures refused { IfErr result (IsRefused (IsConcat args.now heads.now)) }
     {
-        let asked = asked(args);
-        if heads.len() != asked.segments * asked.streams() {
+        let asked = Asked::by(args);
+        if heads.len() != asked.inputs() {
             return Err(ConfigError::Pads);
         }
         if !are_of_kinds(&asked, heads) {

@@ -1,15 +1,28 @@
 //! Laws of segments one after another: functions that do nothing, whose clauses hold of all values.
-ghost use Rattle.std.specs.Prelude.{◌≡◌, ◌<◌, ◌≤◌, ◌+◌, ◌*◌, ◌∷◌, [], min, length, slice_index, slice_index_or, ℕ, ℤ, List, pos};
+ghost use Rattle.std.specs.Prelude.{◌≡◌, ◌<◌, ◌≤◌, ◌+◌, ◌*◌, ◌∷◌, [], min, length, map, take, slice_index, slice_index_or, ℕ, ℤ, List, pos};
+ghost use Rattle.std.specs.Prelude.{Result, true, false};
+ghost use Rattle.std.specs.List.{AllByRecursion};
 ghost use Rattle.ff_time.specs.Fraction.{Fraction, IsBase};
 ghost use Rattle.ff_frame.specs.Heads.{base_of_head};
+ghost use Rattle.ff_frame.specs.declared.config.ConfigError.{ConfigError};
 ghost use Rattle.ff_frame.specs.declared.head.StreamHead.{StreamHead};
 ghost use Rattle.ff_stream.specs.declared.item.Lane.TheVariants.{Frames};
 ghost use Rattle.ff_stream.specs.Lanes.{IsValid};
 ghost use Rattle.ff_stream.specs.Ports.{IsUnbroken};
 ghost use Rattle.ff_stream.specs.Within.{within, passes_limits};
-ghost use Rattle.ff_filter.specs.Joins.{Ports};
+ghost use Rattle.ff_lang.specs.declared.graph.Arg.{Arg};
+ghost use Rattle.ff_filter.specs.Joins.{Ports, Grows, HidesBreaks};
+ghost use Rattle.ff_filter.specs.Options.{AreRead, is_sound};
 ghost use Rattle.ff_concat.specs.Concats.{begin_in, product, ticks_by, concatenated};
+ghost use Rattle.ff_concat.specs.Arguments.{concat_manual, concat_start, asked, streams_of};
+ghost use Rattle.ff_concat.specs.ConcatOptions.{AreAlike, IsConcat, are_of_kinds, start_view};
+ghost use Rattle.ff_concat.specs.Configured.{concat_by};
+ghost use Rattle.ff_concat.specs.Heads.{all_alike};
+ghost use Rattle.ff_concat.specs.Pads.{inputs_of, takes_audio};
+ghost use Rattle.ff_concat.specs.declared.settings.ConcatSettings.{ConcatSettings};
+ghost use Rattle.ff_concat.specs.laws.Fed.{CanFollow, AreFed};
 ghost use Rattle.ff_concat.specs.laws.OneKind.{one_by_one};
+ghost use Rattle.ff_concat.specs.laws.StartLaws.{start_free};
 ghost use Rattle.ff_concat.specs.Tails.{Tail, latest};
 ghost use Rattle.ff_frame.specs.declared.video.VFrame.{VFrame};
 ghost use Rattle.ff_concat.specs.laws.Examples.{video_of, audio_of, all_of, picture_at, sound_at};
@@ -42,6 +55,52 @@ pub fn one_kind_follows_the_last_end()
 /// Where no input breaks off, neither does an output.
 pub fn unbroken_inputs_make_no_break()
     ensures { (heads : List StreamHead) (head : StreamHead) (q n : ℕ) (ss : Ports) → ((p : ℕ) → IsUnbroken (ss p)) → IsUnbroken (concatenated heads head q n ss) }
+{}
+
+/// What `concat` gives only grows with what comes. Whoever isn't told of the breaks of its inputs gets no less.
+pub fn outputs_only_grow()
+    ensures grows { (m : List StreamHead × ℕ) → Grows (start_view m).rest }
+    ensures hides { (m : List StreamHead × ℕ) → HidesBreaks (start_view m).rest }
+{}
+
+/// Each output is its segments one after another, up to the limits of its stream. Free of limits, none breaks off where
+/// no input does.
+pub fn only_limits_cut()
+    ensures cut { (heads : List StreamHead) (n q : ℕ) (d : StreamHead) (ss : Ports) → q < length heads → (start_view (heads, n)).rest ss q
+        ≡ within (passes_limits (Frames (slice_index_or heads q d))) (start_free (heads, n) ss q) }
+    ensures unbroken { (m : List StreamHead × ℕ) (ss : Ports) → ((p : ℕ) → IsUnbroken (ss p)) → (q : ℕ) → IsUnbroken (start_free m ss q) }
+    ensures free { (heads : List StreamHead) (n q : ℕ) (d : StreamHead) (ss : Ports) → q < length heads
+        → start_free (heads, n) ss q ≡ concatenated heads (slice_index_or heads q d) q n ss }
+{}
+
+/// The lanes of the inputs are those of all heads, where the heads of each segment are the same.
+pub fn inputs_are_all_heads()
+    ensures { (n w : ℕ) (heads : List StreamHead) → AreAlike w heads → length heads ≡ n * w
+        → (start_view (take w heads, n)).ins ≡ map Frames heads }
+{}
+
+/// What the arguments ask for has 2 to 16 segments, at most 16 inputs, and one stream or two a segment.
+pub fn few_inputs_are_asked_for()
+    ensures segments { (args : List Arg) → (2 ≤ (asked args).segments) × ((asked args).segments ≤ 16) }
+    ensures inputs { (args : List Arg) → inputs_of (asked args) ≤ 16 }
+    ensures streams { (args : List Arg) → (1 ≤ streams_of (asked args)) × (streams_of (asked args) ≤ 2) }
+    ensures kinds { (args : List Arg) (heads : List StreamHead) (p : ℕ) (d : StreamHead) → are_of_kinds (asked args) heads ≡ true → p < length heads
+        → is_sound (slice_index_or heads p d) ≡ takes_audio (asked args) p }
+{}
+
+/// What `concat` is by its arguments and heads, is what a function says. `read` is how the arguments are read.
+pub fn answers_are_a_function()
+    ensures is { (args : List Arg) (heads : List StreamHead) (read : Result ConcatSettings ConfigError) (r : Result (List StreamHead × ℕ) ConfigError)
+        → ((q : Result ConcatSettings ConfigError) → AreRead concat_manual false 0 (concat_start args) args q → read ≡ q) → IsConcat args heads r
+        → concat_by read args heads ≡ r }
+    ensures alike { (w : ℕ) (heads : List StreamHead) → all_alike w heads ≡ true → AreAlike w heads }
+    ensures unlike { (w : ℕ) (heads : List StreamHead) → all_alike w heads ≡ false → AreAlike w heads → ⊥ }
+{}
+
+/// Of valid inputs each output is valid. The time bases have to be some, and audio has to be such that it may be zeros.
+pub fn valid_inputs_make_valid_outputs()
+    ensures { (heads : List StreamHead) (n q : ℕ) (d : StreamHead) (ss : Ports) → AllByRecursion CanFollow heads → AreFed heads n ss → q < length heads
+        → IsValid (Frames (slice_index_or heads q d)) ((start_view (heads, n)).rest ss q) }
 {}
 
 /// No stream of a segment ends later than the segment. So on its output it ends no later than the next segment begins,

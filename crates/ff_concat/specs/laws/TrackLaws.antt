@@ -54,7 +54,7 @@ mark_calm still_open e = refl
 mark_calm whole e = refl
 mark_calm broken e = cc
 
-tail_calm : (e : ℕ) (a : After) (r : Flow) → KeepsWhole (tail_on e a r) (tail_on e a (opened r))
+pub tail_calm : (e : ℕ) (a : After) (r : Flow) → KeepsWhole (tail_on e a r) (tail_on e a (opened r))
 tail_calm e More r h = ap (λ (m : Mark). let t : Tail = record { end = (tail_on e More r).end; mark = m } in t) (sym (mark_calm r.mark h))
 tail_calm e Whole r h = refl
 tail_calm e Broke r h = cc
