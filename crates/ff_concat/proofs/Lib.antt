@@ -1,4 +1,7 @@
 pub mod Agreeing
+pub mod Blind
+pub mod GoingOn
+pub mod Breaking
 pub mod Begins
 pub mod Configuring
 pub mod Draws

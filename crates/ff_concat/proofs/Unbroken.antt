@@ -31,7 +31,7 @@ not_lost_at [] whole still_open b u v e = e
 not_lost_at [] whole whole b u v e = e
 not_lost_at [] whole broken b u v e = absurd (v refl)
 
-not_lost : (w n k : ℕ) (own : ℕ → Flow) (ts : ℕ → Tail) → ((j : ℕ) → IsUnbroken (own j)) → ((j : ℕ) → (ts j).mark ≢ broken) → is_lost w n k own ts ≡ false
+pub not_lost : (w n k : ℕ) (own : ℕ → Flow) (ts : ℕ → Tail) → ((j : ℕ) → IsUnbroken (own j)) → ((j : ℕ) → (ts j).mark ≢ broken) → is_lost w n k own ts ≡ false
 not_lost w zero k own ts h g = refl
 not_lost w (suc n) k own ts h g =
     not_lost_at (own k).items (own k).mark (together w (k * w) ts) (is_lost w n (k + 1) own ts) (h k) (together_unbroken w (k * w) ts g) (not_lost w n (k + 1) own ts h g)

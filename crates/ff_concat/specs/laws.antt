@@ -1,3 +1,4 @@
+pub mod Breaks
 pub mod Closing
 pub mod ConcatLaws
 pub mod Examples

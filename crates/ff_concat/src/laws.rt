@@ -12,7 +12,7 @@ ghost use Rattle.ff_stream.specs.Ports.{IsUnbroken};
 ghost use Rattle.ff_stream.specs.Within.{within, passes_limits};
 ghost use Rattle.ff_lang.specs.declared.graph.Arg.{Arg};
 ghost use Rattle.ff_filter.specs.Joins.{Ports, Grows, HidesBreaks};
-ghost use Rattle.ff_filter.specs.Options.{AreRead, is_sound};
+ghost use Rattle.ff_filter.specs.Options.{AreRead, is_sound, is_video};
 ghost use Rattle.ff_concat.specs.Concats.{begin_in, product, ticks_by, concatenated};
 ghost use Rattle.ff_concat.specs.Arguments.{concat_manual, concat_start, asked, streams_of};
 ghost use Rattle.ff_concat.specs.ConcatOptions.{AreAlike, IsConcat, are_of_kinds, start_view};
@@ -20,6 +20,8 @@ ghost use Rattle.ff_concat.specs.Configured.{concat_by};
 ghost use Rattle.ff_concat.specs.Heads.{all_alike};
 ghost use Rattle.ff_concat.specs.Pads.{inputs_of, takes_audio};
 ghost use Rattle.ff_concat.specs.declared.settings.ConcatSettings.{ConcatSettings};
+ghost use Rattle.ff_stream.specs.laws.Breaks.{KeepsBrokenRule};
+ghost use Rattle.ff_concat.specs.laws.Breaks.{AreSo, output_at, HasRoom, KeepsBrokenRuleIn};
 ghost use Rattle.ff_concat.specs.laws.Fed.{CanFollow, AreFed};
 ghost use Rattle.ff_concat.specs.laws.OneKind.{one_by_one};
 ghost use Rattle.ff_concat.specs.laws.StartLaws.{start_free};
@@ -101,6 +103,17 @@ pub fn answers_are_a_function()
 pub fn valid_inputs_make_valid_outputs()
     ensures { (heads : List StreamHead) (n q : ℕ) (d : StreamHead) (ss : Ports) → AllByRecursion CanFollow heads → AreFed heads n ss → q < length heads
         → IsValid (Frames (slice_index_or heads q d)) ((start_view (heads, n)).rest ss q) }
+{}
+
+/// Segments keep the broken rule. A broken input counts as open without a further item. An output is broken exactly
+/// where an input is, it isn't whole, and no continuation of the inputs adds an item or makes it whole. Of audio that is
+/// said where each segment ends before the last time of 64 bits, since no zeros can come behind that.
+pub fn segments_keep_the_broken_rule()
+    ensures video { (heads : List StreamHead) (head : StreamHead) (q n : ℕ) → AllByRecursion (λ h. IsBase (base_of_head h)) heads
+        → q < length heads → is_video head ≡ true → KeepsBrokenRule (AreSo (n * length heads)) (output_at heads head q n) }
+    ensures audio { (heads : List StreamHead) (head : StreamHead) (q n : ℕ) → AllByRecursion (λ h. IsBase (base_of_head h)) heads
+        → q < length heads → is_video head ≡ false
+        → KeepsBrokenRuleIn (HasRoom heads head q n) (AreSo (n * length heads)) (output_at heads head q n) }
 {}
 
 /// No stream of a segment ends later than the segment. So on its output it ends no later than the next segment begins,

@@ -37,8 +37,8 @@ pub use concat::Concat;
 pub use laws::{
     answers_are_a_function, few_inputs_are_asked_for, inputs_are_all_heads,
     long_sound_delays_pictures, one_kind_follows_the_last_end, only_limits_cut, outputs_only_grow,
-    segments_meet_without_overlap, short_sound_is_filled, unbroken_inputs_make_no_break,
-    units_are_exact, valid_inputs_make_valid_outputs,
+    segments_keep_the_broken_rule, segments_meet_without_overlap, short_sound_is_filled,
+    unbroken_inputs_make_no_break, units_are_exact, valid_inputs_make_valid_outputs,
 };
 pub use reach::Reach;
 pub use settings::{Asked, ConcatSettings};
