@@ -138,17 +138,17 @@ codec_lines (codec ∷ list) = line (codes "  " ++ codec_name codec) ++ codec_li
 abbrev pub filter_line : List ℕ → List ℕ → List ℕ → List ℕ
 filter_line name arguments effect = line (left 28 (codes "  " ++ name ++ arguments) ++ effect)
 
--- the line of one that takes sound or doesn't, among those that do or don't
+-- the line of one whose first input takes sound or doesn't, among those where it does or doesn't
 abbrev pub line_among : Bool → Bool → List ℕ → List ℕ
 line_among true true text = text
 line_among true false text = []
 line_among false true text = []
 line_among false false text = text
 
--- those that take sound without an argument, or those that take pictures
+-- those whose first input takes sound without an argument, or those whose first input takes pictures
 abbrev pub filter_lines : Bool → List (List ℕ × FilterName × List ℕ × List ℕ) → List ℕ
 filter_lines sound [] = []
-filter_lines sound (l ∷ list) = line_among sound (takes_sound l.1 []) (filter_line l.0 l.2 l.3) ++ filter_lines sound list
+filter_lines sound (l ∷ list) = line_among sound (takes_sound l.1 [] 0) (filter_line l.0 l.2 l.3) ++ filter_lines sound list
 
 -- the lines of a list of the code
 abbrev pub filters : List (Bor (List ℕ) × FilterName × Bor (List ℕ) × Bor (List ℕ)) → List (List ℕ × FilterName × List ℕ × List ℕ)

@@ -268,7 +268,7 @@ fn push_codecs(alloc: Global, out: &mut Vec<u8>, list: &[Codec]) -> Result<(), A
     Ok(())
 }
 
-// The filters that take audio, or those that take video, by their names alone.
+// The filters whose first input takes audio, or those whose first input takes video, by their names alone.
 fn push_filters(
     alloc: Global,
     out: &mut Vec<u8>,
@@ -278,7 +278,7 @@ fn push_filters(
     ensures { OnOk result (out.new.items ≡ out.old.items ++ filter_lines sound (filters list.now)) }
 {
     for (name, filter, arguments, effect) in list.iter() {
-        if takes_sound(*filter, &[]) == sound {
+        if takes_sound(*filter, &[], 0) == sound {
             push_filter(alloc, out, name, arguments, effect)?;
         }
     }

@@ -113,8 +113,9 @@ stacked_gives d (h ∷ hs) s m e =
       becomes = subst (λ (x : StackOf). Becomes (h ∷ hs) (head_of x)) same (longer h hs d (total d (h ∷ hs)));
     }
 
-pub stack_owed : (d : Direction) → Owed (merging (counted false 0 2) (λ args. false) (stack_by d) (λ heads. stack_view) head_of) (one (IsStack d) (λ heads. stack_view) head_of)
-stack_owed d = merging_owed (IsStack d) (stack_by d) (stack_is d) (stack-so d) (counted false 0 2) (λ args. false) (λ heads. stack_view) head_of
+pub stack_owed : (d : Direction) → Owed (merging (counted false 0 2) (λ args pad. false) (stack_by d) (λ heads. stack_view) head_of)
+    (one (IsStack d) (λ heads. stack_view) head_of)
+stack_owed d = merging_owed (IsStack d) (stack_by d) (stack_is d) (stack-so d) (counted false 0 2) (λ args pad. false) (λ heads. stack_view) head_of
     (λ args. counted_few false 0 2 args (omega arith))
     (λ args heads m e.
     let first = unless_ok (input_fault (counted false 0 2 args) is_video heads) _ m e in
@@ -170,7 +171,7 @@ join_few : (args : List Arg) → inputs_said args ≤ 16
 join_few args = (let few = last_few join_manual 0 2 8 2 false 0 2 args (omega arith) (omega arith) in omega (arith, few))
 
 pub join_owed : Owed (definition_of filter.Join) (relation_of filter.Join)
-join_owed = merging_owed IsJoin join_by join_is join-so inputs_said (λ args. true) join_view head_itself join_few
+join_owed = merging_owed IsJoin join_by join_is join-so inputs_said (λ args pad. true) join_view head_itself join_few
     (λ args heads m e.
     let first = if_ok (length heads == inputs_said args) _ Pads m e in
     let second = if_ok (each_head is_sound heads) _ Kind m first.1 in

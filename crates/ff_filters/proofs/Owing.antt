@@ -134,7 +134,7 @@ pub record GivesOne (heads : List StreamHead) (v : View) (k : StreamHead) : Type
 module _ {X : Type 0} (is : List Arg → List StreamHead → Result X ConfigError → Type 0) (by : List Arg → List StreamHead → Result X ConfigError)
     (same : (args : List Arg) (heads : List StreamHead) (r : Result X ConfigError) → is args heads r → by args heads ≡ r)
     (so : (args : List Arg) (heads : List StreamHead) → HasReason (by args heads)) where
-  pub merging_owed : (inputs : List Arg → ℕ) (takes_sound : List Arg → Bool) (shown : List StreamHead → X → View) (head : X → StreamHead)
+  pub merging_owed : (inputs : List Arg → ℕ) (takes_sound : List Arg → ℕ → Bool) (shown : List StreamHead → X → View) (head : X → StreamHead)
       → ((args : List Arg) → inputs args ≤ 16)
       → ((args : List Arg) (heads : List StreamHead) (m : X) → by args heads ≡ Ok m → GivesOne heads (shown heads m) (head m))
       → Owed (merging inputs takes_sound by shown head) (one is shown head)

@@ -36,7 +36,7 @@ module _ {S T X : Type 0} (takes_sound : Bool) (wanted : StreamHead → Bool) (i
       → Owed (single takes_sound (configured_by wanted manual set t made) shown head) (one is (λ heads. shown) head)
   single_owed made shown head same so Fits start next each =
       merging_owed is (configured_by wanted manual set t made) same (λ args heads. configured-so wanted manual set t made args heads so)
-      (λ args. 1) (λ args. takes_sound) (λ heads. shown) head (λ args. omega arith)
+      (λ args. 1) (λ args pad. takes_sound) (λ heads. shown) head (λ args. omega arith)
       (λ args heads m e.
       let p = parts_of wanted manual set t made args heads m e in
       let o = each p.head p.settings m p.kind (read_keeps manual set Fits next false 0 t args p.settings start p.read) p.made_is in

@@ -64,13 +64,13 @@ pub record Definition : Type 0 where
   pub outputs : List Arg → ℕ
   -- its output pads are as many as its input has channels, and are linked by labels alone
   pub is_apart : Bool
-  -- its input pads take sound; else they take pictures
-  pub takes_sound : List Arg → Bool
+  -- its input pad of this number takes sound; else it takes pictures
+  pub takes_sound : List Arg → ℕ → Bool
   -- of a source filter: what its arguments make, which comes to its only input pad
   pub source : Option (List Arg → Result Made ConfigError)
 
 -- of one output: what configures it, how it is seen, and the head of the output
-abbrev pub merging : {X : Type 0} → (List Arg → ℕ) → (List Arg → Bool) → (List Arg → List StreamHead → Result X ConfigError) → (List StreamHead → X → View)
+abbrev pub merging : {X : Type 0} → (List Arg → ℕ) → (List Arg → ℕ → Bool) → (List Arg → List StreamHead → Result X ConfigError) → (List StreamHead → X → View)
     → (X → StreamHead) → Definition
 merging inputs takes_sound by shown head = record {
   by = λ args heads. filtered (shown heads) (λ m. head m ∷ []) (by args heads);
@@ -83,7 +83,7 @@ merging inputs takes_sound by shown head = record {
 
 -- of one input and one output
 abbrev pub single : {X : Type 0} → Bool → (List Arg → List StreamHead → Result X ConfigError) → (X → View) → (X → StreamHead) → Definition
-single takes_sound by shown head = merging (λ args. 1) (λ args. takes_sound) by (λ heads. shown) head
+single takes_sound by shown head = merging (λ args. 1) (λ args pad. takes_sound) by (λ heads. shown) head
 
 -- of one input and several outputs, with the heads of the outputs
 abbrev pub sharing : {X : Type 0} → (List Arg → ℕ) → Bool → Bool → (List Arg → List StreamHead → Result X ConfigError) → (X → View) → (X → List StreamHead)
@@ -93,7 +93,7 @@ sharing outputs is_apart takes_sound by shown outs = record {
   inputs = λ args. 1;
   outputs = outputs;
   is_apart = is_apart;
-  takes_sound = λ args. takes_sound;
+  takes_sound = λ args pad. takes_sound;
   source = None;
 }
 
@@ -112,15 +112,15 @@ definition_of filter.HFlip = single false (plain_by is_video (λ head. head)) hf
 definition_of filter.VFlip = single false (plain_by is_video (λ head. head)) vflip_view (λ head. head)
 definition_of filter.Fps = single false fps_by fps_view fps_head
 definition_of filter.Split = sharing (last_number split_manual 0 1 16 2) false false (split_by is_video) split_view split_heads
-definition_of filter.HStack = merging (counted false 0 2) (λ args. false) (stack_by Beside) (λ heads. stack_view) head_of
-definition_of filter.VStack = merging (counted false 0 2) (λ args. false) (stack_by Below) (λ heads. stack_view) head_of
-definition_of filter.Concat = merging segments_said (λ args. sound_said args && not (video_said args)) concat_by (λ heads. concat_view) concat_head
+definition_of filter.HStack = merging (counted false 0 2) (λ args pad. false) (stack_by Beside) (λ heads. stack_view) head_of
+definition_of filter.VStack = merging (counted false 0 2) (λ args pad. false) (stack_by Below) (λ heads. stack_view) head_of
+definition_of filter.Concat = merging segments_said (λ args pad. sound_said args && not (video_said args)) concat_by (λ heads. concat_view) concat_head
 definition_of filter.ANull = single true (pass_by is_sound) pass_view (λ m. m.head)
 definition_of filter.ATrim = single true atrim_by atrim_view (λ m. m.trim.head)
 definition_of filter.ASetPts = single true (rebase_by is_sound) rebase_view (λ m. m.head)
 definition_of filter.ASplit = sharing (last_number split_manual 0 1 16 2) false true (split_by is_sound) split_view split_heads
 definition_of filter.ChannelSplit = sharing (λ args. 0) true true (plain_by is_sound (λ head. head)) channels_view mono_heads
-definition_of filter.Join = merging inputs_said (λ args. true) join_by join_view head_itself
+definition_of filter.Join = merging inputs_said (λ args pad. true) join_by join_view head_itself
 definition_of filter.Color = made_before false is_video color_by
 definition_of filter.ANullSrc = made_before true is_sound silence_by
 

@@ -20,6 +20,6 @@ is_apart name = (definition_of name).is_apart
 abbrev pub is_source : FilterName → Bool
 is_source name = is_some (definition_of name).source
 
--- its input pads take sound; else they take pictures
-abbrev pub takes_sound : FilterName → List Arg → Bool
-takes_sound name args = (definition_of name).takes_sound args
+-- its input pad of this number takes sound; else it takes pictures
+abbrev pub takes_sound : FilterName → List Arg → ℕ → Bool
+takes_sound name args pad = (definition_of name).takes_sound args pad

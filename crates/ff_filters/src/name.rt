@@ -221,9 +221,9 @@ pub fn is_source(name: FilterName) -> bool
     }
 }
 
-/// Whether the input pads of a filter take audio; else they take video.
-pub fn takes_sound(name: FilterName, args: &[Arg]) -> bool
-    ensures { result ≡ sound_taken name args.now }
+/// Whether the input pad of this number takes audio; else it takes video.
+pub fn takes_sound(name: FilterName, args: &[Arg], pad: usize) -> bool
+    ensures { result ≡ sound_taken name args.now pad }
 {
     match name {
         FilterName::ANull

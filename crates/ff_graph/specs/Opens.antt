@@ -43,9 +43,9 @@ pub record OpenIn : Type 0 where
   pub sound : Bool
   pub source : Option SourceInput
 
-abbrev pub takes_sound_as : Option FilterName → List Arg → Bool
-takes_sound_as None args = false
-takes_sound_as (Some name) args = takes_sound name args
+abbrev pub takes_sound_as : Option FilterName → List Arg → ℕ → Bool
+takes_sound_as None args pad = false
+takes_sound_as (Some name) args pad = takes_sound name args pad
 
 -- filter k, where it is a source filter, with what it makes; none where its arguments are refused
 abbrev pub source_in : ℕ → Filter → Option SourceInput
@@ -56,7 +56,7 @@ abbrev pub open_in : Pad → Option Seen → OpenIn
 open_in p None = record { label = None; sound = false; source = None }
 open_in p (Some d) = record {
   label = slice_get d.filter.ins p.pad;
-  sound = takes_sound_as (filter_named d.filter.name) d.filter.args;
+  sound = takes_sound_as (filter_named d.filter.name) d.filter.args p.pad;
   source = source_in p.filter d.filter;
 }
 

@@ -42,13 +42,13 @@ pub fn is_known(name: &str) -> bool
     named(name).is_some()
 }
 
-// Whether the input pads of a filter take audio.
-fn is_sound(filter: &Filter) -> bool
-    ensures { result ≡ takes_sound_as (filter_named filter.now.name) filter.now.args }
+// Whether the input pad of this number takes audio.
+fn is_sound(filter: &Filter, pad: usize) -> bool
+    ensures { result ≡ takes_sound_as (filter_named filter.now.name) filter.now.args pad }
 {
     match named(filter.name.as_str()) {
         None => false,
-        Some(name) => takes_sound(name, filter.args.as_slice()),
+        Some(name) => takes_sound(name, filter.args.as_slice(), pad),
     }
 }
 
@@ -90,7 +90,7 @@ fn open_input(alloc: Global, drawn: &[Drawn<'_>], pad: Pad) -> Result<OpenInput,
     let filter = drawn[pad.filter].filter;
     Ok(OpenInput {
         label: copy_label(alloc, filter.ins.as_slice(), pad.pad)?,
-        sound: is_sound(filter),
+        sound: is_sound(filter, pad.pad),
         source: source_input(pad.filter, filter),
     })
 }

@@ -1,5 +1,5 @@
 //! Why a filter can't be had.
-use crate::explain::graphs::{Written, filter_of};
+use crate::explain::graphs::{Takes, Written, filter_of};
 use crate::explain::line::CommandLine;
 use crate::explain::nearest::nearest;
 use crate::explain::quoted::{tell_clipped, tell_quoted};
@@ -52,9 +52,10 @@ fn tell_arguments(told: &mut Told, filter: &Written, what: &str) {
 }
 
 // The kinds of its inputs.
-fn kinds(takes_sound: Option<bool>) -> &'static str {
-    match takes_sound {
-        Some(true) => "it takes audio, and an input of it is video",
+fn kinds(takes: Option<Takes>) -> &'static str {
+    match takes {
+        Some(Takes::Audio) => "it takes audio, and an input of it is video",
+        Some(Takes::InTurn) => "its inputs are video and audio in turn",
         _ => "it takes video, and an input of it is audio",
     }
 }
@@ -90,7 +91,7 @@ fn tell_of(told: &mut Told, filter: &Written, kind: ConfigError) {
             tell_arguments(told, filter, "it has no argument of such a name");
         }
         ConfigError::BadOption => tell_arguments(told, filter, bad_option(filter.is_source)),
-        ConfigError::Kind => tell_wrong(told, filter, kinds(filter.takes_sound)),
+        ConfigError::Kind => tell_wrong(told, filter, kinds(filter.takes)),
         ConfigError::Pads => tell_wrong(told, filter, bad_pads(filter.is_source)),
         ConfigError::Mismatch => tell_wrong(
             told,

@@ -1,13 +1,24 @@
 //! The filter that a number means, in the graphs of a command line.
 use crate::explain::line::CommandLine;
 use crate::explain::told::Told;
-use ff_filters::named;
-use ff_lang::{Filter, Graph, LangError, read_graph};
+use ff_filters::{FilterName, is_source, named, takes_sound};
+use ff_lang::{Arg, Filter, Graph, LangError, read_graph};
 use ff_words::Kind;
 use std::alloc::{AllocError, Global};
 
 /// How many outputs there may be.
 const MOST: u32 = 16;
+
+/// What the inputs of a filter take.
+#[derive(Clone, Copy, Debug, PartialEq, Eq)]
+pub(crate) enum Takes {
+    /// Each takes video.
+    Video,
+    /// Each takes audio.
+    Audio,
+    /// The first takes video, the next audio, and so on.
+    InTurn,
+}
 
 /// A filter as it is written.
 #[derive(Drop)]
@@ -16,8 +27,8 @@ pub(crate) struct Written {
     pub(crate) name: String,
     /// Its name with its arguments.
     pub(crate) text: String,
-    /// Whether its inputs are audio; nothing where no filter has the name.
-    pub(crate) takes_sound: Option<bool>,
+    /// What its inputs take; nothing where no filter has the name.
+    pub(crate) takes: Option<Takes>,
     /// Whether it is a source filter.
     pub(crate) is_source: bool,
 }
@@ -34,12 +45,18 @@ fn tell_text(told: &mut Told, filter: &Filter) {
     }
 }
 
+// The first two inputs tell: a filter takes one kind alone, or video and audio in turn.
+fn taken(name: FilterName, args: &[Arg]) -> Takes {
+    match (takes_sound(name, args, 0), takes_sound(name, args, 1)) {
+        (false, false) => Takes::Video,
+        (true, true) => Takes::Audio,
+        _ => Takes::InTurn,
+    }
+}
+
 fn as_written(alloc: Global, filter: &Filter) -> Result<Written, AllocError> {
-    let (takes_sound, is_source) = match named(filter.name.as_str()) {
-        Some(name) => {
-            let takes_sound = ff_filters::takes_sound(name, filter.args.as_slice());
-            (Some(takes_sound), ff_filters::is_source(name))
-        }
+    let (takes, is_source) = match named(filter.name.as_str()) {
+        Some(name) => (Some(taken(name, filter.args.as_slice())), is_source(name)),
         None => (None, false),
     };
     let mut told = Told::new(alloc);
@@ -47,7 +64,7 @@ fn as_written(alloc: Global, filter: &Filter) -> Result<Written, AllocError> {
     Ok(Written {
         name: String::from_str(alloc, filter.name.as_str())?,
         text: told.finish()?,
-        takes_sound,
+        takes,
         is_source,
     })
 }
@@ -108,7 +125,7 @@ fn simple_filter(
         let Some(filter) = filter_in(alloc, text, number)? else {
             continue;
         };
-        if filter.takes_sound.is_some() != is_named {
+        if filter.takes.is_some() != is_named {
             continue;
         }
         if let Some(other) = &found
