@@ -1,6 +1,7 @@
 -- What every filter owes, as one record by its definition: what is proved of graphs takes it whole.
 use Rattle.std.proofs.Common.{◌≡◌, ◌⊎◌, inl, inr, ℕ, ◌≤◌, nat_le, Bool, true, false, Result, Ok, Err, List, [], ◌∷◌, length, map, refl, sym, ap, subst, ◌∙◌, arith}
-use Rattle.std.specs.List.{AllByRecursion}
+use Rattle.std.specs.List.{AllByRecursion, Contains}
+use Rattle.std.proofs.lemmas.List.Elements.{All-contains, All-from_recursion}
 use Rattle.ff_time.specs.Fraction.{Fraction, IsBase}
 use Rattle.ff_frame.specs.declared.config.ConfigError.{ConfigError}
 use Rattle.ff_frame.specs.declared.config.ConfigError.TheVariants.{NoMemory}
@@ -18,21 +19,24 @@ use Rattle.ff_fsync.specs.stacks.Bases.{in_common}
 use Rattle.ff_fsync.specs.stacks.Heads.{with_length}
 use Rattle.ff_joins.specs.JoinOptions.{channels_in as all_channels, with_channels}
 use Rattle.ff_filters.specs.Configured.{Filtered, filtered}
-use Rattle.ff_filters.specs.Definitions.{Definition, Relation, merging, sharing, one, several}
+use Rattle.ff_filters.specs.Definitions.{Definition, Relation, joining, merging, sharing, one, several}
 use Rattle.ff_filters.specs.limited.Cuts.{AreTimed}
 use Rattle.ff_filters.proofs.LimitedLemmas.Opening.{Owes}
 use Rattle.ff_filters.proofs.Refusing.{HasReason}
 
 -- ---- what becomes of a head
 
--- of the first of several heads
+-- of one of several heads, or of the first
 pub data Becomes : List StreamHead → StreamHead → Type 0 where
-  itself : (h : StreamHead) (hs : List StreamHead) → Becomes (h ∷ hs) h
+  among : (hs : List StreamHead) (h : StreamHead) → Contains hs h → Becomes hs h
   resized : (h : StreamHead) (hs : List StreamHead) (w k : ℕ) → Becomes (h ∷ hs) (sized h w k)
   paced : (h : StreamHead) (hs : List StreamHead) (base : Fraction) → IsBase base → Becomes (h ∷ hs) (fps_head (h, base))
   mono : (h : StreamHead) (hs : List StreamHead) → Becomes (h ∷ hs) (mono_head h)
   longer : (h : StreamHead) (hs : List StreamHead) (d : Direction) (n : ℕ) → Becomes (h ∷ hs) (with_length d n (in_common (h ∷ hs) h))
   joined : (h : StreamHead) (hs : List StreamHead) → nat_le (all_channels (h ∷ hs)) 8 ≡ true → Becomes (h ∷ hs) (with_channels h (all_channels (h ∷ hs)))
+
+pub itself : (h : StreamHead) (hs : List StreamHead) → Becomes (h ∷ hs) h
+itself h hs = among (h ∷ hs) h (0, omega arith, refl)
 
 -- what is so of a head stays so of what becomes of it
 pub record IsKept (P : StreamHead → Type 0) : Type 0 where
@@ -43,7 +47,7 @@ pub record IsKept (P : StreamHead → Type 0) : Type 0 where
   pub joined_too : (h : StreamHead) (hs : List StreamHead) → nat_le (all_channels (h ∷ hs)) 8 ≡ true → P h → P (with_channels h (all_channels (h ∷ hs)))
 
 becomes_so : (P : StreamHead → Type 0) → IsKept P → {hs : List StreamHead} {k : StreamHead} → Becomes hs k → AllByRecursion P hs → P k
-becomes_so P keeps (itself h hs) all = all.0
+becomes_so P keeps (among hs h there) all = All-contains P hs h (All-from_recursion P hs all) there
 becomes_so P keeps (resized h hs w k) all = keeps.sized_too h w k all.0
 becomes_so P keeps (paced h hs base is) all = keeps.paced_too h base is all.0
 becomes_so P keeps (mono h hs) all = keeps.mono_too h all.0
@@ -134,41 +138,43 @@ pub record GivesOne (heads : List StreamHead) (v : View) (k : StreamHead) : Type
 module _ {X : Type 0} (is : List Arg → List StreamHead → Result X ConfigError → Type 0) (by : List Arg → List StreamHead → Result X ConfigError)
     (same : (args : List Arg) (heads : List StreamHead) (r : Result X ConfigError) → is args heads r → by args heads ≡ r)
     (so : (args : List Arg) (heads : List StreamHead) → HasReason (by args heads)) where
+  pub joining_owed : (inputs outputs : List Arg → ℕ) (is_apart : Bool) (takes_sound : List Arg → ℕ → Bool) (shown : List StreamHead → X → View)
+      (outs : X → List StreamHead) → ((args : List Arg) → inputs args ≤ 16) → ((args : List Arg) → AreFew is_apart (outputs args))
+      → ((args : List Arg) (heads : List StreamHead) (m : X) → by args heads ≡ Ok m
+      → Gives (joining inputs outputs is_apart takes_sound by shown outs) args heads (record { view = shown heads m; outs = outs m }))
+      → Owed (joining inputs outputs is_apart takes_sound by shown outs) (several is shown outs)
+  joining_owed inputs outputs is_apart takes_sound shown outs few some each = record {
+    made = λ args heads v hs h. made_so (shown heads) outs (is args heads) (by args heads) (same args heads) v hs h;
+    refused = λ args heads e h. refused_so (shown heads) outs (is args heads) (by args heads) (same args heads) e h;
+    reason = λ args heads. reason_so (shown heads) outs (by args heads) (so args heads);
+    inputs = few;
+    outputs = some;
+    gives = λ args heads f e. at_each (shown heads) outs (λ (g : Filtered). Gives (joining inputs outputs is_apart takes_sound by shown outs) args heads g)
+        (by args heads) f (each args heads) e;
+  }
+
   pub merging_owed : (inputs : List Arg → ℕ) (takes_sound : List Arg → ℕ → Bool) (shown : List StreamHead → X → View) (head : X → StreamHead)
       → ((args : List Arg) → inputs args ≤ 16)
       → ((args : List Arg) (heads : List StreamHead) (m : X) → by args heads ≡ Ok m → GivesOne heads (shown heads m) (head m))
       → Owed (merging inputs takes_sound by shown head) (one is shown head)
-  merging_owed inputs takes_sound shown head few each = record {
-    made = λ args heads v hs h. made_so (shown heads) (λ m. head m ∷ []) (is args heads) (by args heads) (same args heads) v hs h;
-    refused = λ args heads e h. refused_so (shown heads) (λ m. head m ∷ []) (is args heads) (by args heads) (same args heads) e h;
-    reason = λ args heads. reason_so (shown heads) (λ m. head m ∷ []) (by args heads) (so args heads);
-    inputs = few;
-    outputs = λ args. (omega arith, omega arith);
-    gives = λ args heads f e. at_each (shown heads) (λ m. head m ∷ []) (λ (g : Filtered). Gives (merging inputs takes_sound by shown head) args heads g)
-        (by args heads) f (λ m k. let o = each args heads m k in record {
-          first = o.first;
-          others = o.others;
-          fed = o.fed;
-          ins = o.ins;
-          outs = o.outs;
-          new = o.new;
-          owes = o.owes;
-          become = (o.becomes, tt);
-          count = refl;
-        }) e;
-  }
+  merging_owed inputs takes_sound shown head few each =
+      joining_owed inputs (λ args. 1) false takes_sound shown (λ m. head m ∷ []) few (λ args. (omega arith, omega arith))
+      (λ args heads m k. let o = each args heads m k in record {
+        first = o.first;
+        others = o.others;
+        fed = o.fed;
+        ins = o.ins;
+        outs = o.outs;
+        new = o.new;
+        owes = o.owes;
+        become = (o.becomes, tt);
+        count = refl;
+      })
 
   pub sharing_owed : (outputs : List Arg → ℕ) (is_apart takes_sound : Bool) (shown : X → View) (outs : X → List StreamHead)
       → ((args : List Arg) → AreFew is_apart (outputs args))
       → ((args : List Arg) (heads : List StreamHead) (m : X) → by args heads ≡ Ok m
       → Gives (sharing outputs is_apart takes_sound by shown outs) args heads (record { view = shown m; outs = outs m }))
       → Owed (sharing outputs is_apart takes_sound by shown outs) (several is (λ heads. shown) outs)
-  sharing_owed outputs is_apart takes_sound shown outs few each = record {
-    made = λ args heads v hs h. made_so shown outs (is args heads) (by args heads) (same args heads) v hs h;
-    refused = λ args heads e h. refused_so shown outs (is args heads) (by args heads) (same args heads) e h;
-    reason = λ args heads. reason_so shown outs (by args heads) (so args heads);
-    inputs = λ args. omega arith;
-    outputs = few;
-    gives = λ args heads f e. at_each shown outs (λ (g : Filtered). Gives (sharing outputs is_apart takes_sound by shown outs) args heads g)
-        (by args heads) f (each args heads) e;
-  }
+  sharing_owed outputs is_apart takes_sound shown outs few each =
+      joining_owed (λ args. 1) outputs is_apart (λ args pad. takes_sound) (λ heads. shown) outs (λ args. omega arith) few each

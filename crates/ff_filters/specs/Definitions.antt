@@ -69,33 +69,31 @@ pub record Definition : Type 0 where
   -- of a source filter: what its arguments make, which comes to its only input pad
   pub source : Option (List Arg → Result Made ConfigError)
 
--- of one output: what configures it, how it is seen, and the head of the output
-abbrev pub merging : {X : Type 0} → (List Arg → ℕ) → (List Arg → ℕ → Bool) → (List Arg → List StreamHead → Result X ConfigError) → (List StreamHead → X → View)
-    → (X → StreamHead) → Definition
-merging inputs takes_sound by shown head = record {
-  by = λ args heads. filtered (shown heads) (λ m. head m ∷ []) (by args heads);
+-- how many inputs and outputs it has, whether the outputs are apart, what each input takes, what configures it, how it is seen, and the heads of the outputs
+abbrev pub joining : {X : Type 0} → (inputs outputs : List Arg → ℕ) → Bool → (List Arg → ℕ → Bool) → (List Arg → List StreamHead → Result X ConfigError)
+    → (List StreamHead → X → View) → (X → List StreamHead) → Definition
+joining inputs outputs is_apart takes_sound by shown outs = record {
+  by = λ args heads. filtered (shown heads) outs (by args heads);
   inputs = inputs;
-  outputs = λ args. 1;
-  is_apart = false;
+  outputs = outputs;
+  is_apart = is_apart;
   takes_sound = takes_sound;
   source = None;
 }
+
+-- of one output, with its head
+abbrev pub merging : {X : Type 0} → (List Arg → ℕ) → (List Arg → ℕ → Bool) → (List Arg → List StreamHead → Result X ConfigError) → (List StreamHead → X → View)
+    → (X → StreamHead) → Definition
+merging inputs takes_sound by shown head = joining inputs (λ args. 1) false takes_sound by shown (λ m. head m ∷ [])
 
 -- of one input and one output
 abbrev pub single : {X : Type 0} → Bool → (List Arg → List StreamHead → Result X ConfigError) → (X → View) → (X → StreamHead) → Definition
 single takes_sound by shown head = merging (λ args. 1) (λ args pad. takes_sound) by (λ heads. shown) head
 
--- of one input and several outputs, with the heads of the outputs
+-- of one input and several outputs
 abbrev pub sharing : {X : Type 0} → (List Arg → ℕ) → Bool → Bool → (List Arg → List StreamHead → Result X ConfigError) → (X → View) → (X → List StreamHead)
     → Definition
-sharing outputs is_apart takes_sound by shown outs = record {
-  by = λ args heads. filtered shown outs (by args heads);
-  inputs = λ args. 1;
-  outputs = outputs;
-  is_apart = is_apart;
-  takes_sound = λ args pad. takes_sound;
-  source = None;
-}
+sharing outputs is_apart takes_sound by shown outs = joining (λ args. 1) outputs is_apart (λ args pad. takes_sound) by (λ heads. shown) outs
 
 -- A source filter, whose arguments make its stream. It passes on what comes to it, whatever they say.
 abbrev pub made_before : Bool → (StreamHead → Bool) → (List Arg → Result Made ConfigError) → Definition
