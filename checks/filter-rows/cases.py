@@ -144,6 +144,10 @@ def concats_refused():
         rows += [configure(f"concat={args}", heads) for heads in ([film()] * 2, [film()] * 3, [track()] * 2)]
     rows += [configure(f"concat={count}", [GREY] * count) for count in (2, 3, 15, 16, 17)]
     rows += [configure(f"concat={count}:0:1", [MONO] * count) for count in (2, 3, 15, 16, 17)]
+    both = [film(), track()]
+    for args in ("a=1", "v=1:a=1", "n=2:a=1", "a=1:n=2", "n=3:a=1", "n=8:a=1", "n=9:a=1", "a=1:n=9", "n=9:a=1:a=0", "2:1:1", "9:1:1", "a=1:unsafe=1", "a=1:n=x"):
+        rows += [configure(f"concat={args}", heads) for heads in (both * 2, both * 3, both * 8, [film(), film(), track(), track()], [track(), film()] * 2, [film()] * 4, [film()] * 9)]
+    rows += [configure("concat=a=1", heads) for heads in ([film(), track(), film(4, 6), track()], [film(), track(), film(), track(1)])]
     for other in (film(4, 6), film(6, 4), film(4, 4, "444"), film(base=Fraction(1, 24)), film(aspect="2:2"), film(aspect="0:0")):
         rows += [configure("concat", heads) for heads in ([film(), other], [other, film()], [other, other])]
         rows.append(configure("concat=3", [film(), film(), other]))
@@ -530,10 +534,11 @@ def of_concat():
     rows.append(steps("the first segment isn't shifted", "concat", [GREY] * 2, by_port([(films[1], WHOLE), (films[0], WHOLE)])))
     seconds = GREY._replace(base=SECONDS)
     long = [picture(seconds, 0, 1_000_000_000, 1)]
-    rows.append(steps("a second segment past the last second", "concat", [seconds] * 2, by_port([(long, WHOLE), (long, WHOLE)])))
+    # An item that waits and passes a limit closes the output once it is given: what is spent before that isn't looked at.
+    rows.append(steps("a second segment past the last second", "concat", [seconds] * 2, by_port([(long, WHOLE), (long, WHOLE)]), before=False))
     half = [picture(seconds, 0, 500_000_000, 1)]
     rows.append(steps("two segments up to the last second", "concat", [seconds] * 2, by_port([(half, WHOLE), (half, WHOLE)])))
-    rows.append(steps("a third segment past the last second", "concat=3", [seconds] * 3, by_port([(half, WHOLE), (half, WHOLE), (half, BROKEN)])))
+    rows.append(steps("a third segment past the last second", "concat=3", [seconds] * 3, by_port([(half, WHOLE), (half, WHOLE), (half, BROKEN)]), before=False))
     return rows
 
 

@@ -413,22 +413,42 @@ def stack(args, heads, beside):
 
 def concat(args, heads):
     """The items of each segment in order, shifted by the end of the last item given so far: 0 where there is none; the first segment
-    isn't shifted."""
+    isn't shifted. So it is with one stream a segment; with two only what is refused is said here."""
     bit = number(5, 0, 1)
     options = [("n", ["n"], number(5, 2, 16)), ("v", ["v"], bit), ("a", ["a"], bit)]
-    kinds = (last(args, options, "v", 1), last(args, options, "a", 0))
-    # Where v or a is refused, the defaults of both stand when kinds are compared. They are refused together, where both or none is 1, at
-    # the last argument that gives one of them.
-    asked = kinds if sum(kinds) == 1 else (1, 0)
-    check_inputs(heads, last(args, options, "n", 2), asked == (0, 1))
     names = given(args, options)
-    decides = max((i for i, name in enumerate(names) if name in ("v", "a")), default=None)
-    read_args(args if decides is None else args[:decides + 1], options)
-    if sum(kinds) != 1:
+
+    def said(option, default):
+        """The value of the last argument that gives an option, and None where that one is refused."""
+        return last(args, options, option, None) if option in names else default
+    count, video, audio = said("n", 2), said("v", 1), said("a", 0)
+    # Where v or a is refused, or neither is 1, the kinds are video alone. Where there are too many inputs, the last argument that gives an
+    # option is refused: n then counts as 2, and v and a as video alone.
+    kinds = (video, audio) if video is not None and audio is not None and video + audio else (1, 0)
+    count = 2 if count is None else count
+    too_many = None not in (video, audio) and video + audio and count * sum(kinds) > 16
+    if too_many:
+        if [name for name in names if name][-1] == "n":
+            count = 2
+        else:
+            kinds = (1, 0)
+    if len(heads) != count * sum(kinds):
+        raise Refused("wrong number of pads")
+    wanted = [sound for sound, asked in zip((False, True), kinds) if asked]
+    if [is_sound(head) for head in heads] != wanted * count:
+        raise Refused("wrong kind")
+    # Neither kind is refused at the last argument that gives v or a, too many inputs at the last that gives an option.
+    ends = [max((i for i, name in enumerate(names) if name in within), default=None) for within in (("v", "a"), ("n", "v", "a"))]
+    faults = [ends[0]] if None not in (video, audio) and not video + audio else []
+    faults += [ends[1]] if too_many else []
+    read_args(args if not faults or None in faults else args[:min(faults) + 1], options)
+    if faults:
         raise Refused("bad option")
-    read_args(args, options)
-    if any(head != heads[0] for head in heads):
+    width = sum(kinds)
+    if any(head != heads[place % width] for place, head in enumerate(heads)):
         raise Refused("mismatch")
+    if width == 2:
+        return heads[:2], None
     head = heads[0]
 
     def function(streams):

@@ -1,5 +1,5 @@
 -- Each filter is what its function says.
-use Rattle.std.proofs.Common.{◌≡◌, ℕ, ◌<◌, ◌^◌, ◌==◌, nat_le, Bool, true, false, cond, Option, Some, None, Result, Ok, Err, List, [], ◌∷◌, length, inl, inr, refl, sym, ap}
+use Rattle.std.proofs.Common.{◌≡◌, ℕ, ◌<◌, ◌^◌, ◌==◌, nat_le, Bool, true, false, cond, Option, Some, None, Result, Ok, Err, List, [], ◌∷◌, length, refl, sym, ap}
 use Rattle.std.proofs.Common.{subst, ◌∙◌}
 use Rattle.ff_time.specs.Fraction.{Fraction}
 use Rattle.ff_frame.specs.declared.config.ConfigError.{ConfigError}
@@ -31,17 +31,17 @@ use Rattle.ff_fsync.specs.declared.stacks.shape.Direction.{Direction}
 use Rattle.ff_fsync.specs.stacks.Options.{stack_manual, counted}
 use Rattle.ff_fsync.specs.stacks.Stacks.{StackOf, Unless, stack_on, AfterRead, IsStack}
 use Rattle.ff_fsync.specs.stacks.Heads.{input_fault, stack_fault}
-use Rattle.ff_joins.specs.ConcatOptions.{concat_manual, concat_set, concat_start, EachIs, AreJoined, IsConcat, segments_said, video_said, sound_said, is_of_kind}
+use Rattle.ff_concat.specs.Arguments.{concat_manual, concat_set, concat_start}
+use Rattle.ff_concat.specs.ConcatOptions.{IsConcat}
+use Rattle.ff_concat.proofs.Agreeing.{concat_is as segments_are}
 use Rattle.ff_joins.specs.JoinOptions.{channels_in, join_manual, inputs_said, is_like, AreAlike, IsJoin}
 use Rattle.ff_joins.specs.Arguments.{Checked, GoesOn, AfterRead as AfterArgs, each_head}
 use Rattle.ff_filters.specs.Ticks.{TrimTimes, set_trim, ticks_at, in_bits, in_bits-near, range_in}
-use Rattle.ff_filters.specs.Heads.{each_is}
 use Rattle.ff_filters.specs.ReadBy.{and_then, unless, read_by, configured_by}
 use Rattle.ff_filters.specs.SetBy.{set_none, set_expr, set_crop, set_pad, set_fps, set_split, set_stack, set_join}
 use Rattle.ff_filters.specs.Configured.{plain_by, rebase_by, all_times, trimmed_as, trim_by, atrimmed_as, atrim_by, cropped_as, crop_by, padded_as, pad_by, fps_by, split_by, stacked_as, stack_by}
-use Rattle.ff_filters.specs.Configured.{checked, segments_as, concat_by, joined_as, join_by}
+use Rattle.ff_filters.specs.Configured.{checked, concat_by, joined_as, join_by}
 use Rattle.ff_filters.proofs.Readings.{SetsBy, result_of, read_is, configured_is}
-use Rattle.ff_filters.proofs.SameHeads.{each_in, each_out}
 use Rattle.ff_filters.proofs.SettingsBy.{none_set, expr_set, crop_set, pad_set, fps_set, split_set, join_set, concat_sets, stack_set}
 use Rattle.ff_filters.proofs.RangeTicks.{times_of, trim_times, trim_set, ceiling_is, in_bits-same, range_is}
 
@@ -171,21 +171,10 @@ args_is : {S X : Type 0} (manual : Manual S) (set : S → ℕ → List ℕ → O
 args_is manual set is s args next then r same h =
     ap (and_then then) (read_is manual (λ t. t) set is false 0 s args h.0 h.1 ∙ result_same h.0) ∙ goes_on next then h.0 r same h.2
 
-differ : (head : StreamHead) (hs : List StreamHead) (c : Bool) → each_is head hs ≡ c → (EachIs head hs → ⊥) → c ≡ false
-differ head hs true e none = absurd (none (each_out head hs e))
-differ head hs false e none = refl
-
-segments_is : (heads : List StreamHead) (r : Result (StreamHead × ℕ) ConfigError) → AreJoined heads r → segments_as heads ≡ r
-segments_is [] r h = sym h
-segments_is (x ∷ xs) r (inl h) = ap (λ (c : Bool). checked c Mismatch (Ok (x, length (x ∷ xs)))) (each_in x xs h.0) ∙ sym h.1
-segments_is (x ∷ xs) r (inr h) = ap (λ (c : Bool). checked c Mismatch (Ok (x, length (x ∷ xs)))) (differ x xs (each_is x xs) refl h.0) ∙ sym h.1
-
-pub concat_is : (args : List Arg) (heads : List StreamHead) (r : Result (StreamHead × ℕ) ConfigError) → IsConcat args heads r → concat_by args heads ≡ r
+pub concat_is : (args : List Arg) (heads : List StreamHead) (r : Result (List StreamHead × ℕ) ConfigError) → IsConcat args heads r → concat_by args heads ≡ r
 concat_is args heads r h =
-    checked_is (length heads == segments_said args) Pads _ r _
-    (λ k. checked_is (each_head (is_of_kind (video_said args) (sound_said args)) heads) Kind _ r _
-    (λ l. args_is concat_manual concat_set concat_sets (concat_start args) args (λ s w. AreJoined heads w) (λ s. segments_as heads) r (λ s j. segments_is heads r j)
-    l) k) h
+    segments_are args heads (read_by concat_manual concat_set false 0 (concat_start args) args) r
+    (λ q k. read_is concat_manual (λ s. s) concat_set concat_sets false 0 (concat_start args) args q k ∙ result_same q) h
 
 joined_is : (heads : List StreamHead) (r : Result StreamHead ConfigError) → AreAlike heads r → joined_as heads ≡ r
 joined_is [] r h = sym h

@@ -1,6 +1,5 @@
 pub mod Durations
 pub mod LowestTerms
-pub mod SameHeads
 pub mod Readings
 pub mod RangeTicks
 pub mod SettingsBy

@@ -1,3 +1,4 @@
 pub mod Opening
 pub mod Ones
 pub mod Manies
+pub mod Segments

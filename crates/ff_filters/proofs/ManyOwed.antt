@@ -1,8 +1,9 @@
 -- What each filter of several inputs or outputs owes.
-use Rattle.std.proofs.Common.{◌≡◌, ℕ, zero, suc, ◌≤◌, nat_le, ◌==◌, Bool, false, true, Ok, List, [], ◌∷◌, length, map, refl, sym, ap, subst, ◌∙◌, arith}
+use Rattle.std.proofs.Common.{◌≡◌, ℕ, zero, suc, ◌*◌, ◌≤◌, take, nat_le, ◌==◌, Bool, false, true, Ok, List, [], ◌∷◌, length, map, refl, sym, ap, subst, ◌∙◌, arith}
 use Rattle.std.specs.Prelude.{replicate}
-use Rattle.std.specs.List.{AllByRecursion}
-use Rattle.std.proofs.lemmas.List.{length-replicate}
+use Rattle.std.specs.List.{AllByRecursion, Contains}
+use Rattle.std.proofs.Math.Nat.{mul-le-mul_right}
+use Rattle.std.proofs.lemmas.List.{length-replicate, length-take-le}
 use Rattle.ff_frame.specs.declared.config.ConfigError.TheVariants.{Pads, Kind, Mismatch, BadSize}
 use Rattle.ff_frame.specs.declared.head.StreamHead.{StreamHead}
 use Rattle.ff_stream.specs.declared.item.Lane.{Lane}
@@ -18,24 +19,30 @@ use Rattle.ff_fsync.specs.stacks.Heads.{input_fault, stack_fault, total}
 use Rattle.ff_fsync.specs.stacks.Options.{stack_manual, counted}
 use Rattle.ff_fsync.specs.stacks.Stacks.{StackOf, stack_on, IsStack, stack_view, head_of}
 use Rattle.ff_joins.specs.Arguments.{each_head, last_number}
-use Rattle.ff_joins.specs.ConcatOptions.{EachIs, concat_manual, concat_set, concat_start, IsConcat, segments_said, video_said, sound_said, is_of_kind, concat_view, concat_head}
+use Rattle.ff_concat.specs.Arguments.{asked, streams_of, concat_manual, concat_set, concat_start}
+use Rattle.ff_concat.specs.ConcatOptions.{IsConcat, start_view, start_heads}
+use Rattle.ff_concat.specs.Pads.{inputs_of, takes_audio}
+use Rattle.ff_concat.specs.laws.Fed.{CanFollow}
+use Rattle.ff_concat.specs.laws.StartLaws.{start-new}
+use Rattle.ff_concat.proofs.Agreeing.{concat_made}
+use Rattle.ff_concat.proofs.Lanes.{all_lanes, front_all}
+use Rattle.ff_concat.proofs.PadCounts.{asked_fit, streams_few}
 use Rattle.ff_joins.specs.JoinOptions.{join_manual, IsJoin, inputs_said, is_like, channels_in as all_channels, with_channels}
 use Rattle.ff_joins.specs.JoinView.{join_view, head_itself}
 use Rattle.ff_filters.specs.declared.name.FilterName.TheVariants as filter
-use Rattle.ff_filters.specs.Heads.{each_is}
 use Rattle.ff_filters.specs.ReadBy.{read_by}
 use Rattle.ff_filters.specs.SetBy.{set_none, set_split, set_stack, set_join}
 use Rattle.ff_filters.specs.Configured.{plain_by, copied_as, split_by, stacked_as, stack_by}
-use Rattle.ff_filters.specs.Configured.{segments_as, concat_by, joined_as, join_by}
+use Rattle.ff_filters.specs.Configured.{concat_by, joined_as, join_by}
 use Rattle.ff_filters.specs.Definitions.{merging, sharing, definition_of, one, several, relation_of}
-use Rattle.ff_filters.proofs.SameHeads.{each_out}
 use Rattle.ff_filters.proofs.Agreeing.{plain_is, split_is, stack_is, concat_is, join_is}
 use Rattle.ff_filters.proofs.Refusing.{configured-so, stack-so, concat-so, join-so}
 use Rattle.ff_filters.proofs.Parting.{if_ok, then_ok, unless_ok, parts_of}
 use Rattle.ff_filters.proofs.Settings.{same_ok, split_read, counted_few, last_few, last_least}
-use Rattle.ff_filters.proofs.Owing.{Becomes, itself, mono, longer, joined, Gives, GivesOne, Owed, merging_owed, sharing_owed}
+use Rattle.ff_filters.proofs.Owing.{Becomes, among, itself, mono, longer, joined, Gives, GivesOne, Owed, joining_owed, merging_owed, sharing_owed}
 use Rattle.ff_filters.proofs.LimitedLemmas.Ones.{split_owes, channels_owes}
-use Rattle.ff_filters.proofs.LimitedLemmas.Manies.{stack_owes, concat_owes, join_owes}
+use Rattle.ff_filters.proofs.LimitedLemmas.Manies.{stack_owes, join_owes}
+use Rattle.ff_filters.proofs.LimitedLemmas.Segments.{concat_owes}
 
 -- ---- of several outputs
 
@@ -122,34 +129,51 @@ stack_owed d = merging_owed (IsStack d) (stack_by d) (stack_is d) (stack-so d) (
     let second = then_ok (stacked_as d heads) (read_by stack_manual set_stack false 0 (record { inputs = 2; shortest = false }) args) m first.1 in
     stacked_gives d heads second.0 m second.2)
 
-all_same : (h : StreamHead) (hs : List StreamHead) → EachIs h hs → replicate (length hs) (Frames h) ≡ map Frames hs
-all_same h [] s = refl
-all_same h (k ∷ ks) s = ap (λ (x : StreamHead). Frames x ∷ replicate (length ks) (Frames h)) (sym s.0) ∙ ap (λ (ls : List Lane). Frames k ∷ ls) (all_same h ks s.1)
+taken_among : (n : ℕ) (hs : List StreamHead) (all : List StreamHead) → ((h : StreamHead) → Contains hs h → Contains all h)
+    → AllByRecursion (λ k. Becomes all k) (take n hs)
+taken_among zero hs all inside = tt
+taken_among (suc n) [] all inside = tt
+taken_among (suc n) (h ∷ hs) all inside =
+    (among all h (inside h (0, omega arith, refl)), taken_among n hs all (λ k there. inside k (suc there.0, (let lt = there.1 in omega (arith, lt)), there.2)))
 
-segments_give : (heads : List StreamHead) (m : StreamHead × ℕ) → segments_as heads ≡ Ok m → GivesOne heads (concat_view m) (concat_head m)
-segments_give [] m e = cc
-segments_give (h ∷ hs) m e =
-    let k = if_ok (each_is h hs) (Ok (h, length (h ∷ hs))) Mismatch m e in
-    subst (λ (x : StreamHead × ℕ). GivesOne (h ∷ hs) (concat_view x) (concat_head x)) (same_ok (h, length (h ∷ hs)) m k.1)
+segments_give : (args : List Arg) (heads : List StreamHead) (m : List StreamHead × ℕ) → concat_by args heads ≡ Ok m
+    → Gives (definition_of filter.Concat) args heads (record { view = start_view m; outs = start_heads m })
+segments_give args [] m e = absurd (
+    let is = concat_made args [] (read_by concat_manual concat_set false 0 (concat_start args) args) m e in
+    let fit = asked_fit args in
+    let one = (streams_few (asked args) fit.kinds).0 in
+    let count = is.count in
+    let some = fit.some in
+    let product : 2 * streams_of (asked args) ≤ (asked args).segments * streams_of (asked args) = mul-le-mul_right (streams_of (asked args)) some in
+    omega (arith, count, product, one)
+    )
+segments_give args (h ∷ hs) m e =
+    let a = asked args in
+    let is = concat_made args (h ∷ hs) (read_by concat_manual concat_set false 0 (concat_start args) args) m e in
+    subst (λ (x : List StreamHead × ℕ). Gives (definition_of filter.Concat) args (h ∷ hs) (record { view = start_view x; outs = start_heads x })) (sym is.made)
     (record {
       first = h;
       others = hs;
       fed = refl;
-      ins = ap (λ (ls : List Lane). Frames h ∷ ls) (all_same h hs (each_out h hs k.0));
+      ins = all_lanes a.segments (streams_of a) (h ∷ hs) is.alike is.count;
       outs = refl;
-      new = record { shut = λ p. refl; ended = λ q. refl; stopped = λ q. refl };
-      owes = λ timed. concat_owes h (length (h ∷ hs)) timed.0;
-      becomes = itself h hs;
+      new = start-new (take (streams_of a) (h ∷ hs), a.segments);
+      owes = λ heads_so. concat_owes (take (streams_of a) (h ∷ hs)) a.segments (front_all CanFollow (streams_of a) (h ∷ hs) heads_so);
+      become = taken_among (streams_of a) (h ∷ hs) (h ∷ hs) (λ k there. there);
+      count = length-take-le (streams_of a) (h ∷ hs) (
+          let fit = asked_fit args in
+          let some = fit.some in
+          let long = is.count in
+          let more : 1 * streams_of a ≤ a.segments * streams_of a = mul-le-mul_right (streams_of a) (let one : 1 ≤ a.segments = omega (arith, some) in one) in
+          omega (arith, long, more)
+          );
     })
 
 pub concat_owed : Owed (definition_of filter.Concat) (relation_of filter.Concat)
-concat_owed = merging_owed IsConcat concat_by concat_is concat-so segments_said (definition_of filter.Concat).takes_sound (λ heads. concat_view) concat_head
-    (λ args. last_few concat_manual 0 2 16 2 false 0 2 args (omega arith) (omega arith))
-    (λ args heads m e.
-    let first = if_ok (length heads == segments_said args) _ Pads m e in
-    let second = if_ok (each_head (is_of_kind (video_said args) (sound_said args)) heads) _ Kind m first.1 in
-    let third = then_ok (λ s. segments_as heads) (read_by concat_manual concat_set false 0 (concat_start args) args) m second.1 in
-    segments_give heads m third.2)
+concat_owed = joining_owed IsConcat concat_by concat_is concat-so (λ args. inputs_of (asked args)) (λ args. streams_of (asked args)) false (λ args. takes_audio (asked args))
+    (λ heads. start_view) start_heads (λ args. (asked_fit args).inputs)
+    (λ args. let few = streams_few (asked args) (asked_fit args).kinds in let most = few.1 in (few.0, omega (arith, most)))
+    segments_give
 
 joined_gives : (heads : List StreamHead) (m : StreamHead) → each_head is_sound heads ≡ true → joined_as heads ≡ Ok m → GivesOne heads (join_view heads m) m
 joined_gives [] m sounds e = cc

@@ -15,7 +15,7 @@ use Rattle.ff_stream.specs.Ports.{stream_at}
 use Rattle.ff_net.specs.Ways.{AreValid}
 use Rattle.ff_filter.specs.Joins.{Flow, Ports, all_opened}
 use Rattle.ff_node_filter.specs.Limiting.{IsLimited}
-use Rattle.ff_filters.specs.limited.Cuts.{cuts_in, IsWithin, PassesLimit, AreTimed}
+use Rattle.ff_filters.specs.limited.Cuts.{cuts_in, IsWithin, PassesLimit, AreStreamHeads}
 use Rattle.ff_filters.specs.Makes.{configured_as}
 use Rattle.ff_filters.specs.Sources.{color_by, silence_by}
 use Rattle.ff_filters.proofs.Refusing.{HasReason}
@@ -53,12 +53,12 @@ pub gives : (name : FilterName) (args : List Arg) (heads : List StreamHead) (f :
 gives name args heads f e = (owed name).gives args heads f e
 
 -- each filter is behind limits
-pub limited : (name : FilterName) (args : List Arg) (heads : List StreamHead) (f : Filtered) → AreTimed heads → configured_as name args heads ≡ Ok f
+pub limited : (name : FilterName) (args : List Arg) (heads : List StreamHead) (f : Filtered) → AreStreamHeads heads → configured_as name args heads ≡ Ok f
     → IsLimited f.view.ins f.view.outs f.view.rest (cuts_in f.view)
 limited name args heads f timed e = opened_limited f.view.ins f.view.outs f.view.rest ((gives name args heads f e).owes timed)
 
 -- what it would give without limits, and that exactly what passes a limit is cut
-pub limits_cut : (name : FilterName) (args : List Arg) (heads : List StreamHead) (f : Filtered) → AreTimed heads → configured_as name args heads ≡ Ok f
+pub limits_cut : (name : FilterName) (args : List Arg) (heads : List StreamHead) (f : Filtered) → AreStreamHeads heads → configured_as name args heads ≡ Ok f
     → (free : Ports → Ports) × IsWithin f.view.ins f.view.outs f.view.rest free
     × ((ss : List Flow) → AreValid f.view.ins ss → (cuts_in f.view ss ≡ true) ↔ PassesLimit f.view.outs (free (all_opened (stream_at ss))))
 limits_cut name args heads f timed e =

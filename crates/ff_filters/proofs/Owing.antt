@@ -20,7 +20,7 @@ use Rattle.ff_fsync.specs.stacks.Heads.{with_length}
 use Rattle.ff_joins.specs.JoinOptions.{channels_in as all_channels, with_channels}
 use Rattle.ff_filters.specs.Configured.{Filtered, filtered}
 use Rattle.ff_filters.specs.Definitions.{Definition, Relation, joining, merging, sharing, one, several}
-use Rattle.ff_filters.specs.limited.Cuts.{AreTimed}
+use Rattle.ff_filters.specs.limited.Cuts.{AreStreamHeads}
 use Rattle.ff_filters.proofs.LimitedLemmas.Opening.{Owes}
 use Rattle.ff_filters.proofs.Refusing.{HasReason}
 
@@ -73,7 +73,7 @@ pub record Gives (d : Definition) (args : List Arg) (heads : List StreamHead) (f
   pub ins : f.view.ins ≡ map Frames heads
   pub outs : f.view.outs ≡ map Frames f.outs
   pub new : IsNew f.view
-  pub owes : AreTimed heads → Owes f.view.ins f.view.outs f.view.rest
+  pub owes : AreStreamHeads heads → Owes f.view.ins f.view.outs f.view.rest
   pub become : AllByRecursion (λ k. Becomes (first ∷ others) k) f.outs
   pub count : Counted d.is_apart first others (length f.outs) (d.outputs args)
 
@@ -132,7 +132,7 @@ pub record GivesOne (heads : List StreamHead) (v : View) (k : StreamHead) : Type
   pub ins : v.ins ≡ map Frames heads
   pub outs : v.outs ≡ Frames k ∷ []
   pub new : IsNew v
-  pub owes : AreTimed heads → Owes v.ins v.outs v.rest
+  pub owes : AreStreamHeads heads → Owes v.ins v.outs v.rest
   pub becomes : Becomes (first ∷ others) k
 
 module _ {X : Type 0} (is : List Arg → List StreamHead → Result X ConfigError → Type 0) (by : List Arg → List StreamHead → Result X ConfigError)

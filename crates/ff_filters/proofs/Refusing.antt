@@ -15,13 +15,13 @@ use Rattle.ff_fsync.specs.declared.stacks.shape.Direction.{Direction}
 use Rattle.ff_fsync.specs.declared.stacks.options.StackSettings.{StackSettings}
 use Rattle.ff_fsync.specs.stacks.Options.{counted, stack_manual}
 use Rattle.ff_fsync.specs.stacks.Heads.{input_fault, stack_fault, has_size}
-use Rattle.ff_joins.specs.ConcatOptions.{segments_said, video_said, sound_said, is_of_kind, concat_manual, concat_set, concat_start}
+use Rattle.ff_concat.specs.Arguments.{concat_manual, concat_set, concat_start}
+use Rattle.ff_concat.proofs.Agreeing.{concat-so as segments-so}
 use Rattle.ff_joins.specs.JoinOptions.{channels_in, inputs_said, is_like, join_manual}
 use Rattle.ff_joins.specs.Arguments.{each_head}
-use Rattle.ff_filters.specs.Heads.{each_is}
 use Rattle.ff_filters.specs.ReadBy.{and_then, unless, taken_by, given_by, read_by, configured_by}
 use Rattle.ff_filters.specs.SetBy.{set_stack, set_join}
-use Rattle.ff_filters.specs.Configured.{cropped_as, padded_as, stacked_as, stack_by, segments_as, concat_by, joined_as, join_by}
+use Rattle.ff_filters.specs.Configured.{cropped_as, padded_as, stacked_as, stack_by, concat_by, joined_as, join_by}
 
 -- it is a reason
 abbrev pub IsReason : ConfigError → Type 0
@@ -95,17 +95,10 @@ stack-so d args heads =
     (goes_on (stacked_as d heads) (read_by stack_manual set_stack false 0 (record { inputs = 2; shortest = false }) args)
     (read stack_manual set_stack false 0 (record { inputs = 2; shortest = false }) args) (planned d heads))
 
-segments : (heads : List StreamHead) → HasReason (segments_as heads)
-segments [] = λ e. cc
-segments (h ∷ hs) = if_so (each_is h hs) _ _ tt (λ e. cc)
-
 pub concat-so : (args : List Arg) (heads : List StreamHead) → HasReason (concat_by args heads)
 concat-so args heads =
-    if_so (length heads == segments_said args) _ _
-    (if_so (each_head (is_of_kind (video_said args) (sound_said args)) heads) _ _
-    (goes_on (λ s. segments_as heads) (read_by concat_manual concat_set false 0 (concat_start args) args)
-    (read concat_manual concat_set false 0 (concat_start args) args) (λ s. segments heads))
-    (λ e. cc)) (λ e. cc)
+    segments-so IsReason args heads (read_by concat_manual concat_set false 0 (concat_start args) args) (λ e. cc) (λ e. cc) (λ e. cc)
+    (read concat_manual concat_set false 0 (concat_start args) args)
 
 joined : (heads : List StreamHead) → HasReason (joined_as heads)
 joined [] = λ e. cc

@@ -32,9 +32,9 @@ use Rattle.ff_fsync.specs.stacks.Heads.{input_fault, stack_fault}
 use Rattle.ff_fsync.specs.stacks.Options.{stack_manual, counted}
 use Rattle.ff_fsync.specs.stacks.Stacks.{StackOf, stack_on}
 use Rattle.ff_joins.specs.Arguments.{each_head}
-use Rattle.ff_joins.specs.ConcatOptions.{concat_manual, concat_set, concat_start, segments_said, video_said, sound_said, is_of_kind}
+use Rattle.ff_concat.specs.Arguments.{concat_manual, concat_set, concat_start}
+use Rattle.ff_concat.specs.Configured.{concat_by as segments_by}
 use Rattle.ff_joins.specs.JoinOptions.{join_manual, inputs_said, is_like, channels_in, with_channels}
-use Rattle.ff_filters.specs.Heads.{each_is}
 use Rattle.ff_filters.specs.ReadBy.{and_then, unless, read_by, configured_by}
 use Rattle.ff_filters.specs.SetBy.{set_none, set_expr, set_crop, set_pad, set_fps, set_split, set_stack, set_join}
 use Rattle.ff_filters.specs.Ticks.{TrimTimes, set_trim, ticks_at, in_bits, in_bits-near, range_in}
@@ -133,14 +133,9 @@ stack_by d args heads =
 abbrev pub checked : {X : Type 0} → Bool → ConfigError → Result X ConfigError → Result X ConfigError
 checked holds e r = cond holds r (Err e)
 
-abbrev pub segments_as : List StreamHead → Result (StreamHead × ℕ) ConfigError
-segments_as [] = Err Pads
-segments_as (h ∷ hs) = checked (each_is h hs) Mismatch (Ok (h, length (h ∷ hs)))
-
-abbrev pub concat_by : List Arg → List StreamHead → Result (StreamHead × ℕ) ConfigError
-concat_by args heads =
-    checked (length heads == segments_said args) Pads (checked (each_head (is_of_kind (video_said args) (sound_said args)) heads) Kind
-    (and_then (λ s. segments_as heads) (read_by concat_manual concat_set false 0 (concat_start args) args)))
+-- segments of heads, and how many
+abbrev pub concat_by : List Arg → List StreamHead → Result (List StreamHead × ℕ) ConfigError
+concat_by args heads = segments_by (read_by concat_manual concat_set false 0 (concat_start args) args) args heads
 
 abbrev pub joined_as : List StreamHead → Result StreamHead ConfigError
 joined_as [] = Err Pads

@@ -1,5 +1,5 @@
 -- The filters that there are: each by one name, as a function and by a relation (ffmpeg-filters).
-use Rattle.std.specs.Prelude.{ℕ, ◌&&◌, Bool, true, false, not, Option, Some, None, List, [], ◌∷◌, codes, Result}
+use Rattle.std.specs.Prelude.{ℕ, Bool, true, false, Option, Some, None, List, [], ◌∷◌, codes, Result}
 use Rattle.ff_frame.specs.declared.config.ConfigError.{ConfigError}
 use Rattle.ff_frame.specs.declared.head.StreamHead.{StreamHead}
 use Rattle.ff_lang.specs.declared.graph.Arg.{Arg}
@@ -20,7 +20,9 @@ use Rattle.ff_fsync.specs.declared.stacks.shape.Direction.TheVariants.{Beside, B
 use Rattle.ff_fsync.specs.stacks.Options.{counted}
 use Rattle.ff_fsync.specs.stacks.Stacks.{IsStack, stack_view, head_of}
 use Rattle.ff_joins.specs.Arguments.{last_number}
-use Rattle.ff_joins.specs.ConcatOptions.{IsConcat, segments_said, video_said, sound_said, concat_view, concat_head}
+use Rattle.ff_concat.specs.Arguments.{asked, streams_of}
+use Rattle.ff_concat.specs.ConcatOptions.{IsConcat, start_view, start_heads}
+use Rattle.ff_concat.specs.Pads.{inputs_of, takes_audio}
 use Rattle.ff_joins.specs.JoinOptions.{IsJoin, inputs_said}
 use Rattle.ff_joins.specs.JoinView.{join_view, head_itself}
 use Rattle.ff_source.specs.declared.made.Made.{Made}
@@ -112,7 +114,8 @@ definition_of filter.Fps = single false fps_by fps_view fps_head
 definition_of filter.Split = sharing (last_number split_manual 0 1 16 2) false false (split_by is_video) split_view split_heads
 definition_of filter.HStack = merging (counted false 0 2) (λ args pad. false) (stack_by Beside) (λ heads. stack_view) head_of
 definition_of filter.VStack = merging (counted false 0 2) (λ args pad. false) (stack_by Below) (λ heads. stack_view) head_of
-definition_of filter.Concat = merging segments_said (λ args pad. sound_said args && not (video_said args)) concat_by (λ heads. concat_view) concat_head
+definition_of filter.Concat =
+    joining (λ args. inputs_of (asked args)) (λ args. streams_of (asked args)) false (λ args. takes_audio (asked args)) concat_by (λ heads. start_view) start_heads
 definition_of filter.ANull = single true (pass_by is_sound) pass_view (λ m. m.head)
 definition_of filter.ATrim = single true atrim_by atrim_view (λ m. m.trim.head)
 definition_of filter.ASetPts = single true (rebase_by is_sound) rebase_view (λ m. m.head)
@@ -157,7 +160,7 @@ relation_of filter.Fps = one IsFps (λ heads. fps_view) fps_head
 relation_of filter.Split = several (IsSplit is_video) (λ heads. split_view) split_heads
 relation_of filter.HStack = one (IsStack Beside) (λ heads. stack_view) head_of
 relation_of filter.VStack = one (IsStack Below) (λ heads. stack_view) head_of
-relation_of filter.Concat = one IsConcat (λ heads. concat_view) concat_head
+relation_of filter.Concat = several IsConcat (λ heads. start_view) start_heads
 relation_of filter.ANull = one (IsPass is_sound) (λ heads. pass_view) (λ m. m.head)
 relation_of filter.ATrim = one IsATrim (λ heads. atrim_view) (λ m. m.trim.head)
 relation_of filter.ASetPts = one (IsRebase is_sound) (λ heads. rebase_view) (λ m. m.head)

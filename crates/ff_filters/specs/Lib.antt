@@ -4,7 +4,6 @@ pub mod Pads
 pub mod Makes
 pub mod Texts
 pub mod Ticks
-pub mod Heads
 pub mod ReadBy
 pub mod SetBy
 pub mod Sources

@@ -6,8 +6,8 @@ ghost use Rattle.ff_vfilter.specs.laws.RateSpent.{rate-spent_only, rate-shut_spe
 ghost use Rattle.ff_fsync.specs.laws.stacks.Limits.{limits-grows, limits-hides, limits-settles, limits-quiet};
 ghost use Rattle.ff_fsync.specs.laws.stacks.Stacked.{sync_seen};
 ghost use Rattle.ff_fsync.specs.laws.stacks.StackedLaws.{sync_grows, sync_hides, sync_settles, sync_quiet, stacked-spent_only, stacked-shut_spent, stacked-done_spent};
-ghost use Rattle.ff_joins.specs.laws.SegmentLaws.{segments-grows, segments-hides, segments-settles, segments-quiet};
-ghost use Rattle.ff_joins.specs.laws.SegmentLaws.{segments-spent_only, segments-shut_spent, segments-done_spent};
+ghost use Rattle.ff_concat.specs.laws.TrackLaws.{concat-grows, concat-hides, concat-settles, concat-quiet};
+ghost use Rattle.ff_concat.specs.laws.TrackLaws.{concat-spent_only, concat-shut_spent, concat-done_spent};
 ghost use Rattle.ff_joins.specs.laws.JoinLaws.{join-grows, join-hides, join-settles, join-quiet, join-spent_only, join-shut_spent, join-done_spent};
 ghost use Rattle.ff_filters.specs.contracts.step.AnyStepStep.TheImpl.Laws.{below-law, calm-law, settles-law};
 ghost use Rattle.ff_filters.specs.laws.SingleLaws.{single-grows, single-hides, single-settles, single-quiet, single-spent_only, single-shut_spent, single-done_spent};
@@ -15,9 +15,10 @@ ghost use Rattle.ff_filters.specs.laws.SingleLaws.{shared-grows, shared-hides, s
 
 use crate::step::AnyStep;
 use ff_afilter::Channels;
+use ff_concat::Concat;
 use ff_filter::{Copies, Filter, Limited, Spreader, Step, Stepper};
 use ff_fsync::Stacked;
-use ff_joins::{Concat, Join};
+use ff_joins::Join;
 use ff_stream::{Item, Refused};
 use ff_vfilter::Rate;
 use std::alloc::AllocError;
@@ -178,7 +179,7 @@ impl Filter for AnyFilter {
       | any.Copies m ↦ shared-grows m
       | any.Channels m ↦ shared-grows m
       | any.Stacked m ↦ limits-grows (Frames m.sync.head) m.before (sync_seen m) (sync_grows m)
-      | any.Concat m ↦ segments-grows m.segments
+      | any.Concat m ↦ concat-grows m
       | any.Join m ↦ join-grows m
     ] };
 
@@ -188,7 +189,7 @@ impl Filter for AnyFilter {
       | any.Copies m ↦ shared-hides m
       | any.Channels m ↦ shared-hides m
       | any.Stacked m ↦ limits-hides (Frames m.sync.head) m.before (sync_seen m) (sync_hides m)
-      | any.Concat m ↦ segments-hides m.segments
+      | any.Concat m ↦ concat-hides m
       | any.Join m ↦ join-hides m
     ] };
 
@@ -198,7 +199,7 @@ impl Filter for AnyFilter {
       | any.Copies m ↦ shared-settles m
       | any.Channels m ↦ shared-settles m
       | any.Stacked m ↦ limits-settles (Frames m.sync.head) m.before (sync_seen m) (sync_settles m)
-      | any.Concat m ↦ segments-settles m.segments
+      | any.Concat m ↦ concat-settles m
       | any.Join m ↦ join-settles m
     ] };
 
@@ -208,7 +209,7 @@ impl Filter for AnyFilter {
       | any.Copies m ↦ shared-quiet m
       | any.Channels m ↦ shared-quiet m
       | any.Stacked m ↦ λ q e ext. limits-quiet (Frames m.sync.head) m.before (sync_seen m) q ext (sync_quiet m q e ext)
-      | any.Concat m ↦ λ q e ext. segments-quiet m.segments e ext
+      | any.Concat m ↦ λ q e ext. concat-quiet m q e ext
       | any.Join m ↦ λ q e ext. join-quiet m e ext
     ] };
 
@@ -218,7 +219,7 @@ impl Filter for AnyFilter {
       | any.Copies m ↦ shared-spent_only m
       | any.Channels m ↦ shared-spent_only m
       | any.Stacked m ↦ λ p lt e. stacked-spent_only m p e
-      | any.Concat m ↦ λ p lt e. segments-spent_only m.segments p e
+      | any.Concat m ↦ λ p lt e. concat-spent_only m p e
       | any.Join m ↦ λ p lt e. join-spent_only m p e
     ] };
 
@@ -228,7 +229,7 @@ impl Filter for AnyFilter {
       | any.Copies m ↦ shared-shut_spent m
       | any.Channels m ↦ shared-shut_spent m
       | any.Stacked m ↦ λ p lt e. stacked-shut_spent m p e
-      | any.Concat m ↦ λ p lt e. segments-shut_spent m.segments p e
+      | any.Concat m ↦ λ p lt e. concat-shut_spent m p e
       | any.Join m ↦ λ p lt e. join-shut_spent m p e
     ] };
 
@@ -238,7 +239,7 @@ impl Filter for AnyFilter {
       | any.Copies m ↦ shared-done_spent m
       | any.Channels m ↦ shared-done_spent m
       | any.Stacked m ↦ λ p lt z d. stacked-done_spent m p d
-      | any.Concat m ↦ λ p lt z d. segments-done_spent m.segments p d
+      | any.Concat m ↦ λ p lt z d. concat-done_spent m p z d
       | any.Join m ↦ λ p lt z d. join-done_spent m p d
     ] };
 }

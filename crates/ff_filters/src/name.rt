@@ -3,9 +3,10 @@ ghost use Rattle.std.specs.Prelude.{◌≡◌};
 ghost use Rattle.ff_filters.specs.Names.{named_in, named_lines, filter_named};
 ghost use Rattle.ff_filters.specs.Pads.{inputs_of, outputs_of, is_apart as stands_apart, is_source as makes_its_own, takes_sound as sound_taken};
 
+use ff_concat::Asked;
 use ff_filter::SplitSettings;
 use ff_fsync::count_inputs;
-use ff_joins::{ConcatSettings, JoinSettings, last_number};
+use ff_joins::{JoinSettings, last_number};
 use ff_lang::Arg;
 
 /// The filters that there are.
@@ -106,7 +107,7 @@ pub static FILTERS: [(&'static str, FilterName, &'static str, &'static str); 20]
         "concat",
         FilterName::Concat,
         "=n:v:a",
-        "streams one after another, of sound with v=0:a=1",
+        "segments one after another, of video, audio or both",
     ),
     (
         "color",
@@ -181,7 +182,7 @@ pub fn inputs(name: FilterName, args: &[Arg]) -> usize
 {
     match name {
         FilterName::HStack | FilterName::VStack => count_inputs(args),
-        FilterName::Concat => last_number::<ConcatSettings>(args, 0, 2, 16, 2) as usize,
+        FilterName::Concat => Asked::by(args).inputs(),
         FilterName::Join => last_number::<JoinSettings>(args, 0, 2, 8, 2) as usize,
         _ => 1,
     }
@@ -196,6 +197,7 @@ pub fn outputs(name: FilterName, args: &[Arg]) -> usize
         FilterName::Split | FilterName::ASplit => {
             last_number::<SplitSettings>(args, 0, 1, 16, 2) as usize
         }
+        FilterName::Concat => Asked::by(args).streams(),
         FilterName::ChannelSplit => 0,
         _ => 1,
     }
@@ -233,11 +235,7 @@ pub fn takes_sound(name: FilterName, args: &[Arg], pad: usize) -> bool
         | FilterName::ChannelSplit
         | FilterName::Join
         | FilterName::ANullSrc => true,
-        FilterName::Concat => {
-            let video = last_number::<ConcatSettings>(args, 1, 0, 1, 1) == 1;
-            let sound = last_number::<ConcatSettings>(args, 2, 0, 1, 0) == 1;
-            sound & !video
-        }
+        FilterName::Concat => Asked::by(args).takes_audio(pad),
         _ => false,
     }
 }

@@ -17,7 +17,7 @@ mod machine;
 
 pub use graph::{GraphFilter, MadeGraph, make_graph};
 pub use laws::{
-    configured_heads_are_timed, graphs_are_drawings, graphs_have_open_pads, texts_are_limited,
+    configured_heads_are_of_streams, graphs_are_drawings, graphs_have_open_pads, texts_are_limited,
     written_graphs_have_filters,
 };
 pub use machine::{CutGraph, GraphMachine, graph_machine};

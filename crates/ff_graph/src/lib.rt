@@ -27,7 +27,7 @@ mod refusal;
 mod sources;
 
 pub use composed::{
-    CutGraph, GraphFilter, GraphMachine, MadeGraph, configured_heads_are_timed, graph_machine,
+    CutGraph, GraphFilter, GraphMachine, MadeGraph, configured_heads_are_of_streams, graph_machine,
     graphs_are_drawings, graphs_have_open_pads, make_graph, texts_are_limited,
     written_graphs_have_filters,
 };

@@ -1,8 +1,5 @@
 pub mod Outcomes
-pub mod Moving
-pub mod Placing
 pub mod Settling
-pub mod Starting
 pub mod Framing
 pub mod RowSteps
 pub mod FrameSteps
@@ -10,6 +7,5 @@ pub mod Decisions
 pub mod Feeding
 pub mod JoinStarting
 pub mod Cuts
-pub mod SegmentShape
 pub mod JoinShape
 pub mod JoinHeads

@@ -35,13 +35,6 @@ last_from manual option lo hi d keyed place n (a ∷ others) =
 abbrev pub last_number : {S : Type 0} → Manual S → ℕ → ℕ → ℕ → ℕ → List Arg → ℕ
 last_number manual option lo hi d args = last_from manual option lo hi d false 0 d args
 
--- how many of these arguments give one of two options
-abbrev pub times_from : {S : Type 0} → Manual S → ℕ → ℕ → Bool → ℕ → List Arg → ℕ
-times_from manual a b keyed place [] = 0
-times_from manual a b keyed place (x ∷ others) =
-    cond (gives a (option_of manual keyed place x.key) || gives b (option_of manual keyed place x.key)) 1 0 + times_from manual a b
-    (keyed || is_some x.key) (place + 1) others
-
 -- what is checked holds, and it goes on; else it is refused so
 abbrev pub Checked : {X : Type 0} → Bool → ConfigError → (Result X ConfigError → Type 0) → Result X ConfigError → Type 0
 Checked true e next r = next r

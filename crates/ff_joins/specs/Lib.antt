@@ -1,7 +1,4 @@
 pub mod Arguments
-pub mod ConcatOptions
-pub mod Concats
-pub mod Following
 pub mod JoinOptions
 pub mod Joined
 pub mod Tests

@@ -1,6 +1,3 @@
-pub mod ConcatBreaks
-pub mod ConcatExamples
-pub mod ConcatLaws
 pub mod JoinBreaks
 pub mod JoinCuts
 pub mod JoinDrawing
@@ -12,5 +9,3 @@ pub mod JoinShapes
 pub mod JoinedLaws
 pub mod LotLaws
 pub mod Lots
-pub mod SegmentLaws
-pub mod Segmented

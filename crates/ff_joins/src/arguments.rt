@@ -1,7 +1,7 @@
-//! Whole numbers that the arguments of `concat` and `join` give.
+//! Whole numbers that the arguments of `join` give.
 ghost use Rattle.std.specs.Prelude.{◌≡◌, ◌≤◌, false, IfSome};
 ghost use Rattle.ff_filter.specs.Options.{option_of as option_at};
-ghost use Rattle.ff_joins.specs.Arguments.{ranged as ranged_of, or_else, gives, last_number as last_number_of, times_from};
+ghost use Rattle.ff_joins.specs.Arguments.{ranged as ranged_of, or_else, gives, last_number as last_number_of};
 
 use ff_filter::{Settings, option_of};
 use ff_lang::Arg;
@@ -65,22 +65,4 @@ pub fn last_number<S: Settings>(
         keyed = keyed | arg.key.is_some();
     }
     number
-}
-
-/// How many arguments give one of two options.
-pub fn times_given<S: Settings>(args: &[Arg], first: usize, second: usize) -> usize
-    ensures { result ≡ times_from S.manual first second false 0 args.now }
-{
-    let mut times: usize = 0;
-    let mut keyed = false;
-    'each: for place in 0..args.len() {
-        let arg = &args[place];
-        let is_first = is_given::<S>(arg, keyed, place, first);
-        let is_second = is_given::<S>(arg, keyed, place, second);
-        if is_first | is_second {
-            times += 1;
-        }
-        keyed = keyed | arg.key.is_some();
-    }
-    times
 }

@@ -1,56 +1,35 @@
 //! Laws of the filters' functions: functions that do nothing, whose clauses hold of all values.
 ghost use Rattle.std.specs.Prelude.{◌≡◌, ◌<◌, ◌≤◌, ℕ, suc, ℤ, List, [], ◌∷◌, get_or, length, Ok, true};
-ghost use Rattle.ff_time.specs.Fraction.{Fraction, IsBase};
+ghost use Rattle.ff_time.specs.Fraction.{Fraction};
 ghost use Rattle.ff_frame.specs.declared.head.Codec.{Codec};
 ghost use Rattle.ff_frame.specs.declared.head.StreamHead.{StreamHead};
 ghost use Rattle.ff_frame.specs.declared.head.StreamHead.TheVariants.{Audio as AudioHead};
-ghost use Rattle.ff_frame.specs.Heads.{base_of_head};
-ghost use Rattle.ff_frame.specs.declared.video.VFrame.{VFrame};
-ghost use Rattle.ff_stream.specs.declared.item.Item.{Item};
 ghost use Rattle.ff_stream.specs.declared.item.Lane.TheVariants.{Frames};
 ghost use Rattle.ff_stream.specs.laws.Breaks.{KeepsBrokenRule};
 ghost use Rattle.ff_stream.specs.Lanes.{AreInShape, IsValid};
 ghost use Rattle.ff_stream.specs.Within.{within, passes_limits};
 ghost use Rattle.ff_filter.specs.Options.{is_sound};
 ghost use Rattle.ff_joins.specs.Arguments.{each_head};
-ghost use Rattle.ff_joins.specs.laws.ConcatBreaks.{AreSo, segments_of};
-ghost use Rattle.ff_joins.specs.laws.ConcatExamples.{picture_at, two_whole, two_pictures};
-ghost use Rattle.ff_joins.specs.Concats.{concatenated};
 ghost use Rattle.ff_joins.specs.JoinOptions.{rate_of, bits_of, channels_of, AreAlike};
 ghost use Rattle.ff_joins.specs.laws.JoinShapes.{channels_to};
 ghost use Rattle.ff_joins.specs.JoinView.{channels_at};
-ghost use Rattle.ff_joins.specs.laws.JoinExamples.{sound_at, one_channel, all_sound};
+ghost use Rattle.ff_joins.specs.laws.JoinExamples.{sound_at, two_whole, one_channel, all_sound};
 ghost use Rattle.ff_joins.specs.Joined.{side_to_side};
 ghost use Rattle.ff_joins.specs.laws.JoinRule.{AreMany, joined_list};
 ghost use Rattle.ff_stream.specs.Ports.{IsUnbroken};
 ghost use Rattle.ff_stream.specs.Stream.{LiesBelow};
 ghost use Rattle.ff_filter.specs.Joins.{Ports};
 
-/// Segments one after another keep the broken rule. A broken input counts as open without a further item. The output
-/// is broken exactly where an input is, it isn't whole, and no continuation of the inputs adds an item or makes it
-/// whole.
-pub fn segments_keep_the_broken_rule()
-    ensures { (n : ℕ) → Item → KeepsBrokenRule (AreSo n) (segments_of n) }
-{}
-
-/// Two segments of one frame each: from 0 for 3 ticks, and from 1 for 2; the second frame then starts at 4.
-pub fn the_second_segment_is_shifted()
-    ensures { (f g : VFrame) → concatenated 2 (two_whole (picture_at f 0 3) (picture_at g 1 2)) ≡ two_pictures (picture_at f 0 3) (picture_at g 4 2) }
-{}
-
-/// Where no input breaks off, neither do segments one after another, nor audio streams side by side.
+/// Where no input breaks off, neither do audio streams side by side.
 pub fn unbroken_inputs_make_no_break()
-    ensures segments { (n : ℕ) (ss : Ports) → ((p : ℕ) → IsUnbroken (ss p)) → IsUnbroken (concatenated n ss) }
-    ensures sound { (n : ℕ) (channels : ℕ → ℕ) (rate bits all : ℕ) (ss : Ports) → ((p : ℕ) → IsUnbroken (ss p))
+    ensures { (n : ℕ) (channels : ℕ → ℕ) (rate bits all : ℕ) (ss : Ports) → ((p : ℕ) → IsUnbroken (ss p))
         → IsUnbroken (side_to_side n channels rate bits all ss) }
 {}
 
-/// Valid segments of one head, one after another within the limits, are a valid stream of that head. Take valid audio
-/// streams of one rate and one size of samples, with at most 8 channels in all. Their frames side by side are in
-/// shape for a head of these. So within its limits the output of `join` is valid for the head that it is given.
+/// Take valid audio streams of one rate and one size of samples, with at most 8 channels in all. Their frames side by
+/// side are in shape for a head of these. So within its limits the output of `join` is valid for the head that it is
+/// given.
 pub fn valid_streams_make_valid_ones()
-    ensures segments { (h : StreamHead) (n : ℕ) (ss : Ports) → IsBase (base_of_head h) → ((p : ℕ) → p < n → IsValid (Frames h) (ss p))
-        → IsValid (Frames h) (within (passes_limits (Frames h)) (concatenated n ss)) }
     ensures shape { (n : ℕ) (channels : ℕ → ℕ) (tbs : ℕ → Fraction) (codecs : ℕ → Codec) (rate bits all : ℕ) (tb : Fraction) (codec : Codec) (ss : Ports)
         → ((p : ℕ) → p < suc n → IsValid (Frames (AudioHead (tbs p) rate bits (channels p) (codecs p))) (ss p))
         → channels_to channels (suc n) ≡ all → all ≤ 8

@@ -26,14 +26,14 @@ use Rattle.ff_plan_rules.specs.Kept.{IsFitHead}
 
 sized_fit : (h : StreamHead) (w k : ℕ) → IsFitHead h → IsFitHead (sized h w k)
 sized_fit (Audio tb rate bits channels codec) w k fit = fit
-sized_fit (Video tb format width height sar_num sar_den) w k fit = record { base = fit.base; channels = tt }
+sized_fit (Video tb format width height sar_num sar_den) w k fit = record { base = fit.base; channels = tt; bits = tt }
 
 paced_fit : (h : StreamHead) (b : Fraction) → IsBase b → IsFitHead h → IsFitHead (fps_head (h, b))
-paced_fit (Audio tb rate bits channels codec) b base fit = record { base = base; channels = fit.channels }
-paced_fit (Video tb format width height sar_num sar_den) b base fit = record { base = base; channels = tt }
+paced_fit (Audio tb rate bits channels codec) b base fit = record { base = base; channels = fit.channels; bits = fit.bits }
+paced_fit (Video tb format width height sar_num sar_den) b base fit = record { base = base; channels = tt; bits = tt }
 
 mono_fit : (h : StreamHead) → IsFitHead h → IsFitHead (mono_head h)
-mono_fit (Audio tb rate bits channels codec) fit = record { base = fit.base; channels = (omega arith, omega arith) }
+mono_fit (Audio tb rate bits channels codec) fit = record { base = fit.base; channels = (omega arith, omega arith); bits = fit.bits }
 mono_fit (Video tb format width height sar_num sar_den) fit = fit
 
 all_based : (heads : List StreamHead) → AllByRecursion IsFitHead heads → All IsBase (bases_of heads)
@@ -44,16 +44,16 @@ long_fit : (d : Direction) (n : ℕ) (h : StreamHead) (hs : List StreamHead) →
 long_fit d n h hs all = at d h (in_common_based h hs (all_based (h ∷ hs) all)) all.0
   where
     at : (e : Direction) (k : StreamHead) {c : Fraction} → IsBase c → IsFitHead k → IsFitHead (with_length e n (with_base c k))
-    at Beside (Audio tb rate bits channels codec) base fit = record { base = base; channels = fit.channels }
-    at Below (Audio tb rate bits channels codec) base fit = record { base = base; channels = fit.channels }
-    at Beside (Video tb format width height sar_num sar_den) base fit = record { base = base; channels = tt }
-    at Below (Video tb format width height sar_num sar_den) base fit = record { base = base; channels = tt }
+    at Beside (Audio tb rate bits channels codec) base fit = record { base = base; channels = fit.channels; bits = fit.bits }
+    at Below (Audio tb rate bits channels codec) base fit = record { base = base; channels = fit.channels; bits = fit.bits }
+    at Beside (Video tb format width height sar_num sar_den) base fit = record { base = base; channels = tt; bits = tt }
+    at Below (Video tb format width height sar_num sar_den) base fit = record { base = base; channels = tt; bits = tt }
 
 joined_fit : (h : StreamHead) (hs : List StreamHead) → nat_le (channels_in (h ∷ hs)) 8 ≡ true → IsFitHead h → IsFitHead (with_channels h (channels_in (h ∷ hs)))
 joined_fit (Audio tb rate bits channels codec) hs few fit =
     let some : 1 ≤ channels = fit.channels.0 in
-    record { base = fit.base; channels = (omega (arith, some), grind (arith, nat_tests)) }
-joined_fit (Video tb format width height sar_num sar_den) hs few fit = record { base = fit.base; channels = tt }
+    record { base = fit.base; channels = (omega (arith, some), grind (arith, nat_tests)); bits = fit.bits }
+joined_fit (Video tb format width height sar_num sar_den) hs few fit = record { base = fit.base; channels = tt; bits = tt }
 
 pub fit_is_kept : IsKept IsFitHead
 fit_is_kept = record { sized_too = sized_fit; paced_too = paced_fit; mono_too = mono_fit; longer_too = long_fit; joined_too = joined_fit }

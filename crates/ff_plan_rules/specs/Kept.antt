@@ -19,10 +19,16 @@ abbrev pub HasFewChannels : StreamHead → Type 0
 HasFewChannels (Audio tb rate bits channels codec) = (1 ≤ channels) × (channels ≤ 8)
 HasFewChannels (Video tb format width height sar_num sar_den) = Unit {0}
 
--- a head whose stream can be coded and written: its time base is one, and sound has 1 to 8 channels
+-- samples of 4 to 32 bits, or pictures
+abbrev pub HasFewBits : StreamHead → Type 0
+HasFewBits (Audio tb rate bits channels codec) = (4 ≤ bits) × (bits ≤ 32)
+HasFewBits (Video tb format width height sar_num sar_den) = Unit {0}
+
+-- a head whose stream can be coded and written: its time base is one, and sound has 1 to 8 channels and samples of 4 to 32 bits
 pub record IsFitHead (h : StreamHead) : Type 0 where
   pub base : IsBase (base_of_head h)
   pub channels : HasFewChannels h
+  pub bits : HasFewBits h
 
 abbrev pub AreFitHeads : List StreamHead → Type 0
 AreFitHeads heads = AllByRecursion IsFitHead heads

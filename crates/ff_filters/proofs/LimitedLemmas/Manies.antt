@@ -1,7 +1,6 @@
 -- Filters of several inputs are behind limits.
 use Rattle.std.proofs.Common.{◌≡◌, ℕ, zero, suc, ℤ, ◌+◌, ◌-◌, ◌<◌, Bool, true, false, nat_le, Option, Some, None, Result, Ok, List, [], ◌∷◌, length, get_or, map}
 use Rattle.std.proofs.Common.{refl, sym, ap, subst, ◌∙◌, arith}
-use Rattle.std.specs.Prelude.{replicate}
 use Rattle.std.proofs.lemmas.List.Elements.{All-nil, All-cons}
 use Rattle.ff_time.specs.Fraction.{IsBase}
 use Rattle.ff_frame.specs.declared.config.ConfigError.{ConfigError}
@@ -11,17 +10,14 @@ use Rattle.ff_frame.specs.Heads.{base_of_head}
 use Rattle.ff_stream.specs.declared.item.Item.{Item}
 use Rattle.ff_stream.specs.declared.item.Lane.{Lane}
 use Rattle.ff_stream.specs.declared.item.Lane.TheVariants.{Frames}
-use Rattle.ff_stream.specs.Stream.{opened}
 use Rattle.ff_stream.specs.Ports.{stream_at}
-use Rattle.ff_stream.specs.laws.Order.{below_self, below_trans}
 use Rattle.ff_stream.specs.Lanes.{IsValid}
 use Rattle.ff_stream.specs.Within.{within, passes_limits}
 use Rattle.ff_stream.specs.laws.WithinLaws.{within_valid}
 use Rattle.ff_net.specs.Ways.{lane_at, IsValidOn, AreValid}
 use Rattle.ff_filter.specs.declared.after.After.TheVariants.{More}
-use Rattle.ff_filter.specs.Joins.{Flow, Ports, all_opened, Grows, HidesBreaks, grows_after, hides_after}
+use Rattle.ff_filter.specs.Joins.{Flow, Ports, Grows, HidesBreaks, grows_after, hides_after}
 use Rattle.ff_filter.specs.laws.Limits.{limited, limited_is}
-use Rattle.ff_filter.specs.laws.LimitLaws.{limited-below, limited-calm}
 use Rattle.ff_filter.specs.Options.{is_sound}
 use Rattle.ff_filter.specs.Views.{View}
 use Rattle.ff_fsync.specs.Sides.{Sound, sync_view}
@@ -38,10 +34,6 @@ use Rattle.ff_fsync.proofs.StacksLemmas.Seeing.{none_came, stack_seen}
 use Rattle.ff_fsync.proofs.StacksLemmas.Exact.{AreBased}
 use Rattle.ff_fsync.proofs.StacksLemmas.Valid.{stacks_in_shape, stacks_unbroken}
 use Rattle.ff_joins.specs.Arguments.{Checked, each_head}
-use Rattle.ff_joins.specs.Concats.{concatenated}
-use Rattle.ff_joins.specs.laws.ConcatBreaks.{broken_stands}
-use Rattle.ff_joins.specs.laws.ConcatLaws.{in_order-keeps, in_order-calm}
-use Rattle.ff_joins.specs.ConcatOptions.{concat_view}
 use Rattle.ff_joins.specs.laws.JoinBreaks.{lost_by}
 use Rattle.ff_joins.specs.Joined.{Row, row_stream, joined_rows, first_start, sound_frame, side_to_side}
 use Rattle.ff_joins.specs.JoinOptions.{AreAlike, is_like, channels_in, with_channels, rate_of, bits_of, channels_of}
@@ -49,9 +41,8 @@ use Rattle.ff_joins.specs.JoinView.{channels_at, join_view}
 use Rattle.ff_joins.specs.laws.Lots.{Lot, all_come, frame_on, lots_view}
 use Rattle.ff_joins.specs.laws.LotLaws.{lots-grows, lots-hides}
 use Rattle.ff_joins.proofs.JoinHeads.{join_valid}
-use Rattle.ff_joins.proofs.SegmentShape.{segments_valid}
 use Rattle.ff_node_filter.specs.Tasks.{ported}
-use Rattle.ff_filters.specs.limited.Cuts.{AreTimed}
+use Rattle.ff_filters.specs.limited.Cuts.{AreStreamHeads}
 use Rattle.ff_filters.specs.Configured.{stacked_as, checked, joined_as}
 use Rattle.ff_filters.proofs.Parting.{unless_ok}
 use Rattle.ff_filters.proofs.LimitedLemmas.Opening.{Owes, one_within}
@@ -101,11 +92,11 @@ stack_hides m =
 same_ok : {X : Type 0} (x y : X) → (let r : Result X ConfigError = Ok x in r) ≡ Ok y → x ≡ y
 same_ok x y e = cc
 
-are_based : (heads : List StreamHead) → AreTimed heads → AreBased heads
+are_based : (heads : List StreamHead) → AreStreamHeads heads → AreBased heads
 are_based [] timed = All-nil IsBase
-are_based (h ∷ hs) timed = All-cons IsBase (base_of_head h) (bases_of hs) timed.0 (are_based hs timed.1)
+are_based (h ∷ hs) timed = All-cons IsBase (base_of_head h) (bases_of hs) timed.0.base (are_based hs timed.1)
 
-pub stack_owes : (d : Direction) (heads : List StreamHead) (s : StackSettings) (m : StackOf) → AreTimed heads → stacked_as d heads s ≡ Ok m
+pub stack_owes : (d : Direction) (heads : List StreamHead) (s : StackSettings) (m : StackOf) → AreStreamHeads heads → stacked_as d heads s ≡ Ok m
     → Owes (stack_view m).ins (stack_view m).outs (stack_view m).rest
 stack_owes d [] s m timed e = cc
 stack_owes d (h ∷ hs) s m timed e =
@@ -120,33 +111,6 @@ stack_owes d (h ∷ hs) s m timed e =
       free = λ ss q. stacked_of n ss;
       within_limits = one_within (stack_view n).ins n.head (stacked_of n) (λ ss v u. stacks_unbroken n (stream_at ss) u);
     })
-
--- ---- segments
-
-lane_there : (n p : ℕ) (l : Lane) → p < n → lane_at (replicate n l) p ≡ Some l
-lane_there zero p l lt = absurd (omega arith)
-lane_there (suc n) zero l lt = refl
-lane_there (suc n) (suc p) l lt = lane_there n p l (omega (arith, lt))
-
-pub concat_owes : (h : StreamHead) (n : ℕ) → IsBase (base_of_head h) → Owes (concat_view (h, n)).ins (concat_view (h, n)).outs (concat_view (h, n)).rest
-concat_owes h n base =
-    let passes = passes_limits (Frames h) in
-    let limits : (s : Flow) → limited passes 0 s ≡ within passes s = limited_is passes in
-    let same : (λ (ss : Ports) (q : ℕ). limited passes 0 (concatenated n ss)) ≡ (λ ss q. within passes (concatenated n ss)) = λ i ss q. limits (concatenated n ss) i in
-    record {
-      grows = subst (λ (f : Ports → Ports). Grows f) same
-          (λ rs ss h' q. limited-below passes 0 (λ s. s) (λ r s k. k) (concatenated n rs) (concatenated n ss) (in_order-keeps n 0 0 rs ss h'));
-      hides = subst (λ (f : Ports → Ports). HidesBreaks f) same
-          (λ rs q. below_trans (opened (limited passes 0 (concatenated n rs))) (limited passes 0 (opened (concatenated n rs)))
-          (limited passes 0 (concatenated n (all_opened rs)))
-          (limited-calm passes 0 (λ s. s) (λ r. below_self (opened r)) (concatenated n rs))
-          (limited-below passes 0 (λ s. s) (λ r s k. k) (opened (concatenated n rs)) (concatenated n (all_opened rs))
-          (in_order-calm n 0 0 rs (all_opened rs) (λ p. below_self (opened (rs p))))));
-      keeps = λ ss v. one_valid h (concat_view (h, n)).rest ss
-          (segments_valid h base n (stream_at ss) (λ p lt. subst (λ (o : Option Lane). IsValidOn o (stream_at ss p)) (lane_there n p (Frames h) lt) (v p)));
-      free = λ ss q. concatenated n ss;
-      within_limits = one_within (concat_view (h, n)).ins h (concatenated n) (λ ss v u b. let s = broken_stands n 0 0 (stream_at ss) b in u s.port s.mark);
-    }
 
 -- ---- sound side by side
 

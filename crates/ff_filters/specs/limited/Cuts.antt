@@ -1,14 +1,14 @@
 -- Where a limit cuts what a filter gives.
-use Rattle.std.specs.Prelude.{◌≡◌, ℕ, ◌<◌, Bool, true, List, [], ◌∷◌, length, Some}
-use Rattle.ff_time.specs.Fraction.{IsBase}
+use Rattle.std.specs.List.{AllByRecursion}
+use Rattle.std.specs.Prelude.{◌≡◌, ℕ, ◌<◌, Bool, true, List, length, Some}
 use Rattle.ff_frame.specs.declared.head.StreamHead.{StreamHead}
-use Rattle.ff_frame.specs.Heads.{base_of_head}
 use Rattle.ff_stream.specs.declared.item.Lane.{Lane}
 use Rattle.ff_stream.specs.Ports.{stream_at, AllUnbroken, IsUnbroken}
 use Rattle.ff_stream.specs.Within.{some_pass, passes_limits, within}
 use Rattle.ff_net.specs.Ways.{lane_at, AreValid}
 use Rattle.ff_filter.specs.Joins.{Flow, Ports, all_opened}
 use Rattle.ff_filter.specs.Views.{View}
+use Rattle.ff_concat.specs.laws.Fed.{CanFollow}
 use Rattle.ff_node_filter.specs.Limiting.{some_broken}
 
 -- an output is broken though the filter isn't told of the breaks of its inputs
@@ -28,7 +28,6 @@ pub record PassesLimit (outs : List Lane) (ss : Ports) : Type 0 where
   pub there : lane_at outs port ≡ Some lane
   pub passes : some_pass (passes_limits lane) 0 (ss port).items ≡ true
 
--- the time bases of heads are time bases
-abbrev pub AreTimed : List StreamHead → Type 0
-AreTimed [] = Unit {0}
-AreTimed (h ∷ hs) = IsBase (base_of_head h) × AreTimed hs
+-- heads of streams: their time bases are time bases, and audio of them may be zeros
+abbrev pub AreStreamHeads : List StreamHead → Type 0
+AreStreamHeads heads = AllByRecursion CanFollow heads

@@ -1,5 +1,5 @@
 -- How many output pads a filter has, as its arguments and its labels say.
-use Rattle.std.proofs.Common.{◌≡◌, ℕ, ◌≤◌, nat_lt, Bool, true, false, if◌then◌else◌, Ok, List, [], ◌∷◌, length, ap, subst, sym, ◌∙◌, arith}
+use Rattle.std.proofs.Common.{◌≡◌, ℕ, ◌≤◌, Bool, true, false, if◌then◌else◌, Ok, List, [], ◌∷◌, length, ap, sym, ◌∙◌, arith}
 use Rattle.std.proofs.lemmas.Bool.Decides.{nat_tests}
 use Rattle.ff_frame.specs.declared.head.StreamHead.{StreamHead}
 use Rattle.ff_frame.specs.declared.head.StreamHead.TheVariants.{Audio, Video}
@@ -8,10 +8,9 @@ use Rattle.ff_filter.specs.Options.{is_sound}
 use Rattle.ff_afilter.specs.Channels.{channels_in}
 use Rattle.ff_filters.specs.declared.name.FilterName.{FilterName}
 use Rattle.ff_filters.specs.Configured.{Filtered}
-use Rattle.ff_filters.specs.Definitions.{definition_of}
 use Rattle.ff_filters.specs.Makes.{configured_as}
 use Rattle.ff_filters.specs.Pads.{is_apart, outputs_of}
-use Rattle.ff_filters.proofs.Owing.{Counted, Gives}
+use Rattle.ff_filters.proofs.Owing.{Counted}
 use Rattle.ff_filters.proofs.Owed.{gives}
 use Rattle.ff_graph_links.specs.pads.Links.{Seen}
 use Rattle.ff_graph.specs.Configured.{too_few, too_few_channels, is_surplus}

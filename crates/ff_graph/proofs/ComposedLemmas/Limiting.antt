@@ -5,12 +5,11 @@ use Rattle.ff_frame.specs.declared.head.StreamHead.{StreamHead}
 use Rattle.ff_stream.specs.declared.item.Lane.{Lane}
 use Rattle.ff_stream.specs.declared.item.Lane.TheVariants.{Frames}
 use Rattle.ff_net.specs.Ways.{lane_at}
-use Rattle.ff_filter.specs.Joins.{Ports}
 use Rattle.ff_filter.specs.Views.{View}
 use Rattle.ff_node_filter.specs.Limiting.{IsLimited}
 use Rattle.ff_graph_links.specs.declared.pads.drawn.Pad.{Pad}
 use Rattle.ff_graph_links.specs.pads.Links.{Seen}
-use Rattle.ff_filters.specs.limited.Cuts.{cuts_in, AreTimed}
+use Rattle.ff_filters.specs.limited.Cuts.{cuts_in, AreStreamHeads}
 use Rattle.ff_filters.proofs.Owed.{gives, limited}
 use Rattle.ff_graph.specs.Opens.{filter_order, open_pads, sources_in}
 use Rattle.ff_graph.specs.Configured.{Made, OpenOut, head_into, heads_into, and_head, open_outs}
@@ -23,7 +22,7 @@ use Rattle.ff_graph.proofs.ComposedLemmas.Elements.{some_same, no_some}
 use Rattle.ff_graph.proofs.ComposedLemmas.Fed.{pad_of}
 use Rattle.ff_graph.proofs.ComposedLemmas.Outs.{open_out}
 use Rattle.ff_graph.proofs.ComposedLemmas.Made.{IsMade, AreMade, GivenSo, so_at}
-use Rattle.ff_graph.proofs.ComposedLemmas.Timed.{IsTimed, each_timed, are_timed}
+use Rattle.ff_concat.specs.laws.Fed.{CanFollow}
 
 -- ---- heads and lanes
 
@@ -131,12 +130,12 @@ module _ (ds : List Seen) (heads : List StreamHead) (final : List (List StreamHe
         gives = λ o. ap (λ (hs : List StreamHead). lane_at (map Frames hs) o) m.outs ∙ ap (λ (ls : List Lane). lane_at ls o) (sym a.outs);
       })
 
-  one_limited : (k : ℕ) (v : View) → AreTimed heads → IsMade ds (all_given heads) final k v → IsLimited v.ins v.outs v.rest (cuts_in v)
+  one_limited : (k : ℕ) (v : View) → AreStreamHeads heads → IsMade ds (all_given heads) final k v → IsLimited v.ins v.outs v.rest (cuts_in v)
   one_limited k v t m =
       subst (λ (x : View). IsLimited x.ins x.outs x.rest (cuts_in x)) m.view
-      (limited m.made.name m.own.filter.args m.made.ins m.filter (are_timed m.made.ins (m.timed (given_so IsTimed heads (each_timed heads t)))) m.made.is)
+      (limited m.made.name m.own.filter.args m.made.ins m.filter (m.follow (given_so CanFollow heads t)) m.made.is)
 
-  are_limited : (ks : List ℕ) (vs : List View) → AreTimed heads → AreMade ds (all_given heads) final ks vs
+  are_limited : (ks : List ℕ) (vs : List View) → AreStreamHeads heads → AreMade ds (all_given heads) final ks vs
       → AreLimited (sources_in ds) (open_pads ds) (map Frames heads) (lanes_by final) ks vs (map (λ v. cuts_in v) vs)
   are_limited [] vs t m = tt
   are_limited (k ∷ ks) [] t m = absurd m
@@ -162,7 +161,7 @@ leave ds final q l e =
       lane_got (slice_index_or final o.0.at.filter []) o.0.at.pad o.0.head (open_out (sources_in ds) ds final q o.0 o.1) ∙ ap (λ (x : Lane). Some x) o.2,
     )
 
-pub whole_limited : (ds : List Seen) (heads : List StreamHead) (made : Made) → AreTimed heads → AreMade ds (all_given heads) made.heads (filter_order ds) made.views
+pub whole_limited : (ds : List Seen) (heads : List StreamHead) (made : Made) → AreStreamHeads heads → AreMade ds (all_given heads) made.heads (filter_order ds) made.views
     → IsLimited (map Frames heads) (map (λ o. Frames o.head) (open_outs ds made.heads)) (means_as ds (Ok made)) (cuts_as ds (Ok made))
 whole_limited ds heads made t each =
     graph_limited (sources_in ds) (open_pads ds) (map Frames heads) (lanes_by made.heads) (map (λ o. Frames o.head) (open_outs ds made.heads))

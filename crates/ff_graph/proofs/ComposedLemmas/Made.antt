@@ -22,7 +22,8 @@ use Rattle.ff_graph.proofs.ComposedLemmas.Elements.{some_same, no_some, same_or_
 use Rattle.ff_graph.specs.composed.Pads.{HasChannel}
 use Rattle.ff_filters.proofs.Owing.{IsKept}
 use Rattle.ff_filters.proofs.Owed.{kept_too}
-use Rattle.ff_graph.proofs.ComposedLemmas.Timed.{IsTimed, timed_is_kept, heard_is_kept}
+use Rattle.ff_concat.specs.laws.Fed.{CanFollow}
+use Rattle.ff_graph.proofs.ComposedLemmas.Timed.{follows_is_kept, heard_is_kept}
 
 -- ---- one filter
 
@@ -122,7 +123,7 @@ pub record IsMade (ds : List Seen) (given : List (Option StreamHead)) (final : L
   pub view : filter.view ≡ v
   pub outs : slice_index_or final k [] ≡ filter.outs
   pub stays : (p : Pad) (h : StreamHead) → head_at heads p ≡ Some h → head_at final p ≡ Some h
-  pub timed : GivenSo IsTimed given → AllByRecursion IsTimed made.ins
+  pub follow : GivenSo CanFollow given → AllByRecursion CanFollow made.ins
   pub heard : GivenSo HasChannel given → AllByRecursion HasChannel made.ins
 
 abbrev pub AreMade : List Seen → List (Option StreamHead) → List (List StreamHead) → List ℕ → List View → Type 0
@@ -191,7 +192,7 @@ one_more ds given made k ks d f final there is lt absent bare so b =
           view = refl;
           outs = b.stays k absent ∙ set_here made.heads k f.outs [] lt;
           stays = kept;
-          timed = ins_are IsTimed timed_is_kept;
+          follow = ins_are CanFollow follows_is_kept;
           heard = ins_are HasChannel heard_is_kept;
         }
 

@@ -1,6 +1,7 @@
--- What filters keep of heads: that they have time bases, and that sound has a channel.
-use Rattle.std.proofs.Common.{ℕ, ◌≤◌, List, [], ◌∷◌, arith}
+-- What filters keep of heads: that they are of streams that can follow one another, and that sound has a channel.
+use Rattle.std.proofs.Common.{◌≡◌, ℕ, ◌≤◌, nat_le, true, List, [], ◌∷◌, arith}
 use Rattle.std.specs.List.{All, AllByRecursion}
+use Rattle.std.proofs.lemmas.Bool.Decides.{nat_tests}
 use Rattle.std.proofs.lemmas.List.Elements.{All-nil, All-cons}
 use Rattle.ff_time.specs.Fraction.{Fraction, IsBase}
 use Rattle.ff_frame.specs.declared.head.StreamHead.{StreamHead}
@@ -15,22 +16,18 @@ use Rattle.ff_fsync.specs.stacks.Bases.{bases_of, in_common}
 use Rattle.ff_fsync.specs.stacks.Heads.{with_length}
 use Rattle.ff_fsync.proofs.StacksLemmas.Exact.{in_common_based}
 use Rattle.ff_joins.specs.JoinOptions.{channels_in, with_channels}
-use Rattle.ff_filters.specs.limited.Cuts.{AreTimed}
+use Rattle.ff_concat.specs.laws.Fed.{TakesZeros, CanFollow}
 use Rattle.ff_filters.proofs.Owing.{IsKept}
 use Rattle.ff_graph.specs.composed.Pads.{HasChannel}
 
 -- ---- time bases
 
-abbrev pub IsTimed : StreamHead → Type 0
+abbrev IsTimed : StreamHead → Type 0
 IsTimed h = IsBase (base_of_head h)
 
-pub each_timed : (heads : List StreamHead) → AreTimed heads → AllByRecursion IsTimed heads
-each_timed [] t = tt
-each_timed (h ∷ hs) t = (t.0, each_timed hs t.1)
-
-pub are_timed : (heads : List StreamHead) → AllByRecursion IsTimed heads → AreTimed heads
-are_timed [] t = tt
-are_timed (h ∷ hs) t = (t.0, are_timed hs t.1)
+each_timed : (heads : List StreamHead) → AllByRecursion CanFollow heads → AllByRecursion IsTimed heads
+each_timed [] all = tt
+each_timed (h ∷ hs) all = (all.0.base, each_timed hs all.1)
 
 sized_timed : (h : StreamHead) (w x : ℕ) → IsTimed h → IsTimed (sized h w x)
 sized_timed (Audio tb rate bits channels codec) w x t = t
@@ -60,8 +57,38 @@ joined_timed : (h : StreamHead) (hs : List StreamHead) → IsTimed h → IsTimed
 joined_timed (Audio tb rate bits channels codec) hs t = t
 joined_timed (Video tb format width height sar_num sar_den) hs t = t
 
-pub timed_is_kept : IsKept IsTimed
-timed_is_kept = record { sized_too = sized_timed; paced_too = paced_timed; mono_too = mono_timed; longer_too = longer_timed; joined_too = λ h hs few t. joined_timed h hs t }
+-- ---- zeros of audio
+
+sized_zeros : (h : StreamHead) (w x : ℕ) → TakesZeros h → TakesZeros (sized h w x)
+sized_zeros (Audio tb rate bits channels codec) w x z = z
+sized_zeros (Video tb format width height sar_num sar_den) w x z = tt
+
+paced_zeros : (h : StreamHead) (base : Fraction) → TakesZeros h → TakesZeros (fps_head (h, base))
+paced_zeros (Audio tb rate bits channels codec) base z = z
+paced_zeros (Video tb format width height sar_num sar_den) base z = tt
+
+mono_zeros : (h : StreamHead) → TakesZeros h → TakesZeros (mono_head h)
+mono_zeros (Audio tb rate bits channels codec) z = (omega arith, omega arith, z.2, z.3)
+mono_zeros (Video tb format width height sar_num sar_den) z = tt
+
+longer_zeros : (d : Direction) (n : ℕ) (h : StreamHead) (hs : List StreamHead) → TakesZeros h → TakesZeros (with_length d n (in_common (h ∷ hs) h))
+longer_zeros Beside n (Audio tb rate bits channels codec) hs z = z
+longer_zeros Below n (Audio tb rate bits channels codec) hs z = z
+longer_zeros Beside n (Video tb format width height sar_num sar_den) hs z = tt
+longer_zeros Below n (Video tb format width height sar_num sar_den) hs z = tt
+
+joined_zeros : (h : StreamHead) (hs : List StreamHead) → nat_le (channels_in (h ∷ hs)) 8 ≡ true → TakesZeros h → TakesZeros (with_channels h (channels_in (h ∷ hs)))
+joined_zeros (Audio tb rate bits channels codec) hs few z = ((let some : 1 ≤ channels = z.0 in omega (arith, some)), grind (arith, nat_tests), z.2, z.3)
+joined_zeros (Video tb format width height sar_num sar_den) hs few z = tt
+
+pub follows_is_kept : IsKept CanFollow
+follows_is_kept = record {
+  sized_too = λ h w x c. record { base = sized_timed h w x c.base; zeros = sized_zeros h w x c.zeros };
+  paced_too = λ h base b c. record { base = paced_timed h base b c.base; zeros = paced_zeros h base c.zeros };
+  mono_too = λ h c. record { base = mono_timed h c.base; zeros = mono_zeros h c.zeros };
+  longer_too = λ d n h hs all. record { base = longer_timed d n h hs (each_timed (h ∷ hs) all); zeros = longer_zeros d n h hs all.0.zeros };
+  joined_too = λ h hs few c. record { base = joined_timed h hs c.base; zeros = joined_zeros h hs few c.zeros };
+}
 
 -- ---- channels
 

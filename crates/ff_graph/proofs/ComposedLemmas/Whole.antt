@@ -12,7 +12,7 @@ use Rattle.ff_node_filter.specs.Limiting.{IsLimited, limit_cause}
 use Rattle.ff_node_filter.specs.Tasks.{Stands, filter_task}
 use Rattle.ff_graph_links.specs.declared.pads.drawn.Pad.{Pad}
 use Rattle.ff_graph_links.specs.pads.Links.{opens_from}
-use Rattle.ff_filters.specs.limited.Cuts.{AreTimed}
+use Rattle.ff_filters.specs.limited.Cuts.{AreStreamHeads}
 use Rattle.ff_trim.specs.Cuts.{cut_at, cut_each}
 use Rattle.ff_graph.specs.Drawings.{seen_graph}
 use Rattle.ff_graph.specs.Opens.{filter_order, open_pads, sources_in, loops}
@@ -68,7 +68,7 @@ module _ (g : Graph) (given : List (Option StreamHead)) (made : Made) (os : List
 
 -- ---- behind limits
 
-pub text_limited : (g : Graph) (heads : List StreamHead) (os : List OpenOut) → IsClear g → loops g ≡ false → configured g (all_given heads) ≡ Ok os → AreTimed heads
+pub text_limited : (g : Graph) (heads : List StreamHead) (os : List OpenOut) → IsClear g → loops g ≡ false → configured g (all_given heads) ≡ Ok os → AreStreamHeads heads
     → IsLimited (map Frames heads) (map (λ o. Frames o.head) os) (graph_means g (all_given heads)) (graph_cuts g (all_given heads))
 text_limited g heads os clear unlooped c t = at (make_all (seen_graph g) (all_given heads)) refl
   where

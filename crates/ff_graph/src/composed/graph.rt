@@ -5,7 +5,7 @@ ghost use Rattle.ff_filter.specs.Joins.{Ports};
 ghost use Rattle.ff_filter.specs.Views.{IsNew};
 ghost use Rattle.ff_node_filter.specs.Limiting.{IsLimited};
 ghost use Rattle.ff_graph_links.specs.pads.Links.{pads_in, opens_from};
-ghost use Rattle.ff_filters.specs.limited.Cuts.{AreTimed};
+ghost use Rattle.ff_filters.specs.limited.Cuts.{AreStreamHeads};
 ghost use Rattle.ff_graph.specs.Meaning.{graph_means};
 ghost use Rattle.ff_graph.specs.Opens.{open_ins};
 ghost use Rattle.ff_graph.specs.Configured.{CanBeHad};
@@ -90,7 +90,7 @@ pub fn make_graph(alloc: Global, graph: &Graph, heads: &[StreamHead]) -> Result<
     ensures outs { IfOk result (λ m. (⟦<GraphFilter as Filter>⟧.view m.filter).outs ≡ map (λ o. FramesOf o.head) (graph_outs graph.now heads.now)) }
     ensures means { IfOk result (λ m. (ext : Ports) (q : ℕ)
         → (⟦<GraphFilter as Filter>⟧.view m.filter).rest ext q ≡ graph_means graph.now (all_given heads.now) ext q) }
-    ensures limited { IfOk result (λ m. AreTimed heads.now → IsLimited (⟦<GraphFilter as Filter>⟧.view m.filter).ins
+    ensures limited { IfOk result (λ m. AreStreamHeads heads.now → IsLimited (⟦<GraphFilter as Filter>⟧.view m.filter).ins
         (⟦<GraphFilter as Filter>⟧.view m.filter).outs (⟦<GraphFilter as Filter>⟧.view m.filter).rest (graph_cuts graph.now (all_given heads.now))) }
     ensures some_ins { IfOk result (λ m. HasFilter graph.now → 1 ≤ length (⟦<GraphFilter as Filter>⟧.view m.filter).ins) }
     ensures some_outs { IfOk result (λ m. HasFilter graph.now → HaveChannels heads.now → 1 ≤ length (⟦<GraphFilter as Filter>⟧.view m.filter).outs) }

@@ -9,7 +9,7 @@ ghost use Rattle.ff_node_filter.specs.Limiting.{IsLimited};
 ghost use Rattle.ff_filters.specs.declared.name.FilterName.{FilterName};
 ghost use Rattle.ff_filters.specs.Configured.{Filtered};
 ghost use Rattle.ff_filters.specs.Makes.{configured_as};
-ghost use Rattle.ff_filters.specs.limited.Cuts.{AreTimed};
+ghost use Rattle.ff_filters.specs.limited.Cuts.{AreStreamHeads};
 ghost use Rattle.ff_graph.specs.Configured.{Made, OpenOut, configured, make_all, open_outs};
 ghost use Rattle.ff_graph.specs.Drawings.{seen_graph};
 ghost use Rattle.ff_graph.specs.Meaning.{graph_means};
@@ -20,10 +20,10 @@ ghost use Rattle.ff_graph.specs.composed.Cuts.{all_given, graph_cuts};
 ghost use Rattle.ff_graph.specs.composed.Pads.{HasFilter, HaveChannels};
 ghost use Rattle.ff_graph.specs.laws.composed.Ready.{counts_of, pads_of};
 
-/// Where the heads of what comes to a filter have time bases, so have those of what it gives.
-pub fn configured_heads_are_timed()
-    ensures { (name : FilterName) (args : List Arg) (heads : List StreamHead) (f : Filtered) → AreTimed heads
-        → configured_as name args heads ≡ Ok f → AreTimed f.outs }
+/// Where the heads of what comes to a filter have time bases, and audio may be zeros, that is so of what it gives.
+pub fn configured_heads_are_of_streams()
+    ensures { (name : FilterName) (args : List Arg) (heads : List StreamHead) (f : Filtered) → AreStreamHeads heads
+        → configured_as name args heads ≡ Ok f → AreStreamHeads f.outs }
 {}
 
 /// A graph without a loop, whose labels tell its pads apart and whose filters were made, is a drawing of them.
@@ -35,7 +35,7 @@ pub fn graphs_are_drawings()
 
 /// Its function is one within limits: it is cut where a limit of one of its filters cuts what that filter gives.
 pub fn texts_are_limited()
-    ensures { (g : Text) (heads : List StreamHead) (outs : List OpenOut) → IsClear g → loops g ≡ false → configured g (all_given heads) ≡ Ok outs → AreTimed heads
+    ensures { (g : Text) (heads : List StreamHead) (outs : List OpenOut) → IsClear g → loops g ≡ false → configured g (all_given heads) ≡ Ok outs → AreStreamHeads heads
         → IsLimited (map FramesOf heads) (map (λ o. FramesOf o.head) outs) (graph_means g (all_given heads)) (graph_cuts g (all_given heads)) }
 {}
 

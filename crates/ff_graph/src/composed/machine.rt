@@ -2,7 +2,7 @@
 ghost use Rattle.std.specs.Prelude.{◌≡◌, IfOk, IfErr, None, [], length, map};
 ghost use Rattle.ff_stream.specs.declared.item.Lane.TheVariants.{Frames as FramesOf};
 ghost use Rattle.ff_net.specs.Pasts.{start};
-ghost use Rattle.ff_filters.specs.limited.Cuts.{AreTimed};
+ghost use Rattle.ff_filters.specs.limited.Cuts.{AreStreamHeads};
 ghost use Rattle.ff_graph.specs.Opens.{open_ins};
 ghost use Rattle.ff_graph.specs.Configured.{CanBeHad};
 ghost use Rattle.ff_graph.specs.laws.Pads.{IsRefused};
@@ -107,7 +107,7 @@ pub fn graph_machine(
     ensures sound { IfOk result (λ m. (⟦<GraphMachine as Machine>⟧.view m).fault ≡ None) }
     ensures device { IfOk result (λ m. (⟦<GraphMachine as Machine>⟧.view m).device ≡ None) }
     ensures failures { IfOk result (λ m. (⟦<GraphMachine as Machine>⟧.view m).failures ≡ 0) }
-    ensures stands { IfOk result (λ m. AreTimed heads.now
+    ensures stands { IfOk result (λ m. AreStreamHeads heads.now
         → (⟦<GraphMachine as Machine>⟧.view m).stands (start (graph_task graph.now heads.now cuts.now))) }
     ensures has_ins { IfOk result (λ m. HasFilter graph.now → (⟦<GraphMachine as Machine>⟧.view m).in_lanes ≡ [] → ⊥) }
     ensures has_outs { IfOk result (λ m. HasFilter graph.now → HaveChannels heads.now → (⟦<GraphMachine as Machine>⟧.view m).out_lanes ≡ [] → ⊥) }

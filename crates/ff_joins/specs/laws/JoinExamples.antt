@@ -1,11 +1,22 @@
 -- A worked example of streams side by side.
-use Rattle.std.specs.Prelude.{◌≡◌, ℕ, ℤ, pos, List, [], ◌∷◌, refl}
+use Rattle.std.specs.Prelude.{◌≡◌, ℕ, zero, suc, ℤ, pos, List, [], ◌∷◌, refl}
 use Rattle.ff_frame.specs.Frame.{audio_frame}
 use Rattle.ff_stream.specs.declared.item.Item.{Item}
 use Rattle.ff_stream.specs.declared.item.Item.TheVariants.{Audio}
-use Rattle.ff_filter.specs.Joins.{Flow}
+use Rattle.ff_stream.specs.Stream.{whole}
+use Rattle.ff_stream.specs.Ports.{nothing}
+use Rattle.ff_filter.specs.Joins.{Flow, Ports}
 use Rattle.ff_joins.specs.Joined.{side_to_side}
-use Rattle.ff_joins.specs.laws.ConcatExamples.{all_of, two_whole}
+
+-- the whole stream of these items
+abbrev pub all_of : List Item → Flow
+all_of xs = record { items = xs; mark = whole }
+
+-- on each of two inputs one item, and the end
+abbrev pub two_whole : Item → Item → Ports
+two_whole x y zero = all_of (x ∷ [])
+two_whole x y (suc zero) = all_of (y ∷ [])
+two_whole x y (suc (suc p)) = nothing
 
 -- sound of so many channels from this time on
 abbrev pub sound_at : ℕ → ℕ → List ℤ → Item

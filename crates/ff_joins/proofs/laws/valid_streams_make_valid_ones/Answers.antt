@@ -1,10 +1,6 @@
 use Rattle.ff_joins.proofs.JoinHeads.{join_valid}
 use Rattle.ff_joins.proofs.JoinShape.{sound_shape}
-use Rattle.ff_joins.proofs.SegmentShape.{segments_valid}
 use Rattle.ff_joins.proofs.laws.valid_streams_make_valid_ones.Goals as goal
-
-pub returns-clause-segments : goal.returns-clause-segments
-returns-clause-segments c h n ss base valid = segments_valid h base n ss valid
 
 pub returns-clause-shape : goal.returns-clause-shape
 returns-clause-shape c n channels tbs codecs rate bits all tb codec ss valid sum few = sound_shape n channels tbs codecs rate bits all tb codec ss valid sum few

@@ -12,7 +12,8 @@ use Rattle.ff_graph.specs.composed.Cuts.{all_given, graph_outs, outs_or_none}
 use Rattle.ff_graph.specs.composed.Pads.{HasChannel, HasFilter, HaveChannels}
 use Rattle.ff_plan_layout.specs.declared.open_pads.OpenOut.{OpenOut}
 use Rattle.ff_plan_layout.specs.declared.open_pads.Refused.{Refused}
-use Rattle.ff_filters.specs.limited.Cuts.{AreTimed}
+use Rattle.ff_concat.specs.laws.Fed.{TakesZeros}
+use Rattle.ff_filters.specs.limited.Cuts.{AreStreamHeads}
 use Rattle.ff_plan_rules.specs.Kept.{AreFitHeads, IsFitHead}
 use Rattle.ff_plan_rules.proofs.Keeping.{keep_heads}
 use Rattle.ff_plan_rules.specs.Rules.{configured, input_as, output_as, outputs_as, is_empty}
@@ -67,9 +68,13 @@ graphs_are_had text heads outs made count unlooped clear fit =
       outs_are = heads_as own outs first.1;
     }
 
-pub are_timed : (heads : List StreamHead) → AreFitHeads heads → AreTimed heads
-are_timed [] fit = tt
-are_timed (h ∷ hs) fit = (fit.0.base, are_timed hs fit.1)
+zeros : (h : StreamHead) → IsFitHead h → TakesZeros h
+zeros (Audio tb rate bits channels codec) fit = (fit.channels.0, fit.channels.1, fit.bits.0, fit.bits.1)
+zeros (Video tb format width height sar_num sar_den) fit = tt
+
+pub are_of_streams : (heads : List StreamHead) → AreFitHeads heads → AreStreamHeads heads
+are_of_streams [] fit = tt
+are_of_streams (h ∷ hs) fit = (record { base = fit.0.base; zeros = zeros h fit.0 }, are_of_streams hs fit.1)
 
 heard : (h : StreamHead) → IsFitHead h → HasChannel h
 heard (Audio tb rate bits channels codec) fit = fit.channels.0

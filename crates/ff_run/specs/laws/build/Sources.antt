@@ -22,7 +22,7 @@ use Rattle.ff_graph.specs.Opens.{open_pads, open_in}
 use Rattle.ff_graph.specs.Sources.{is_source_filter, made_by_name, made_in, if_made}
 use Rattle.ff_plan_layout.specs.declared.open_pads.OpenIn.{OpenIn}
 use Rattle.ff_plan_layout.specs.Sources.{made_for, made_at_pad}
-use Rattle.ff_plan_rules.specs.Kept.{HasFewChannels, IsFitHead}
+use Rattle.ff_plan_rules.specs.Kept.{HasFewBits, HasFewChannels, IsFitHead}
 use Rattle.ff_plan_rules.specs.Rules.{source_as, input_as}
 use Rattle.ff_run_plan.specs.Kinds.{SourcesAreHad}
 use Rattle.ff_run.specs.build.Parts.{all_kinds}
@@ -34,8 +34,12 @@ few_channels : (h : StreamHead) → IsHead h → HasFewChannels h
 few_channels (Audio tb rate bits channels codec) is = (is.0, is.1)
 few_channels (Video tb format width height sar_num sar_den) is = tt
 
+few_bits : (h : StreamHead) → IsHead h → HasFewBits h
+few_bits (Audio tb rate bits channels codec) is = (is.2, is.3)
+few_bits (Video tb format width height sar_num sar_den) is = tt
+
 fit_is_had : (made : Made) → IsFit made → IsHad made
-fit_is_had made fit = (fit.can, record { base = fit.base; channels = few_channels (head_of made) fit.head })
+fit_is_had made fit = (fit.can, record { base = fit.base; channels = few_channels (head_of made) fit.head; bits = few_bits (head_of made) fit.head })
 
 -- what a filter makes by its name
 named_is_had : (name : Option FilterName) (args : List Arg) → IfSome (if_made (made_by_name name args)) IsHad

@@ -1,13 +1,15 @@
 -- What a head that was read tells of its stream can be decoded, and coded and written as an output takes it.
-use Rattle.std.specs.Prelude.{◌≡◌, ℕ, ◌^◌, ◌<◌, ◌≤◌, ◌&&◌, nat_le, if◌then◌else◌, Bool, true, false, List, [], ◌∷◌, length, map, refl}
+use Rattle.std.specs.Prelude.{◌≡◌, ℕ, ◌*◌, ◌^◌, ◌<◌, ◌≤◌, ◌&&◌, nat_le, if◌then◌else◌, Bool, true, false, List, [], ◌∷◌, length, map, refl}
 use Rattle.std.specs.List.{AllByRecursion}
 use Rattle.std.proofs.Common.{arith, inl, inr, subst, sym}
 use Rattle.std.proofs.lemmas.Bool.Decides.{nat_tests}
 use Rattle.std.proofs.lemmas.List.{length-map}
 use Rattle.ff_time.specs.Fraction.{Fraction, IsBase, IsBase-unit}
-use Rattle.ff_frame.specs.Codecs.{coding_of, IsFlacCoding, IsPcmCoding}
+use Rattle.ff_frame.specs.Codecs.{coding_of, coding_bytes, depth_bytes, IsFlacCoding, IsPcmCoding}
 use Rattle.ff_frame.specs.declared.coding.Coding.{Coding}
 use Rattle.ff_frame.specs.declared.coding.Coding.TheVariants as coding
+use Rattle.ff_frame.specs.declared.coding.PcmDepth.{PcmDepth}
+use Rattle.ff_frame.specs.declared.coding.PcmDepth.TheVariants.{Bits8, Bits16, Bits24, Bits32}
 use Rattle.ff_frame.specs.declared.head.Codec.{Codec}
 use Rattle.ff_frame.specs.declared.head.Codec.TheVariants as codec
 use Rattle.ff_frame.specs.declared.head.StreamHead.{StreamHead}
@@ -59,19 +61,35 @@ heads_decode h is = stream_decodes (stream_in h) (any_owes.streams h is)
 base_of_rate : (tb : Fraction) (rate : ℕ) → tb ≡ record { num = 1; den = rate } → 1 ≤ rate → rate < 2 ^ 31 → IsBase tb
 base_of_rate tb rate ticks some small = subst IsBase (sym ticks) (IsBase-unit rate (omega (arith, some)) small)
 
+few_bytes : (d : PcmDepth) → (1 ≤ depth_bytes d) × (depth_bytes d ≤ 4)
+few_bytes Bits8 = (omega arith, omega arith)
+few_bytes Bits16 = (omega arith, omega arith)
+few_bytes Bits24 = (omega arith, omega arith)
+few_bytes Bits32 = (omega arith, omega arith)
+
+pcm_bytes : (k : Coding) → IsPcmCoding k → (1 ≤ coding_bytes k) × (coding_bytes k ≤ 4)
+pcm_bytes (coding.Pcm form) p = few_bytes form.depth
+pcm_bytes coding.Flac p = absurd p
+pcm_bytes coding.RawVideo p = absurd p
+
 sound_fits : (head : StreamHead) → pcm.IsStream head → IsFitHead head
 sound_fits (Audio tb rate bits channels coded) h =
-    record { base = base_of_rate tb rate h.ticks h.some_rate h.small_rate; channels = (h.some_channels, h.few_channels) }
+    let bytes = pcm_bytes (coding_of coded) h.coded in
+    let low = bytes.0 in
+    let high = bytes.1 in
+    let deep : bits ≡ 8 * coding_bytes (coding_of coded) = h.depth in
+    record { base = base_of_rate tb rate h.ticks h.some_rate h.small_rate; channels = (h.some_channels, h.few_channels); bits = (omega (arith, deep, low), omega (arith, deep, high)) }
 sound_fits (Video tb format width height sar_num sar_den) h = absurd h
 
 pictures_fit : (head : StreamHead) → IsPictures head → IsFitHead head
 pictures_fit (Audio base rate bits channels codec) h = absurd h
-pictures_fit (Video tb format width height sar_num sar_den) h = record { base = h.2; channels = tt }
+pictures_fit (Video tb format width height sar_num sar_den) h = record { base = h.2; channels = tt; bits = tt }
 
 flac_fits : (head : StreamHead) → IsFlacHead head → IsStream (stream_of head) → IsFitHead head
 flac_fits (Audio tb rate bits channels coded) h i =
     let small : rate < 1048576 = i.rate_high in
-    record { base = base_of_rate tb rate h.ticks i.rate_low (omega (arith, small)); channels = (i.channels_low, i.channels_high) }
+    let deep = i.depth_high in
+    record { base = base_of_rate tb rate h.ticks i.rate_low (omega (arith, small)); channels = (i.channels_low, i.channels_high); bits = (i.depth_low, omega (arith, deep)) }
 flac_fits (Video tb format width height sar_num sar_den) h i = absurd h
 
 stream_fits : (head : StreamHead) → IsInputStream head → IsFitHead head

@@ -6,7 +6,7 @@ use Rattle.ff_graph.specs.composed.Cuts.{graph_outs, graph_task}
 use Rattle.ff_net.specs.Pasts.{start}
 use Rattle.ff_net.specs.laws.Views.{View}
 use Rattle.ff_run_plan.specs.Kinds.{IsNew}
-use Rattle.ff_run.specs.laws.build.Graphs.{are_heard, are_timed}
+use Rattle.ff_run.specs.laws.build.Graphs.{are_heard, are_of_streams}
 use Rattle.ff_run.specs.build.Parts.{told_graph}
 use Rattle.ff_run.proofs.BuildLemmas.Leads.{shown_as, two_steps}
 use Rattle.ff_run.proofs.build.parts.PartsKindsPart.graph.Goals as goal
@@ -35,7 +35,7 @@ returns-clause-starts g c =
     let cuts = c.args.cuts.now in
     shown_as c.in-Some.graph.machine c.in-Ok-new.graph c.in-Some.ensures.same
     (λ (v : View). v.stands (start (told_graph c.args.number text heads cuts)))
-    (c.in-Ok-new.ensures.stands (graph_task text heads cuts) refl (c.in-Ok.ensures.stands (are_timed heads c.requires.1.fit)))
+    (c.in-Ok-new.ensures.stands (graph_task text heads cuts) refl (c.in-Ok.ensures.stands (are_of_streams heads c.requires.1.fit)))
 
 pub unreachable-requires-in-None : goal.unreachable-requires-in-None
 unreachable-requires-in-None g c =
