@@ -20,8 +20,9 @@ pub struct Channels {
 }
 
 // The samples of one channel, in new memory.
+#[inline(always)]
 #[tactic(auto, using(crate::proofs::Picking::sample_there))]
-fn picked(
+fn picked_of(
     alloc: Global,
     samples: &[i32],
     channels: usize,
@@ -38,9 +39,26 @@ fn picked(
     Ok(Samples::new(out))
 }
 
+// The same. Of two channels, whose number is then known when this is compiled, several samples are read at once.
+fn picked(
+    alloc: Global,
+    samples: &[i32],
+    channels: usize,
+    channel: usize,
+) -> Result<Samples, AllocError>
+    requires { channel < channels }
+    ensures { IfOk result (λ xs. xs ≡ channel_of channel channels (length samples.now / channels) samples.now) }
+{
+    if channels == 2 {
+        return picked_of(alloc, samples, 2, channel);
+    }
+    picked_of(alloc, samples, channels, channel)
+}
+
 // The samples of one channel, in the memory of all.
+#[inline(always)]
 #[tactic(auto, using(crate::proofs::Picking::sample_there))]
-fn kept(samples: Samples, channels: usize, channel: usize) -> Samples
+fn kept_of(samples: Samples, channels: usize, channel: usize) -> Samples
     requires { channel < channels }
     ensures { result ≡ channel_of channel channels (length samples / channels) samples }
 {
@@ -51,6 +69,17 @@ fn kept(samples: Samples, channels: usize, channel: usize) -> Samples
     }
     items.truncate(count);
     Samples::new(items)
+}
+
+// The same, quicker of two channels.
+fn kept(samples: Samples, channels: usize, channel: usize) -> Samples
+    requires { channel < channels }
+    ensures { result ≡ channel_of channel channels (length samples / channels) samples }
+{
+    if channels == 2 {
+        return kept_of(samples, 2, channel);
+    }
+    kept_of(samples, channels, channel)
 }
 
 // A frame of one channel of this one, or a copy of it where it doesn't have the channel.

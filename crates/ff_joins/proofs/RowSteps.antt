@@ -1,11 +1,14 @@
 -- Rows that are written input by input.
 use Rattle.std.proofs.Common.{◌≡◌, ◌<◌, ◌≤◌, ◌+◌, ◌-◌, ◌*◌, ◌++◌, ◌∷◌, [], ℕ, zero, suc, ℤ, pos, List, length, take, drop, get_or, set, refl, arith, ap, sym, ◌∙◌, append_assoc}
-use Rattle.std.proofs.lemmas.List.{take-append-le, drop-append-le, drop-take, take-take, take_at, take_all, length-take-le, length-drop, length-append, drop-drop, set_split, set_at, take-append-drop, take_more, drop_more}
+use Rattle.std.proofs.lemmas.List.{take-append-le, drop-append-le, drop-take, take-take, take_at, take_all, length-take-le, length-drop}
+use Rattle.std.proofs.lemmas.List.{length-append, drop-drop, set_split, drop_more}
 use Rattle.std.proofs.lemmas.Slice.{drop-append-drop}
 use Rattle.std.proofs.Math.Nat.{mul-le-mul_right}
 use Rattle.std.proofs.Math.Seq.{take-add}
+use Rattle.ff_joins.specs.declared.sound_inlet.SoundInlet.{SoundInlet}
+use Rattle.ff_joins.specs.JoinOptions.{channels_of}
 use Rattle.ff_joins.specs.laws.JoinCuts.{width_to}
-use Rattle.ff_joins.specs.laws.Lots.{Lot, cell, row_to, cells_to}
+use Rattle.ff_joins.specs.laws.Lots.{Lot, lot_of, cell, row_to, cells_to}
 
 -- samples over those that stand from an index on ------------------------------------------------------------------------------
 
@@ -71,31 +74,9 @@ patch_one xs (y ∷ []) at e lt =
     set_split xs at y lt
     ∙ (ap (λ (k : ℕ). take at xs ++ y ∷ drop k xs) n ∙ sym (append_assoc (take at xs) (y ∷ []) (drop (at + 1) xs)))
 
--- none of them yet, one more, and all
-pub patch_none : (xs ys : List ℤ) (at : ℕ) → xs ≡ take at xs ++ take 0 ys ++ drop (at + 0) xs
-patch_none xs ys at =
-    let e : at + 0 ≡ at = omega arith in
-    sym (ap (λ (k : ℕ). take at xs ++ [] ++ drop k xs) e ∙ (append_assoc (take at xs) [] (drop at xs) ∙ take-append-drop at xs))
-
-pub patch_next : (xs ys out : List ℤ) (at k : ℕ) → at + length ys ≤ length xs → k < length ys → out ≡ take at xs ++ take k ys ++ drop (at + k) xs
-    → set out (at + k) (get_or ys k (pos 0)) ≡ take at xs ++ take (k + 1) ys ++ drop (at + (k + 1)) xs
-patch_next xs ys out at k fits lt is =
-    let x = get_or ys k (pos 0) in
-    let front = take at xs ++ take k ys in
-    let a = length-append (take at xs) (take k ys) in
-    let b = length-take-le at xs (omega (arith, fits)) in
-    let d = length-take-le k ys (omega (arith, lt)) in
-    let n : (at + k) + 1 ≡ at + (k + 1) = omega arith in
-    ap (λ (zs : List ℤ). set zs (at + k) x) (is ∙ ap (λ (zs : List ℤ). front ++ zs) (drop_more xs (at + k) (pos 0) (omega (arith, fits, lt))))
-    ∙ (set_at front (get_or xs (at + k) (pos 0)) (drop (at + k + 1) xs) x (at + k) (omega (arith, a, b, d))
-    ∙ (ap (λ (m : ℕ). front ++ x ∷ drop m xs) n
-    ∙ (sym (append_assoc front (x ∷ []) (drop (at + (k + 1)) xs))
-    ∙ ap (λ (zs : List ℤ). zs ++ drop (at + (k + 1)) xs) (append_assoc (take at xs) (take k ys) (x ∷ []) ∙ ap (λ (zs : List ℤ). take at xs ++ zs) (sym
-    (take_more ys k (pos 0) lt))))))
-
-pub patch_last : (xs ys : List ℤ) (at k : ℕ) → k ≡ length ys → take at xs ++ take k ys ++ drop (at + k) xs ≡ take at xs ++ ys ++ drop (at + length ys) xs
-patch_last xs ys at k e =
-    ap (λ (m : ℕ). take at xs ++ take m ys ++ drop (at + m) xs) e ∙ ap (λ (zs : List ℤ). take at xs ++ zs ++ drop (at + length ys) xs) (take_all (length ys) ys (omega arith))
+-- one sample of a list
+pub one_of : (xs : List ℤ) (m : ℕ) → m < length xs → take 1 (drop m xs) ≡ get_or xs m (pos 0) ∷ []
+one_of xs m lt = ap (λ (zs : List ℤ). take 1 zs) (drop_more xs m (pos 0) lt)
 
 -- rows -------------------------------------------------------------------------------------------------------------------
 
@@ -115,6 +96,24 @@ cell_long l r is lt =
     let h = next_row r l.count l.channels lt in
     let d = length-drop (r * l.channels) l.samples in
     length-take-le l.channels (drop (r * l.channels) l.samples) (omega (arith, h, d, is))
+
+-- of one channel a sample waits for each sample frame, and that is the cell
+pub one_there : (ls : ℕ → Lot) (p k count : ℕ) (i : SoundInlet) (xs : List ℤ) → ls p ≡ lot_of i → (ls p).channels ≡ 1 → count ≤ (ls p).count → k < count → xs ≡ i.samples
+    → k < length xs
+one_there ls p k count i xs at one there lt e =
+    let known : channels_of i.head ≡ 1 = sym (ap (λ (l : Lot). l.channels) at) ∙ one in
+    let product : i.count * channels_of i.head ≡ i.count * 1 = ap (λ (m : ℕ). i.count * m) known in
+    let size : length xs ≡ length i.samples = ap (λ (zs : List ℤ). length zs) e in
+    let number = ap (λ (l : Lot). l.count) at in
+    let rows = i.rows in
+    omega (arith, product, size, number, rows, there, lt)
+
+pub one_cell : (l : Lot) (xs : List ℤ) (r : ℕ) → l.channels ≡ 1 → xs ≡ l.samples → r < length xs → cell l r ≡ get_or xs r (pos 0) ∷ []
+one_cell l xs r one e lt =
+    let n : r * 1 ≡ r = omega arith in
+    ap (λ (m : ℕ). take m (drop (r * m) l.samples)) one
+    ∙ (ap (λ (m : ℕ). take 1 (drop m l.samples)) n
+    ∙ (ap (λ (zs : List ℤ). take 1 (drop r zs)) (sym e) ∙ one_of xs r lt))
 
 module _ (old out ys : List ℤ) (k wide column : ℕ) (fits : k * wide + column + length ys ≤ length out) (narrow : column + length ys ≤ wide)
     (left : drop (k * wide) out ≡ drop (k * wide) old) where

@@ -1,6 +1,6 @@
 -- How the machine of streams side by side is seen, and when an input is spent.
-use Rattle.std.specs.Prelude.{ℕ, Bool, true, false, ◌||◌, map}
-use Rattle.ff_stream.specs.Stream.{Mark, still_open, whole, broken, has_closed}
+use Rattle.std.specs.Prelude.{ℕ, Bool, ◌||◌, map}
+use Rattle.ff_stream.specs.Stream.{Mark, has_closed}
 use Rattle.ff_filter.specs.Joins.{silence}
 use Rattle.ff_filter.specs.Made.{is_over}
 use Rattle.ff_filter.specs.Views.{View}

@@ -1,12 +1,10 @@
 use Rattle.std.proofs.Common.{◌≡◌, ◌<◌, ◌+◌, ◌*◌, ◌++◌, ℕ, length, take, drop}
 use Rattle.ff_joins.specs.JoinOptions.{channels_of}
-use Rattle.ff_joins.specs.laws.Lots.{lot_of, cell}
 use Rattle.ff_joins.proofs.interleaving.put_input.Given as goal
 
-abbrev pub invariant-rows : goal.invariant-rows
-invariant-rows l = record {
+abbrev pub invariant-channels : goal.invariant-channels
+invariant-channels l = record {
   len : length l.out ≡ length l.fn.out;
-  left : drop (l.row * l.wide) l.out ≡ drop (l.row * l.wide) l.fn.out;
-  done : (r : ℕ) → r < l.row → take (l.column + channels_of l.inlet.head) (drop (r * l.wide) l.out)
-      ≡ take l.column (drop (r * l.wide) l.fn.out) ++ cell (lot_of l.inlet) r;
+  done : (r : ℕ) → r < l.count → take (l.column + l.channel) (drop (r * l.wide) l.out)
+      ≡ take l.column (drop (r * l.wide) l.fn.out) ++ take l.channel (drop (r * channels_of l.inlet.head) l.inlet.samples);
 }

@@ -1,6 +1,6 @@
 use Rattle.std.proofs.Common.{rules, ◌≡◌, ◌+◌, ◌*◌, ℕ, ℤ, pos, to_z, of_z, w32, List, [], ◌∷◌, ◌++◌, slice_index_or, arith, ap, ◌∙◌, sym}
 use Rattle.std.proofs.lemmas.List.FromFn.{map-range_with_len_more}
-use Rattle.ff_afilter.proofs.channel_split.picked.Goals as goal
+use Rattle.ff_afilter.proofs.channel_split.picked_of.Goals as goal
 
 pub picked-preserved : goal.picked-preserved
 picked-preserved c =

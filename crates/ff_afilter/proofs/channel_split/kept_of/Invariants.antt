@@ -1,5 +1,5 @@
 use Rattle.std.proofs.Common.{◌≡◌, ◌<◌, ◌≤◌, ◌+◌, ◌*◌, ℕ, pos, length, slice_index_or}
-use Rattle.ff_afilter.proofs.channel_split.kept.Given as goal
+use Rattle.ff_afilter.proofs.channel_split.kept_of.Given as goal
 
 abbrev pub invariant-kept : goal.invariant-kept
 invariant-kept l = record {

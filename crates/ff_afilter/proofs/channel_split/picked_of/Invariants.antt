@@ -1,7 +1,7 @@
 use Rattle.std.proofs.Common.{◌≡◌, ◌≤◌, length}
 use Rattle.std.specs.Prelude.{vec_capacity}
 use Rattle.ff_afilter.specs.Channels.{channel_of}
-use Rattle.ff_afilter.proofs.channel_split.picked.Given as goal
+use Rattle.ff_afilter.proofs.channel_split.picked_of.Given as goal
 
 abbrev pub invariant-picked : goal.invariant-picked
 invariant-picked l = record {

@@ -2,7 +2,7 @@ use Rattle.std.proofs.Common.{rules, ◌≡◌, ◌<◌, ◌≤◌, ◌/◌, ℕ
 use Rattle.std.proofs.lemmas.List.{length-set}
 use Rattle.ff_afilter.specs.Channels.{channel_of}
 use Rattle.ff_afilter.proofs.Picking.{kept_more, kept_left, kept_all, few_enough}
-use Rattle.ff_afilter.proofs.channel_split.kept.Goals as goal
+use Rattle.ff_afilter.proofs.channel_split.kept_of.Goals as goal
 
 pub kept-preserved : goal.kept-preserved
 kept-preserved c =
@@ -11,10 +11,12 @@ kept-preserved c =
     let same : to_z w32 (of_z w32 c.index.result.now) ≡ c.index.result.now = search rules in
     let count : c.shared-count.result ≡ length xs / c.args.channels = search rules in
     let less : c.kept.k < length xs / c.args.channels = omega (arith, count) in
+    let inv = c.kept.invariant in
+    let channel = c.args.channel in
     rw same (record {
-      size = simp length-set c.kept.invariant.size;
-      done = kept_more xs ys c.kept.k c.args.channels c.args.channel c.requires less c.kept.invariant.size c.index.result.now c.index.ensures c.kept.invariant.done c.kept.invariant.left;
-      left = kept_left xs ys c.kept.k c.args.channels c.args.channel c.requires less c.kept.invariant.size c.index.result.now c.index.ensures c.kept.invariant.done c.kept.invariant.left;
+      size = simp length-set inv.size;
+      done = kept_more xs ys c.kept.k c.args.channels channel c.requires less inv.size c.index.result.now c.index.ensures inv.done inv.left;
+      left = kept_left xs ys c.kept.k c.args.channels channel c.requires less inv.size c.index.result.now c.index.ensures inv.done inv.left;
     })
 
 pub returns : goal.returns
