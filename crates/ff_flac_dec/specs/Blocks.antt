@@ -4,13 +4,15 @@ use Rattle.ff_frame.specs.declared.head.StreamHead.{StreamHead}
 use Rattle.ff_frame.specs.declared.head.StreamHead.TheVariants.{Audio}
 use Rattle.ff_frame.specs.declared.head.Codec.TheVariants.{Flac}
 use Rattle.ff_flac_dec.specs.declared.head.FlacHead.{FlacHead}
+use Rattle.ff_flac_dec.specs.declared.head.HeadState.{HeadState}
+use Rattle.ff_flac_dec.specs.declared.head.HeadState.TheVariants.{Blocks}
 use Rattle.ff_reader.specs.declared.fault.HeadFault.TheVariants.{Damaged, Unsupported}
 use Rattle.ff_reader.specs.declared.step.Step.{Step}
 use Rattle.ff_reader.specs.declared.step.Step.TheVariants.{Wait, Decide, Skip}
 
--- what a metadata block does to the reading of a head: where it is passed over, this is the stream's head from there on
+-- what a metadata block does to the reading of a head: where it is passed over, this is known from there on
 abbrev pub BlockStep : Type 0
-BlockStep = Step FlacHead (Option StreamHead)
+BlockStep = Step FlacHead HeadState
 
 -- the number of three bytes at a place
 abbrev pub number_24 : ℕ → List ℕ → ℕ
@@ -40,7 +42,7 @@ sound_of rate bits channels = Audio (record { num = 1; den = rate }) rate bits c
 -- a block is 4 bytes and its size; the head ends behind the last one, which is there whole
 abbrev pub closes : ℕ → StreamHead → ℕ → List ℕ → BlockStep
 closes size head at bs =
-    if not (is_last bs) then Skip (3 + size) (Some head)
+    if not (is_last bs) then Skip (3 + size) (Blocks (Some head))
     else if nat_lt (length bs) (4 + size) then Wait
     else Decide (Ok (record { head = head; start = at + 4 + size }))
 

@@ -2,6 +2,7 @@ pub mod Values
 pub mod Channels
 pub mod Streams
 pub mod Blocks
+pub mod Tags
 pub mod Heads
 pub mod Packets
 pub mod Cuts

@@ -4,4 +4,5 @@ pub mod HeadLaws
 pub mod Info
 pub mod Joins
 pub mod SoundLaws
+pub mod TagLaws
 pub mod Units

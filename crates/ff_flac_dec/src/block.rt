@@ -1,10 +1,10 @@
 //! Metadata blocks (RFC 9639, section 8).
-ghost use Rattle.std.specs.Prelude.{◌≡◌, ◌+◌, ◌*◌, ◌≤◌, ◌<◌, ◌^◌, ℕ, Option, length, drop, Ok, Some};
-ghost use Rattle.ff_frame.specs.declared.head.StreamHead.{StreamHead};
+ghost use Rattle.std.specs.Prelude.{◌≡◌, ◌+◌, ◌*◌, ◌≤◌, ◌<◌, ◌^◌, ℕ, length, drop, Ok, Some};
+ghost use Rattle.ff_flac_dec.specs.declared.head.HeadState.{HeadState};
 ghost use Rattle.ff_reader.specs.declared.step.Step.TheVariants.{Skip};
 ghost use Rattle.ff_flac_dec.specs.Blocks.{number_24, kind_of, is_last, rate_in, channels_in, bits_in, sound_of, closes, info, other, after, block};
 
-use crate::head::{BlockStep, FlacHead};
+use crate::head::{BlockStep, FlacHead, HeadState};
 use ff_frame::{Codec, StreamHead};
 use ff_reader::{HeadFault, Step};
 use ff_time::Rational;
@@ -61,10 +61,10 @@ fn closed(size: u32, head: StreamHead, at: u64, bytes: &[u8]) -> BlockStep
     requires small { size < 2 ^ 24 }
     requires there { 1 ≤ length bytes.now }
     ensures value { result ≡ closes size head at bytes.now }
-    ensures small { (count : ℕ) (next : Option StreamHead) → result ≡ Skip count next → count ≤ 2 ^ 33 }
+    ensures small { (count : ℕ) (next : HeadState) → result ≡ Skip count next → count ≤ 2 ^ 33 }
 {
     if bytes[0] < 128 {
-        return Step::Skip(3 + size as u64, Some(head));
+        return Step::Skip(3 + size as u64, HeadState::Blocks(Some(head)));
     }
     if bytes.len() < 4 + size as usize {
         return Step::Wait;
@@ -80,7 +80,7 @@ fn info_at(at: u64, bytes: &[u8]) -> BlockStep
     requires place { at < 2 ^ 32 }
     requires there { 4 ≤ length bytes.now }
     ensures value { result ≡ info at bytes.now }
-    ensures small { (count : ℕ) (next : Option StreamHead) → result ≡ Skip count next → count ≤ 2 ^ 33 }
+    ensures small { (count : ℕ) (next : HeadState) → result ≡ Skip count next → count ≤ 2 ^ 33 }
 {
     if !(bytes[0] % 128 == 0 && at_24(bytes, 1) == 34) {
         return Step::Decide(Err(HeadFault::Damaged { offset: at }));
@@ -104,7 +104,7 @@ fn other_at(head: StreamHead, at: u64, bytes: &[u8]) -> BlockStep
     requires place { at < 2 ^ 32 }
     requires there { 4 ≤ length bytes.now }
     ensures value { result ≡ other head at bytes.now }
-    ensures small { (count : ℕ) (next : Option StreamHead) → result ≡ Skip count next → count ≤ 2 ^ 33 }
+    ensures small { (count : ℕ) (next : HeadState) → result ≡ Skip count next → count ≤ 2 ^ 33 }
 {
     let kind = bytes[0] % 128;
     if kind == 0 {
@@ -121,7 +121,7 @@ fn other_at(head: StreamHead, at: u64, bytes: &[u8]) -> BlockStep
 pub(crate) fn block_at(format: Option<StreamHead>, at: u64, bytes: &[u8]) -> BlockStep
     requires { at < 2 ^ 32 }
     ensures value { result ≡ block format at bytes.now }
-    ensures small { (count : ℕ) (next : Option StreamHead) → result ≡ Skip count next → count ≤ 2 ^ 33 }
+    ensures small { (count : ℕ) (next : HeadState) → result ≡ Skip count next → count ≤ 2 ^ 33 }
 {
     if bytes.len() < 4 {
         return Step::Wait;

@@ -15,8 +15,17 @@ pub struct FlacHead {
     pub start: u64,
 }
 
-/// What a metadata block does to the reading of a head: where it is passed over, the stream's head goes on.
-pub(crate) type BlockStep = Step<FlacHead, Option<StreamHead>>;
+/// What is known where a head is read on.
+#[derive(Clone, Copy, PartialEq, Eq, Debug)]
+pub enum HeadState {
+    /// Tags may come, and then `fLaC`.
+    Tags,
+    /// A metadata block comes; the blocks before it, if any, say this of the stream.
+    Blocks(Option<StreamHead>),
+}
+
+/// What a tag or a metadata block does to the reading of a head: where it is passed over, this is known from there on.
+pub(crate) type BlockStep = Step<FlacHead, HeadState>;
 
 impl FlacHead {
     /// What it says of the frames: rate, bits and channels.

@@ -1,6 +1,6 @@
 //! FLAC reading (RFC 9639): heads, and the samples that a frame stands for.
 //!
-//! `specs/Blocks` says what one metadata block does to the reading of a head. `specs/Heads` says what the head of a
+//! `specs/Tags` says what may stand before `fLaC`, `specs/Blocks` what one metadata block does to the reading of a head. `specs/Heads` says what the head of a
 //! whole input is, and which first bytes decide it. `specs/Streams` says what a head tells of the frames.
 //! `specs/Values` says which samples a subframe stands for, `specs/Channels` which channels a frame has.
 //! `specs/Packets` says which packets an input has. `specs/laws/Units` says what it means that a frame is whole, or isn't
@@ -23,13 +23,14 @@ mod laws;
 mod linear;
 mod sound;
 mod stereo;
+mod tag;
 mod walk;
 
 pub use cut::FlacCut;
 pub use end::DecodeEnd;
 pub use frame::frame_at;
 pub use hand_over::{FrameReceiver, FrameSender, frame_channel};
-pub use head::FlacHead;
+pub use head::{FlacHead, HeadState};
 pub use laws::{streaminfo_is_its_fields, units_are_exact};
 pub use sound::decode;
 pub use walk::{Flac, FlacWalk, read_head};

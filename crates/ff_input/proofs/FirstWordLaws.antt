@@ -1,10 +1,12 @@
 -- What the first bytes tell, they tell whatever follows; and where they may go on to a word, some bytes more make it.
-use Rattle.std.proofs.Common.{◌≡◌, ℕ, ◌<◌, ◌≤◌, ◌⊎◌, inl, inr, Bool, true, false, cond, List, [], ◌∷◌, ◌++◌, drop, length, Option, Some, None, refl, sym, ap, ◌∙◌, arith, length-append}
-use Rattle.std.specs.Prelude.{nat_le, ◌==◌, ◌&&◌, ◌||◌, not, find, All}
+use Rattle.std.proofs.Common.{◌≡◌, ℕ, ◌<◌, ◌≤◌, ◌⊎◌, inl, inr, Bool, true, false, cond, List, [], ◌∷◌, ◌++◌, drop, length, Option, Some, None, Err, refl, sym}
+use Rattle.std.proofs.Common.{ap, ◌∙◌, subst, arith, append_assoc, length-append}
+use Rattle.std.specs.Prelude.{◌≢◌, nat_le, ◌==◌, ◌&&◌, ◌||◌, not, find, All}
 use Rattle.std.specs.Option.{option_map}
 use Rattle.std.proofs.lemmas.List.{length-drop}
-use Rattle.std.proofs.lemmas.List.Elements.{All-head, All-tail, All-drop}
+use Rattle.std.proofs.lemmas.List.Elements.{All-head, All-tail, All-drop, All-append}
 use Rattle.std.proofs.lemmas.Bool.Decides.{nat_tests}
+use Rattle.ff_reader.specs.declared.fault.HeadFault.TheVariants.{Unsupported}
 use Rattle.ff_reader.specs.Heads.{Found}
 use Rattle.ff_reader.specs.Walks.{agrees}
 use Rattle.ff_reader.proofs.AgreeLaws.{bool_cases, agrees-append, agrees_long, agrees_complete, filled, filled_bytes, length_filled}
@@ -33,7 +35,8 @@ and_parts false y e = cc
 
 told_is : (w : Word) (bs : List ℕ) (a l : Bool) → agrees w.word bs ≡ a → nat_le (length w.word) (length bs) ≡ l
     → told_by w bs ≡ cond (not a) Other (cond l (Named w.format) Open)
-told_is w bs a l ea el = ap (λ x. cond (not x) Other (cond (nat_le (length w.word) (length bs)) (Named w.format) Open)) ea ∙ ap (λ x. cond (not a) Other (cond x (Named w.format) Open)) el
+told_is w bs a l ea el =
+    ap (λ x. cond (not x) Other (cond (nat_le (length w.word) (length bs)) (Named w.format) Open)) ea ∙ ap (λ x. cond (not a) Other (cond x (Named w.format) Open)) el
 
 -- what the bytes tell by a word: they disagree, have it, or agree and are shorter
 pub by_word : (w : Word) (bs : List ℕ)
@@ -132,7 +135,8 @@ pub open_unnamed : (ws : List Word) (bs : List ℕ) → are_apart ws ≡ true �
 open_unnamed [] bs d e = refl
 open_unnamed (w ∷ ws) bs d e =
     let parts = and_parts (differs_from w.word ws) (are_apart ws) d in elim (by_word w bs) [
-      | inl a ↦ named_next w ws bs (and_no (nat_le (length w.word) (length bs)) (agrees w.word bs) a.0) ∙ open_unnamed ws bs parts.1 (sym (told_next w ws bs Other a.1) ∙ e)
+      | inl a ↦ named_next w ws bs (and_no (nat_le (length w.word) (length bs)) (agrees w.word bs) a.0)
+          ∙ open_unnamed ws bs parts.1 (sym (told_next w ws bs Other a.1) ∙ e)
       | inr (inl a) ↦ let clash : Named w.format ≡ Open = sym (told_next w ws bs (Named w.format) a.2) ∙ e in cc
       | inr (inr a) ↦
           named_next w ws bs (no_and (nat_le (length w.word) (length bs)) (agrees w.word bs) (lt_false (length w.word) (length bs) a.1)) ∙ others_no w ws bs parts.0 a.0
@@ -145,11 +149,11 @@ pub record GoesOn {H : Type 0} (head : FileFormat → List ℕ → Found H) (ws 
   pub law : IsFirstWord head word
   pub shorter : length bs < length word.word
   pub bytes : All (λ b. b < 256) rest
-  pub long : length (bs ++ rest) ≡ length word.word
-  pub agree : agrees word.word (bs ++ rest) ≡ true
+  pub own : head word.format (bs ++ rest) ≢ Err (Unsupported 0)
   pub named : named_in ws (bs ++ rest) ≡ Some word.format
 
-pub open_goes_on : {H : Type 0} (head : FileFormat → List ℕ → Found H) (ws : List Word) (bs : List ℕ) → All (IsFirstWord head) ws → told ws bs ≡ Open → GoesOn head ws bs
+pub open_goes_on : {H : Type 0} (head : FileFormat → List ℕ → Found H) (ws : List Word) (bs : List ℕ) → All (IsFirstWord head) ws → told ws bs ≡ Open
+    → GoesOn head ws bs
 open_goes_on head [] bs laws e = absurd cc
 open_goes_on head (w ∷ ws) bs laws e = elim (by_word w bs) [
   | inl a ↦
@@ -160,24 +164,24 @@ open_goes_on head (w ∷ ws) bs laws e = elim (by_word w bs) [
         law = g.law;
         shorter = g.shorter;
         bytes = g.bytes;
-        long = g.long;
-        agree = g.agree;
+        own = g.own;
         named = named_next w ws (bs ++ g.rest) (begins_not w bs g.rest a.0) ∙ g.named;
       }
   | inr (inl a) ↦ let clash : Named w.format ≡ Open = sym (told_next w ws bs (Named w.format) a.2) ∙ e in absurd cc
   | inr (inr a) ↦
       let law = All-head (IsFirstWord head) w ws laws in
-      let rest = drop (length bs) (filled w.word) in
-      let long : length (bs ++ rest) ≡ length w.word = omega (arith, length-append bs rest, length-drop (length bs) (filled w.word), length_filled w.word, a.1) in
+      let first = drop (length bs) (filled w.word) in
+      let long : length (bs ++ first) ≡ length w.word = omega (arith, length-append bs first, length-drop (length bs) (filled w.word), length_filled w.word, a.1) in
       let agree = agrees_complete w.word bs a.0 in
+      let same : (bs ++ first) ++ law.more ≡ bs ++ (first ++ law.more) = append_assoc bs first law.more in
       record {
         word = w;
-        rest = rest;
+        rest = first ++ law.more;
         law = law;
         shorter = a.1;
-        bytes = All-drop (λ b. b < 256) (length bs) (filled w.word) (filled_bytes w.word law.bytes);
-        long = long;
-        agree = agree;
-        named = named_here w ws (bs ++ rest) (both_true (nat_le (length w.word) (length (bs ++ rest))) (agrees w.word (bs ++ rest)) (le_true (length w.word) (length (bs ++ rest)) (omega (arith, long))) agree);
+        bytes = All-append (λ b. b < 256) first law.more (All-drop (λ b. b < 256) (length bs) (filled w.word) (filled_bytes w.word law.bytes)) law.more_bytes;
+        own = subst (λ xs. head w.format xs ≢ Err (Unsupported 0)) same (law.own (bs ++ first) long agree);
+        named =
+            named_here w ws (bs ++ (first ++ law.more)) (subst (λ xs. begins_with xs w ≡ true) same (begins_yes w (bs ++ first) law.more agree (omega (arith, long))));
       }
 ]

@@ -75,7 +75,7 @@ is_open bs t =
     let g = open_goes_on head_in first_words bs all_words t in
     let none : input_head None (bs ++ []) ≡ Err (Unsupported 0) = ap (input_head None) (append-nil bs) ∙ open_head bs t in
     let own : input_head None (bs ++ g.rest) ≡ head_in g.word.format (bs ++ g.rest) = head_named (bs ++ g.rest) (Some g.word.format) g.named in
-    ([], g.rest, All-nil (λ b. b < 256), g.bytes, λ same. g.law.own (bs ++ g.rest) g.long g.agree (sym own ∙ (sym same ∙ none)))
+    ([], g.rest, All-nil (λ b. b < 256), g.bytes, λ same. g.own (sym own ∙ (sym same ∙ none)))
 
 untold_answers : (bs : List ℕ) (whole : Bool) → told first_words bs ≡ Open
     → Answers (input_head None) IsHead whole bs (if whole then Err (end.Unsupported 0) else Err end.NotYet)

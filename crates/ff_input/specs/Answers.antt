@@ -6,6 +6,8 @@ use Rattle.ff_frame.specs.declared.cut.HeadEnd.TheVariants as end
 use Rattle.ff_reader.specs.Heads.{Found, answered, IsOpen}
 use Rattle.ff_reader.specs.Walks.{Grammar, head_limit, Reached}
 use Rattle.ff_reader.specs.declared.walk.HeadWalk.{HeadWalk}
+use Rattle.ff_flac_dec.specs.Heads as flac
+use Rattle.ff_flac_dec.specs.declared.walk.FlacWalk.{FlacWalk}
 use Rattle.ff_wav.specs.Heads as wav
 use Rattle.ff_wav.specs.Heads.{WavWalk}
 use Rattle.ff_input.specs.declared.one_of.OneOf.{OneOf}
@@ -42,6 +44,10 @@ units_reached g walk front = (length front ≤ head_limit) × Reached g walk.at 
 -- a walk over a WAV, by the form that its first bytes tell
 abbrev pub wav_reached : WavWalk → List ℕ → Type 0
 wav_reached walk front = (length front ≤ head_limit) × wav.IsReached walk front
+
+-- a walk over a FLAC, over its tags and blocks
+abbrev pub flac_reached : FlacWalk → List ℕ → Type 0
+flac_reached walk front = units_reached flac.grammar walk.units front
 
 -- of a walk of one of two formats: the head of a whole input, and that it has read this front
 abbrev pub either_head : {A B H K : Type 0} → (A → List ℕ → Found H) → (B → List ℕ → Found K) → OneOf A B → List ℕ → Found (OneOf H K)

@@ -1,5 +1,6 @@
 -- Which format the first bytes of an input tell: a format has one first word or more, and no two words begin alike to their end.
-use Rattle.std.specs.Prelude.{◌≡◌, ◌≢◌, ℕ, ◌<◌, ◌==◌, ◌&&◌, ◌||◌, nat_le, not, Bool, true, false, if◌then◌else◌, find, List, [], ◌∷◌, length, Option, Some, None, Err}
+use Rattle.std.specs.Prelude.{◌≡◌, ◌≢◌, ℕ, ◌<◌, ◌==◌, ◌&&◌, ◌||◌, nat_le, not, Bool, true, false, if◌then◌else◌, find, List, [], ◌∷◌, ◌++◌, All, length, Option}
+use Rattle.std.specs.Prelude.{Some, None, Err}
 use Rattle.std.specs.Option.{option_map}
 use Rattle.ff_reader.specs.Heads.{Found}
 use Rattle.ff_reader.specs.Walks.{agrees, AreBytes, head_limit}
@@ -55,8 +56,10 @@ are_apart [] = true
 are_apart (w ∷ ws) = differs_from w.word ws && are_apart ws
 
 -- What a word owes to its format, by what the head of a whole input is: its bytes are bytes, few, and an input that is such a word and
--- nothing more isn't of another format.
+-- goes on with these bytes isn't of another format.
 pub record IsFirstWord {H : Type 0} (head : FileFormat → List ℕ → Found H) (w : Word) : Type 0 where
   pub bytes : AreBytes w.word
   pub few : length w.word < head_limit
-  pub own : (bs : List ℕ) → length bs ≡ length w.word → agrees w.word bs ≡ true → head w.format bs ≢ Err (Unsupported 0)
+  pub more : List ℕ
+  pub more_bytes : All (λ b. b < 256) more
+  pub own : (bs : List ℕ) → length bs ≡ length w.word → agrees w.word bs ≡ true → head w.format (bs ++ more) ≢ Err (Unsupported 0)

@@ -24,11 +24,12 @@ use Rattle.ff_flac_dec.specs.declared.head.FlacHead.{FlacHead}
 use Rattle.ff_flac_dec.specs.declared.cut.FlacCut.{FlacCut}
 use Rattle.ff_flac_dec.specs.Cuts.{flac_cutter}
 use Rattle.ff_flac_dec.specs.Heads as flac
-use Rattle.ff_flac_dec.specs.declared.walk.Flac.{Flac}
+use Rattle.ff_flac_dec.specs.Tags as flac_tags
+use Rattle.ff_flac_dec.specs.declared.walk.FlacWalk.{FlacWalk}
 use Rattle.ff_input.specs.declared.formats.Y4mWalk.{Y4mWalk}
 use Rattle.ff_input.specs.declared.one_of.OneOf.{OneOf}
 use Rattle.ff_input.specs.declared.one_of.OneOf.TheVariants.{First, Other}
-use Rattle.ff_input.specs.Answers.{as_found, either_head, either_reached, units_reached, wav_reached}
+use Rattle.ff_input.specs.Answers.{as_found, either_head, either_reached, units_reached, flac_reached, wav_reached}
 use Rattle.ff_input.specs.Either.{either_cutter}
 use Rattle.ff_input.specs.FirstWords.{Word, named_in}
 use Rattle.ff_input.specs.laws.FlacShapes.{flac_owes}
@@ -43,7 +44,7 @@ abbrev pub InputHead : Type 0
 InputHead = OneOf PcmHead (OneOf Y4mHead (OneOf FlacHead PcmHead))
 
 abbrev pub AnyWalk : Type 0
-AnyWalk = OneOf WavWalk (OneOf Y4mWalk (OneOf (HeadWalk Flac FlacHead (Option StreamHead)) (HeadWalk Au PcmHead ⊤)))
+AnyWalk = OneOf WavWalk (OneOf Y4mWalk (OneOf FlacWalk (HeadWalk Au PcmHead ⊤)))
 
 abbrev pub AnyCut : Type 0
 AnyCut = OneOf PcmCut (OneOf Y4mCut (OneOf FlacCut PcmCut))
@@ -67,14 +68,16 @@ head_in format.StreamHash bs = Err (Unsupported 0)
 head_in format.Crc bs = Err (Unsupported 0)
 head_in format.Null bs = Err (Unsupported 0)
 
--- what its inputs begin with: `RIFF` or `RF64`, any four bytes and `WAVE`; `YUV4MPEG2` and a space or a line feed; `fLaC`; `.snd`
+-- what its inputs begin with: `RIFF` or `RF64`, any four bytes and `WAVE`; `YUV4MPEG2` and a space or a line feed; `fLaC`,
+-- or `ID3` where tags come before it; `.snd`
 abbrev pub first_words : List Word
 first_words =
     record { word = wav.riff_magic; format = format.Wav }
     ∷ record { word = wav.rf64_magic; format = format.Wav }
     ∷ record { word = map Some (y4m.magic ++ space ∷ []); format = format.Y4m }
     ∷ record { word = map Some (y4m.magic ++ line_feed ∷ []); format = format.Y4m }
-    ∷ record { word = flac.magic; format = format.Flac }
+    ∷ record { word = flac_tags.magic; format = format.Flac }
+    ∷ record { word = flac_tags.tag_magic; format = format.Flac }
     ∷ record { word = au.magic; format = format.Au }
     ∷ []
 
@@ -83,7 +86,7 @@ abbrev pub any_head : AnyWalk → List ℕ → Found
 any_head = either_head (λ w. wav.head) (either_head (λ w. y4m.head) (either_head (λ w. flac.head) (λ w. au.head)))
 
 abbrev pub any_reached : AnyWalk → List ℕ → Type 0
-any_reached = either_reached wav_reached (either_reached (λ w front. Unit {0}) (either_reached (units_reached flac.grammar) (units_reached au.grammar)))
+any_reached = either_reached wav_reached (either_reached (λ w front. Unit {0}) (either_reached flac_reached (units_reached au.grammar)))
 
 -- its cut, and what it owes by it
 abbrev pub any_cutter : Cutter InputHead AnyCut

@@ -62,9 +62,10 @@ pub(crate) fn told_by_words(bytes: &[u8]) -> FirstWord
     let rf64 = told_by_word(FileFormat::Wav, Rf64Wave::magic(), bytes);
     let line = told_by_word(FileFormat::Y4m, &LINE, bytes);
     let empty_line = told_by_word(FileFormat::Y4m, &EMPTY_LINE, bytes);
-    let flac = told_by_word(FileFormat::Flac, Flac::magic(), bytes);
+    let flac = told_by_word(FileFormat::Flac, Flac::name(), bytes);
+    let tagged = told_by_word(FileFormat::Flac, Flac::tag_name(), bytes);
     let au = told_by_word(FileFormat::Au, Au::magic(), bytes);
-    riff.or(rf64.or(line.or(empty_line.or(flac.or(au.or(FirstWord::Other))))))
+    riff.or(rf64.or(line.or(empty_line.or(flac.or(tagged.or(au.or(FirstWord::Other)))))))
 }
 
 /// Before anything was read of an input in this format.
@@ -104,6 +105,24 @@ impl HeadReader for BothForms<HeadWalk<RiffWave>, HeadWalk<Rf64Wave>> {
 
     fn read(&mut self, bytes: &[u8], whole: bool) -> Result<WavHead, HeadEnd> {
         WavWalk::read(self, bytes, whole)
+    }
+}
+
+impl HeadReader for FlacWalk {
+    ghost use Rattle.ff_flac_dec.specs.Heads.{head as flac_head};
+    ghost use Rattle.ff_flac_dec.specs.Streams.{IsHead as IsFlacHead};
+    ghost use Rattle.ff_input.specs.Answers.{flac_reached};
+
+    type Head = FlacHead;
+
+    ghost head = { λ walk. flac_head };
+
+    ghost is_sound = { IsFlacHead };
+
+    ghost reached = { flac_reached };
+
+    fn read(&mut self, bytes: &[u8], whole: bool) -> Result<FlacHead, HeadEnd> {
+        FlacWalk::read(self, bytes, whole)
     }
 }
 

@@ -1,5 +1,6 @@
 -- The head of a FLAC file that was written, read again.
-use Rattle.std.proofs.Common.{◌≡◌, ℕ, zero, suc, ◌+◌, ◌-◌, ◌*◌, ◌/◌, ◌%◌, ◌^◌, ◌<◌, ◌≤◌, Bool, true, false, cond, List, [], ◌∷◌, ◌++◌, drop, length, Some, None, Ok, refl, sym, subst, ap, ◌∙◌, arith, append_assoc, length-take}
+use Rattle.std.proofs.Common.{◌≡◌, ℕ, zero, suc, ◌+◌, ◌-◌, ◌*◌, ◌/◌, ◌%◌, ◌^◌, ◌<◌, ◌≤◌, Bool, true, false, cond, List, [], ◌∷◌, ◌++◌, drop, length, Some, None}
+use Rattle.std.proofs.Common.{Ok, refl, sym, subst, ap, ◌∙◌, arith, append_assoc, length-take}
 use Rattle.std.specs.Prelude.{◌==◌, ◌&&◌, not, nat_le, nat_lt, slice_index}
 use Rattle.std.proofs.lemmas.Bool.Decides.{nat_tests}
 use Rattle.std.proofs.lemmas.List.{take_all, take_at, drop_at}
@@ -14,14 +15,15 @@ use Rattle.ff_frame.specs.declared.head.StreamHead.{StreamHead}
 use Rattle.ff_frame.specs.declared.head.StreamHead.TheVariants.{Audio, Video}
 use Rattle.ff_frame.specs.declared.totals.Totals.{Totals}
 use Rattle.ff_reader.specs.declared.step.Step.TheVariants.{Decide}
-use Rattle.ff_reader.specs.Heads.{early}
 use Rattle.ff_reader.specs.Walks.{agrees, walk, within, head_limit, reading as read_within}
 use Rattle.ff_reader.proofs.AnswerLaws.{head_some}
-use Rattle.ff_reader.proofs.WalkLaws.{walk-drop}
 use Rattle.ff_reader.proofs.ReadingLaws.{reading_at, reading_stays}
 use Rattle.ff_reader.proofs.ReachLaws.{walk_decide}
 use Rattle.ff_flac_dec.specs.Blocks.{rate_in, channels_in, bits_in, sound_of, info, block}
-use Rattle.ff_flac_dec.specs.Heads.{magic, grammar}
+use Rattle.ff_flac_dec.specs.declared.head.HeadState.TheVariants.{Tags, Blocks}
+use Rattle.ff_flac_dec.specs.Heads.{unit, grammar, early}
+use Rattle.ff_flac_dec.specs.Tags.{magic}
+use Rattle.ff_flac_dec.proofs.NamedLaws.{walk_named}
 use Rattle.ff_flac_dec.specs.laws.HeadLaws.{is_lawful}
 use Rattle.ff_flac_dec.specs.laws.Info.{widths, field_in, info_field}
 use Rattle.ff_mux.specs.FlacHead.{HasRoom, told, sound_of as sound_number, digest_of, stream_info, before_info, flac_start}
@@ -123,18 +125,20 @@ module _ (rate depth channels : ℕ) (totals : Totals) (room : HasRoom rate dept
   unfolding before_info
   agree = refl
 
-  walked_is : walk block 4 None 0 start ≡ Some (Ok (record { head = sound_of rate depth channels; start = 42 }))
+  walked_is : walk unit 0 Tags 0 start ≡ Some (Ok (record { head = sound_of rate depth channels; start = 42 }))
   unfolding before_info
-  walked_is = walk-drop block start 4 None 0 ∙ walk_decide block None 4 (streaminfo bytes) (Ok (record { head = sound_of rate depth channels; start = 42 })) (omega (arith, long)) block_is
+  walked_is =
+      walk_named start agree (omega (arith, long))
+      ∙ walk_decide unit (Blocks None) 4 (streaminfo bytes) (Ok (record { head = sound_of rate depth channels; start = 42 })) (omega (arith, long)) block_is
 
   start_read : read_within grammar head_limit start ≡ Some (Ok (record { head = sound_of rate depth channels; start = 42 }))
-  start_read = reading_at grammar head_limit start agree
-      ∙ ap (λ o. within head_limit start o) (ap (λ xs. walk block 4 None 0 xs) (take_all head_limit start few) ∙ walked_is)
+  start_read = reading_at grammar head_limit start refl
+      ∙ ap (λ o. within head_limit start o) (ap (λ xs. walk unit 0 Tags 0 xs) (take_all head_limit start few) ∙ walked_is)
 
 pub headers : HeadersAreRead
 headers (Audio tb rate depth channels codec) totals rest can some whole =
     let head : StreamHead = Audio tb rate depth channels codec in
-    head_some (read_within grammar head_limit) (early 4) (flac_start head totals ++ rest) (Ok (says head))
+    head_some (read_within grammar head_limit) early (flac_start head totals ++ rest) (Ok (says head))
     (reading_stays grammar is_lawful (flac_start head totals) rest (Ok (says head)) (start_read rate depth channels totals can.1 some whole))
 headers (Video tb format width height sar_num sar_den) totals rest can some whole = absurd some
 

@@ -188,5 +188,5 @@ pub fn walk(call: &mut Call, told: &mut Told) {
         runs.add(told, length, one);
     }
     runs.end(told);
-    tell_field(told, "; at ", walk.at as u64);
+    tell_field(told, "; at ", walk.units.at as u64);
 }

@@ -1,10 +1,12 @@
 -- What a metadata block does is the same whatever follows, unless it waits.
-use Rattle.std.proofs.Common.{◌≡◌, ℕ, zero, suc, ◌+◌, ◌<◌, ◌≤◌, ◌⊎◌, inl, inr, Bool, true, false, cond, List, [], ◌∷◌, ◌++◌, length, Option, Some, None, Ok, Err, refl, sym, ap, subst, arith, length-append}
+use Rattle.std.proofs.Common.{◌≡◌, ℕ, zero, suc, ◌+◌, ◌<◌, ◌≤◌, ◌⊎◌, inl, inr, Bool, true, false, cond, List, [], ◌∷◌, ◌++◌, length, Option, Some, None, Ok}
+use Rattle.std.proofs.Common.{Err, refl, sym, ap, subst, arith, length-append}
 use Rattle.std.specs.Prelude.{slice_index, nat_lt, nat_le, ◌==◌, ◌/◌, ◌%◌, ◌^◌, ◌&&◌, not}
 use Rattle.std.proofs.lemmas.Bool.Decides.{nat_tests}
 use Rattle.ff_frame.specs.declared.head.StreamHead.{StreamHead}
 use Rattle.ff_reader.specs.declared.fault.HeadFault.TheVariants.{Damaged, Unsupported}
 use Rattle.ff_flac_dec.specs.declared.head.FlacHead.{FlacHead}
+use Rattle.ff_flac_dec.specs.declared.head.HeadState.TheVariants.{Blocks}
 use Rattle.ff_reader.specs.declared.step.Step.TheVariants.{Wait, Decide, Skip}
 use Rattle.ff_flac_dec.specs.Blocks.{BlockStep, number_24, kind_of, is_last, rate_in, channels_in, bits_in, sound_of, closes, info, other, after, block}
 
@@ -12,27 +14,28 @@ use Rattle.ff_flac_dec.specs.Blocks.{BlockStep, number_24, kind_of, is_last, rat
 abbrev pub Settles : BlockStep → BlockStep → Type 0
 Settles s t = (s ≡ Wait) ⊎ (s ≡ t)
 
-settles_if : (b c : Bool) (s t s' t' : BlockStep) → b ≡ c → Settles s s' → Settles t t' → Settles (cond b s t) (cond c s' t')
+pub settles_if : (b c : Bool) (s t s' t' : BlockStep) → b ≡ c → Settles s s' → Settles t t' → Settles (cond b s t) (cond c s' t')
 settles_if true true s t s' t' e p q = p
 settles_if false false s t s' t' e p q = q
 settles_if true false s t s' t' e p q = cc
 settles_if false true s t s' t' e p q = cc
 
-settles_decided : (b c : Bool) (s t t' : BlockStep) → b ≡ c → Settles t t' → Settles (cond b s t) (cond c s t')
+pub settles_decided : (b c : Bool) (s t t' : BlockStep) → b ≡ c → Settles t t' → Settles (cond b s t) (cond c s t')
 settles_decided b c s t t' e q = settles_if b c s t s t' e (inr refl) q
 
 settles_wait_at : (b c : Bool) (t t' : BlockStep) → (b ≡ false → (c ≡ false) × Settles t t') → Settles (cond b Wait t) (cond c Wait t')
 settles_wait_at true c t t' h = inl refl
 settles_wait_at false c t t' h = let r = h refl in settles_if false c Wait t Wait t' (sym r.0) (inl refl) r.1
 
-not_less : (m n : ℕ) → nat_lt m n ≡ false → n ≤ m
+pub not_less : (m n : ℕ) → nat_lt m n ≡ false → n ≤ m
 not_less m n e = grind (arith, nat_tests)
 
 not_less_yet : (m n : ℕ) → n ≤ m → nat_lt m n ≡ false
 not_less_yet m n e = grind (arith, nat_tests)
 
 -- a step that waits for so many bytes
-settles_wait : (bs more : List ℕ) (k : ℕ) (t t' : BlockStep) → (k ≤ length bs → Settles t t') → Settles (cond (nat_lt (length bs) k) Wait t) (cond (nat_lt (length (bs ++ more)) k) Wait t')
+pub settles_wait : (bs more : List ℕ) (k : ℕ) (t t' : BlockStep) → (k ≤ length bs → Settles t t')
+    → Settles (cond (nat_lt (length bs) k) Wait t) (cond (nat_lt (length (bs ++ more)) k) Wait t')
 settles_wait bs more k t t' h = settles_wait_at (nat_lt (length bs) k) (nat_lt (length (bs ++ more)) k) t t'
     (λ e. let le : k ≤ length bs = not_less (length bs) k e in
     (not_less_yet (length (bs ++ more)) k (omega (arith, length-append bs more)), h le))
@@ -49,7 +52,8 @@ closes_settles : (size : ℕ) (head : StreamHead) (at : ℕ) (bs more : List ℕ
 closes_settles size head at bs more le =
     settles_decided _ _ _ _ _ (ap (λ n. not (nat_le 128 n)) (sym (index_front bs more 0 le))) (settles_wait bs more (4 + size) _ _ (λ long. inr refl))
 
-info_head : (bs more : List ℕ) → 18 ≤ length bs → sound_of (rate_in bs) (bits_in bs) (channels_in bs) ≡ sound_of (rate_in (bs ++ more)) (bits_in (bs ++ more)) (channels_in (bs ++ more))
+info_head : (bs more : List ℕ) → 18 ≤ length bs
+    → sound_of (rate_in bs) (bits_in bs) (channels_in bs) ≡ sound_of (rate_in (bs ++ more)) (bits_in (bs ++ more)) (channels_in (bs ++ more))
 info_head bs more le =
     let rate = front_24 bs more 14 (omega arith) in
     let low = index_front bs more 16 (omega arith) in
@@ -99,7 +103,7 @@ either at false s t p q = q
 here_wait : (at : ℕ) → IsHere at Wait
 here_wait at p e = cc
 
-here_skip : (at n : ℕ) (h : StreamHead) → IsHere at (Skip (3 + n) (Some h))
+here_skip : (at n : ℕ) (h : StreamHead) → IsHere at (Skip (3 + n) (Blocks (Some h)))
 here_skip at n h p e = cc
 
 here_damaged : (at : ℕ) → IsHere at (Decide (Err (Damaged at)))

@@ -12,7 +12,7 @@ returns-in-Y4m c = rw c.in-Y4m.is (λ more. refl, ([], [], refl, tt))
 
 pub returns-in-Flac : goal.returns-in-Flac
 unfolding input_head
-returns-in-Flac c = rw c.in-Flac.is (λ more. refl, ([], [], refl, (lit≤ tt, c.new-in-Flac.ensures)))
+returns-in-Flac c = let h = c.new-in-Flac.ensures in rw c.in-Flac.is (λ more. refl, (h.0, h.1, h.2, (h.3, h.4)))
 
 pub returns-in-Au : goal.returns-in-Au
 unfolding input_head
