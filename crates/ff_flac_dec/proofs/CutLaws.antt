@@ -1,6 +1,7 @@
 -- The state of a cut, tied to what it was fed and gave.
 use Rattle.std.specs.Coded.{le_prop}
-use Rattle.std.proofs.Common.{◌*◌, ◌^◌, ◌≤◌, ◌≡◌, ◌≢◌, ℕ, zero, suc, ◌+◌, ◌-◌, ◌⊎◌, inl, inr, true, List, [], ◌∷◌, ◌++◌, take, drop, length, Some, None, refl, sym, ap, ◌∙◌, subst, arith, length-append, append_assoc, append-nil}
+use Rattle.std.proofs.Common.{◌*◌, ◌^◌, ◌≤◌, ◌≡◌, ◌≢◌, ℕ, zero, suc, ◌+◌, ◌-◌, ◌⊎◌, inl, inr, true, false, List, [], ◌∷◌, ◌++◌, take, drop, length, Some, None}
+use Rattle.std.proofs.Common.{refl, sym, ap, ◌∙◌, subst, arith, length-append, append_assoc, append-nil}
 use Rattle.std.specs.Prelude.{slice_get, pos, Result, Ok, Err, OnOk}
 use Rattle.std.proofs.lemmas.List.{length-drop, drop-drop, take-append-le, drop-append-le}
 use Rattle.ff_frame.specs.Packet.{packet_at}
@@ -12,8 +13,11 @@ use Rattle.ff_flac_dec.specs.declared.front.Front.TheVariants.{Wait, Other, Whol
 use Rattle.ff_flac_dec.specs.Streams.{stream_of}
 use Rattle.ff_flac_dec.specs.Packets.{unit, packets_from, broken_from, demuxed, broken_at}
 use Rattle.ff_reader.specs.Cutters.{IsRest}
+use Rattle.ff_flac_dec.specs.Trailers.{are_tags}
+use Rattle.ff_flac_dec.specs.laws.Trails.{may_be_tags}
+use Rattle.ff_flac_dec.proofs.TrailLaws.{no_tags}
 use Rattle.ff_flac_dec.specs.Cuts.{Goes, Cuts}
-use Rattle.ff_flac_dec.proofs.UnitLaws.{whole_at, whole-append, other-append, other_some, packets_whole, broken_whole, packets_none, broken_here}
+use Rattle.ff_flac_dec.proofs.UnitLaws.{whole_at, whole-append, other-append, other_some, packets_whole, broken_whole, packets_none, broken_here, broken_tags}
 
 -- item number length xs of xs followed by one more
 get_behind : {A : Type 0} (xs : List A) (y : A) (ys : List A) (n : ℕ) → length xs ≡ n → slice_get (xs ++ y ∷ ys) n ≡ Some y
@@ -32,15 +36,19 @@ fresh_goes head more =
       place = ap (λ at. broken_from (stream_of head.head) 0 at more) z;
     }
 
-pub fed_goes : (head : FlacHead) (used count n : ℕ) (held fed bytes more : List ℕ) → Goes head used count n held fed (bytes ++ more) → Goes head used count n (held ++ bytes) (fed ++ bytes) more
+pub fed_goes : (head : FlacHead) (used count n : ℕ) (held fed bytes more : List ℕ) → Goes head used count n held fed (bytes ++ more)
+    → Goes head used count n (held ++ bytes) (fed ++ bytes) more
 fed_goes head used count n held fed bytes more g = record {
   given = g.given;
   number = g.number;
-  packets = ap (demuxed head) (append_assoc fed bytes more) ∙ (g.packets ∙ ap (λ xs. g.given ++ packets_from (stream_of head.head) 0 (head.start + used) count xs) (sym (append_assoc held bytes more)));
-  place = ap (broken_at head) (append_assoc fed bytes more) ∙ (g.place ∙ ap (broken_from (stream_of head.head) 0 (head.start + used)) (sym (append_assoc held bytes more)));
+  packets = ap (demuxed head) (append_assoc fed bytes more)
+      ∙ (g.packets ∙ ap (λ xs. g.given ++ packets_from (stream_of head.head) 0 (head.start + used) count xs) (sym (append_assoc held bytes more)));
+  place =
+      ap (broken_at head) (append_assoc fed bytes more) ∙ (g.place ∙ ap (broken_from (stream_of head.head) 0 (head.start + used)) (sym (append_assoc held bytes more)));
 }
 
-pub fed_cuts : (old new : FlacCut) (head : FlacHead) (fed bytes : List ℕ) (n : ℕ) → Cuts old head fed n → new.head ≡ old.head → new.count ≡ old.count → new.used ≡ old.used
+pub fed_cuts : (old new : FlacCut) (head : FlacHead) (fed bytes : List ℕ) (n : ℕ) → Cuts old head fed n → new.head ≡ old.head → new.count ≡ old.count
+    → new.used ≡ old.used
     → new.held.bytes ≡ old.held.bytes ++ bytes → Cuts new head (fed ++ bytes) n
 fed_cuts old new head fed bytes n c eh ec eu ek = record {
   of_head = eh ∙ c.of_head;
@@ -52,7 +60,8 @@ fed_cuts old new head fed bytes n c eh ec eu ek = record {
 
 -- ---- a frame is given
 
-whole_goes : (head : FlacHead) → IsStream (stream_of head.head) → (used count n len block : ℕ) (held fed more : List ℕ) → Goes head used count n held fed more → unit (stream_of head.head) held ≡ Whole len block
+whole_goes : (head : FlacHead) → IsStream (stream_of head.head) → (used count n len block : ℕ) (held fed more : List ℕ) → Goes head used count n held fed more
+    → unit (stream_of head.head) held ≡ Whole len block
     → Goes head (used + len) (count + block) (n + 1) (drop len held) fed more
 whole_goes head i used count n len block held fed more g e =
     let s = stream_of head.head in
@@ -71,7 +80,8 @@ whole_goes head i used count n len block held fed more g e =
           ∙ (ap (λ at. broken_from s 0 at (drop len (held ++ more))) place ∙ ap (broken_from s 0 (head.start + (used + len))) rest));
     }
 
-pub whole_gives : (old new : FlacCut) (head : FlacHead) (fed : List ℕ) (n len block : ℕ) (p : Pkt) → IsStream (stream_of old.head.head) → Cuts old head fed n → unit (stream_of old.head.head) old.held.bytes ≡ Whole len block
+pub whole_gives : (old new : FlacCut) (head : FlacHead) (fed : List ℕ) (n len block : ℕ) (p : Pkt) → IsStream (stream_of old.head.head) → Cuts old head fed n
+    → unit (stream_of old.head.head) old.held.bytes ≡ Whole len block
     → new.head ≡ old.head → new.count ≡ old.count + block → new.used ≡ old.used + len → new.held.bytes ≡ drop len old.held.bytes
     → p ≡ packet_at (pos old.count) (pos block) (old.head.start + old.used) (take len old.held.bytes)
     → Cuts new head fed (n + 1) × ((more : List ℕ) → slice_get (demuxed head (fed ++ more)) n ≡ Some p)
@@ -80,7 +90,8 @@ whole_gives old new head fed n len block p i c e eh ec eu ek ep =
     let s = stream_of old.head.head in
     let w = whole_at s i old.held.bytes len block e in
     let there : length old.held.bytes ≡ length fed - old.used = ap length c.kept ∙ length-drop old.used fed in
-    let at_head : (more : List ℕ) → Goes old.head old.used old.count n old.held.bytes fed more = λ more. subst (λ (h : FlacHead). Goes h old.used old.count n old.held.bytes fed more) (sym same) (c.goes more) in (
+    let at_head : (more : List ℕ) → Goes old.head old.used old.count n old.held.bytes fed more =
+    λ more. subst (λ (h : FlacHead). Goes h old.used old.count n old.held.bytes fed more) (sym same) (c.goes more) in (
       record {
         of_head = eh ∙ same;
         inside = let j = c.inside in omega (arith, j, eu, there, w.1);
@@ -102,8 +113,10 @@ whole_gives old new head fed n len block p i c e eh ec eu ek ep =
 
 -- ---- no frame is there
 
-none_length : (head : FlacHead) (used count n : ℕ) (held fed more : List ℕ) → Goes head used count n held fed more → packets_from (stream_of head.head) 0 (head.start + used) count (held ++ more) ≡ [] → length (demuxed head (fed ++ more)) ≡ n
-none_length head used count n held fed more g e = ap length (g.packets ∙ ap (λ ps. g.given ++ ps) e) ∙ (length-append g.given [] ∙ (let m = g.number in omega (arith, m)))
+none_length : (head : FlacHead) (used count n : ℕ) (held fed more : List ℕ) → Goes head used count n held fed more
+    → packets_from (stream_of head.head) 0 (head.start + used) count (held ++ more) ≡ [] → length (demuxed head (fed ++ more)) ≡ n
+none_length head used count n held fed more g e =
+    ap length (g.packets ∙ ap (λ ps. g.given ++ ps) e) ∙ (length-append g.given [] ∙ (let m = g.number in omega (arith, m)))
 
 -- the input ended behind the last frame
 pub over_left : (cut : FlacCut) (head : FlacHead) (fed : List ℕ) (n : ℕ) → Cuts cut head fed n → cut.ended ≡ true → cut.held.bytes ≡ []
@@ -115,26 +128,64 @@ over_left cut head fed n c e h more r =
       g.place ∙ ap (broken_from (stream_of head.head) 0 (head.start + cut.used)) nothing,
     )
 
--- no frame begins here, or one that isn't whole
-pub broken_left : (cut : FlacCut) (head : FlacHead) (fed : List ℕ) (n : ℕ) → IsStream (stream_of cut.head.head) → Cuts cut head fed n
-    → (unit (stream_of cut.head.head) cut.held.bytes ≡ Other) ⊎ ((cut.ended ≡ true) × (cut.held.bytes ≢ []) × (unit (stream_of cut.head.head) cut.held.bytes ≡ Wait))
+-- or tags alone are behind it
+pub tags_left : (cut : FlacCut) (head : FlacHead) (fed : List ℕ) (n : ℕ) → IsStream (stream_of cut.head.head) → Cuts cut head fed n
+    → cut.ended ≡ true → unit (stream_of cut.head.head) cut.held.bytes ≡ Other → are_tags cut.held.bytes ≡ true
+    → (more : List ℕ) → IsRest cut.ended more → (length (demuxed head (fed ++ more)) ≡ n) × (broken_at head (fed ++ more) ≡ None)
+tags_left cut head fed n i c e o t more r =
+    let same : cut.head ≡ head = c.of_head in
+    let s = stream_of cut.head.head in
+    let at = cut.head.start + cut.used in
+    let g : Goes cut.head cut.used cut.count n cut.held.bytes fed more =
+    subst (λ (h : FlacHead). Goes h cut.used cut.count n cut.held.bytes fed more) (sym same) (c.goes more) in
+    let all : cut.held.bytes ++ more ≡ cut.held.bytes = ap (λ xs. cut.held.bytes ++ xs) (r e) ∙ append-nil cut.held.bytes in
+    subst (λ (h : FlacHead). (length (demuxed h (fed ++ more)) ≡ n) × (broken_at h (fed ++ more) ≡ None)) same (
+      none_length cut.head cut.used cut.count n cut.held.bytes fed more g (ap (packets_from s 0 at cut.count) all ∙ packets_none s at cut.count cut.held.bytes (inr o)),
+      g.place ∙ (ap (broken_from s 0 at) all ∙ broken_tags s at cut.held.bytes o t),
+    )
+
+-- no frame begins here and no tags, whatever follows, or a frame that isn't whole
+abbrev pub IsBroken : FlacCut → Type 0
+IsBroken cut =
+    ((unit (stream_of cut.head.head) cut.held.bytes ≡ Other) × ((more : List ℕ) → IsRest cut.ended more → are_tags (cut.held.bytes ++ more) ≡ false))
+    ⊎ ((cut.ended ≡ true) × (cut.held.bytes ≢ []) × (unit (stream_of cut.head.head) cut.held.bytes ≡ Wait))
+
+-- what waits isn't tags where the input ended, or may not become them
+pub never_tags : (cut : FlacCut) (bytes : List ℕ) → bytes ≡ cut.held.bytes → ((cut.ended ≡ true) × (are_tags bytes ≡ false)) ⊎ (may_be_tags bytes ≡ false)
+    → (more : List ℕ) → IsRest cut.ended more → are_tags (cut.held.bytes ++ more) ≡ false
+never_tags cut bytes is (inl h) more r =
+    ap are_tags (ap (λ xs. cut.held.bytes ++ xs) (r h.0) ∙ (append-nil cut.held.bytes ∙ sym is)) ∙ h.1
+never_tags cut bytes is (inr h) more r = ap (λ xs. are_tags (xs ++ more)) (sym is) ∙ no_tags bytes more h
+
+pub broken_left : (cut : FlacCut) (head : FlacHead) (fed : List ℕ) (n : ℕ) → IsStream (stream_of cut.head.head) → Cuts cut head fed n → IsBroken cut
     → (more : List ℕ) → IsRest cut.ended more → (length (demuxed head (fed ++ more)) ≡ n) × (broken_at head (fed ++ more) ≡ Some (cut.head.start + cut.used))
 broken_left cut head fed n i c how more r =
     let same : cut.head ≡ head = c.of_head in
     let s = stream_of cut.head.head in
-    let g : Goes cut.head cut.used cut.count n cut.held.bytes fed more = subst (λ (h : FlacHead). Goes h cut.used cut.count n cut.held.bytes fed more) (sym same) (c.goes more) in
+    let at = cut.head.start + cut.used in
+    let g : Goes cut.head cut.used cut.count n cut.held.bytes fed more =
+    subst (λ (h : FlacHead). Goes h cut.used cut.count n cut.held.bytes fed more) (sym same) (c.goes more) in
     let here = no_frame how in
-    subst (λ (h : FlacHead). (length (demuxed h (fed ++ more)) ≡ n) × (broken_at h (fed ++ more) ≡ Some (cut.head.start + cut.used))) same (
-      none_length cut.head cut.used cut.count n cut.held.bytes fed more g (packets_none s (cut.head.start + cut.used) cut.count (cut.held.bytes ++ more) here.1),
-      g.place ∙ broken_here s (cut.head.start + cut.used) (cut.held.bytes ++ more) here.0 here.1,
+    subst (λ (h : FlacHead). (length (demuxed h (fed ++ more)) ≡ n) × (broken_at h (fed ++ more) ≡ Some at)) same (
+      none_length cut.head cut.used cut.count n cut.held.bytes fed more g (packets_none s at cut.count (cut.held.bytes ++ more) here.1),
+      g.place ∙ here.2,
     )
   where
-    no_frame : (unit (stream_of cut.head.head) cut.held.bytes ≡ Other) ⊎ ((cut.ended ≡ true) × (cut.held.bytes ≢ []) × (unit (stream_of cut.head.head) cut.held.bytes ≡ Wait))
-        → (cut.held.bytes ++ more ≢ []) × ((unit (stream_of cut.head.head) (cut.held.bytes ++ more) ≡ Wait) ⊎ (unit (stream_of cut.head.head) (cut.held.bytes ++ more) ≡ Other))
-    no_frame (inl o) = let all = other-append (stream_of cut.head.head) i cut.held.bytes more o in (other_some (stream_of cut.head.head) i (cut.held.bytes ++ more) all, inr all)
+    no_frame : IsBroken cut
+        → (cut.held.bytes ++ more ≢ [])
+        × ((unit (stream_of cut.head.head) (cut.held.bytes ++ more) ≡ Wait) ⊎ (unit (stream_of cut.head.head) (cut.held.bytes ++ more) ≡ Other))
+        × (broken_from (stream_of cut.head.head) 0 (cut.head.start + cut.used) (cut.held.bytes ++ more) ≡ Some (cut.head.start + cut.used))
+    no_frame (inl o) =
+        let s = stream_of cut.head.head in
+        let all = other-append s i cut.held.bytes more o.0 in
+        let some = other_some s i (cut.held.bytes ++ more) all in
+        (some, inr all, broken_here s (cut.head.start + cut.used) (cut.held.bytes ++ more) some (inr (all, o.1 more r)))
     no_frame (inr h) =
+        let s = stream_of cut.head.head in
         let same : cut.held.bytes ++ more ≡ cut.held.bytes = ap (λ xs. cut.held.bytes ++ xs) (r h.0) ∙ append-nil cut.held.bytes in
-        (λ n. h.1 (sym same ∙ n), inl (ap (unit (stream_of cut.head.head)) same ∙ h.2))
+        let some : cut.held.bytes ++ more ≢ [] = λ n. h.1 (sym same ∙ n) in
+        let wait : unit s (cut.held.bytes ++ more) ≡ Wait = ap (unit s) same ∙ h.2 in
+        (some, inl wait, broken_here s (cut.head.start + cut.used) (cut.held.bytes ++ more) some (inl wait))
 
 -- ---- answers
 

@@ -18,8 +18,7 @@ use Rattle.ff_reader.proofs.ReadingLaws.{reading_at, reading_stays, reading_open
 use Rattle.ff_reader.proofs.WalkLaws.{walk-append}
 use Rattle.ff_flac_dec.specs.declared.head.FlacHead.{FlacHead}
 use Rattle.ff_flac_dec.specs.declared.head.HeadState.TheVariants.{Tags}
-use Rattle.ff_flac_dec.specs.declared.walk.FlacWalk.{FlacWalk}
-use Rattle.ff_flac_dec.specs.Heads.{Found, unit, grammar, IsKnown, reading, early, head, answered, answer, IsOpen, IsReached}
+use Rattle.ff_flac_dec.specs.Heads.{FlacWalk, Found, unit, grammar, IsKnown, reading, early, head, answered, answer, IsOpen, IsReached}
 use Rattle.ff_flac_dec.specs.Streams.{IsHead}
 use Rattle.ff_flac_dec.specs.Tags.{tag, is_named}
 use Rattle.ff_flac_dec.specs.laws.HeadLaws.{is_lawful}

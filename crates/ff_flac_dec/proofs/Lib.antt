@@ -10,3 +10,4 @@ mod ExactLemmas
 mod InfoLemmas
 pub mod CutLaws
 pub mod Longest
+pub mod TrailLaws

@@ -62,9 +62,14 @@ named-append (b ∷ bs) more zero e = step_named (tag (b ∷ bs)) (tag (b ∷ bs
 
 -- ---- bytes that make it so
 
-zeros : ℕ → List ℕ
+pub zeros : ℕ → List ℕ
 zeros zero = []
 zeros (suc n) = 0 ∷ zeros n
+
+pub length_zeros : (n : ℕ) → length (zeros n) ≡ n
+unfolding zeros
+length_zeros zero = refl
+length_zeros (suc n) = ap suc (length_zeros n)
 
 abbrev name : List ℕ
 name = codes "fLaC"
@@ -199,7 +204,7 @@ both_true : (x y : Bool) → x ≡ true → y ≡ true → (x && y) ≡ true
 both_true true y e f = f
 both_true false y e f = cc
 
-agrees_filled : (ws : List (Option ℕ)) (fs bs : List ℕ) → agrees ws fs ≡ true → agrees ws bs ≡ true → agrees ws (bs ++ drop (length bs) fs) ≡ true
+pub agrees_filled : (ws : List (Option ℕ)) (fs bs : List ℕ) → agrees ws fs ≡ true → agrees ws bs ≡ true → agrees ws (bs ++ drop (length bs) fs) ≡ true
 agrees_filled [] fs bs a e = refl
 agrees_filled (w ∷ ws) fs [] a e = a
 agrees_filled (w ∷ ws) [] (b ∷ bs) a e = ap (agrees (w ∷ ws)) (append-nil (b ∷ bs)) ∙ e

@@ -1,5 +1,6 @@
 -- What begins with a frame does so whatever follows, and the chain of frames step by step.
-use Rattle.std.proofs.Common.{◌≡◌, ◌≢◌, ℕ, zero, suc, ◌+◌, ◌-◌, ◌/◌, ◌≤◌, ◌⊎◌, inl, inr, List, [], ◌∷◌, ◌++◌, take, drop, length, Option, Some, refl, sym, ap, ◌∙◌, subst, arith, add-zero, append-nil, pos}
+use Rattle.std.proofs.Common.{◌≡◌, ◌≢◌, ℕ, zero, suc, ◌+◌, ◌-◌, ◌/◌, ◌≤◌, ◌⊎◌, inl, inr, true, false, cond, List, [], ◌∷◌, ◌++◌, take, drop, length, Option}
+use Rattle.std.proofs.Common.{Some, None, refl, sym, ap, ◌∙◌, subst, arith, add-zero, append-nil, pos}
 use Rattle.std.proofs.lemmas.List.{length-drop}
 use Rattle.ff_bits.specs.Bits.{bits}
 use Rattle.ff_bits.specs.Reading.{Answer, Done, More, Bad}
@@ -14,6 +15,7 @@ use Rattle.ff_flac_frame.proofs.Whole.{is_ok, is_not_yet}
 use Rattle.ff_flac_dec.specs.declared.front.Front.{Front}
 use Rattle.ff_flac_dec.specs.declared.front.Front.TheVariants.{Wait, Other, Whole}
 use Rattle.ff_flac_dec.specs.Packets.{front_as, unit, packets_from, broken_from}
+use Rattle.ff_flac_dec.specs.Trailers.{are_tags}
 use Rattle.ff_flac_dec.proofs.Shortest.{eight}
 
 -- ---- one unit
@@ -59,7 +61,8 @@ wait_more s bs e = by_answer (frame s (bits bs)) refl
     by_answer Bad h = let clash = sym (unit_as s bs Bad h) ∙ e in cc
 
 -- a frame has 8 bytes at least, and at most 65,535 sample frames
-pub begins_bounds : (s : FlacStream) → IsStream s → (bs : List ℕ) (f : Frame) (n len block : ℕ) → Begins s bs f n → n ≡ len → f.header.block ≡ block → (8 ≤ len) × (len ≤ length bs) × (1 ≤ block) × (block ≤ 65535)
+pub begins_bounds : (s : FlacStream) → IsStream s → (bs : List ℕ) (f : Frame) (n len block : ℕ) → Begins s bs f n → n ≡ len → f.header.block ≡ block
+    → (8 ≤ len) × (len ≤ length bs) × (1 ≤ block) × (block ≤ 65535)
 begins_bounds s i bs f n len block h l k =
     let some : 1 ≤ f.header.block = (in_shape s i bs f n h).header.some in
     let few : f.header.block ≤ 65535 = (in_shape s i bs f n h).header.few in
@@ -112,20 +115,24 @@ pub packets-drop : (s : FlacStream) (bs : List ℕ) (skip at n : ℕ) → packet
 packets-drop s [] zero at n = refl
 packets-drop s [] (suc skip) at n = refl
 packets-drop s (b ∷ bs) zero at n = ap (λ k. packets_from s 0 k n (b ∷ bs)) (sym (add-zero at))
-packets-drop s (b ∷ bs) (suc skip) at n = let e : at + 1 + skip ≡ at + suc skip = omega arith in packets-drop s bs skip (at + 1) n ∙ ap (λ k. packets_from s 0 k n (drop skip bs)) e
+packets-drop s (b ∷ bs) (suc skip) at n =
+    let e : at + 1 + skip ≡ at + suc skip = omega arith in packets-drop s bs skip (at + 1) n ∙ ap (λ k. packets_from s 0 k n (drop skip bs)) e
 
 pub broken-drop : (s : FlacStream) (bs : List ℕ) (skip at : ℕ) → broken_from s skip at bs ≡ broken_from s 0 (at + skip) (drop skip bs)
 broken-drop s [] zero at = refl
 broken-drop s [] (suc skip) at = refl
 broken-drop s (b ∷ bs) zero at = ap (λ k. broken_from s 0 k (b ∷ bs)) (sym (add-zero at))
-broken-drop s (b ∷ bs) (suc skip) at = let e : at + 1 + skip ≡ at + suc skip = omega arith in broken-drop s bs skip (at + 1) ∙ ap (λ k. broken_from s 0 k (drop skip bs)) e
+broken-drop s (b ∷ bs) (suc skip) at =
+    let e : at + 1 + skip ≡ at + suc skip = omega arith in broken-drop s bs skip (at + 1) ∙ ap (λ k. broken_from s 0 k (drop skip bs)) e
 
 -- what follows from what the bytes begin with
 abbrev pub packets_step : Front → FlacStream → ℕ → ℕ → ℕ → List ℕ → List Pkt
-packets_step front s at n b bs = elim front [ Wait ↦ [] | Other ↦ [] | Whole len block ↦ packet_at (pos n) (pos block) at (take len (b ∷ bs)) ∷ packets_from s (len - 1) (at + 1) (n + block) bs ]
+packets_step front s at n b bs =
+    elim front [ Wait ↦ [] | Other ↦ [] | Whole len block ↦ packet_at (pos n) (pos block) at (take len (b ∷ bs)) ∷ packets_from s (len - 1) (at + 1) (n + block) bs ]
 
-abbrev pub broken_step : Front → FlacStream → ℕ → List ℕ → Option ℕ
-broken_step front s at bs = elim front [ Wait ↦ Some at | Other ↦ Some at | Whole len block ↦ broken_from s (len - 1) (at + 1) bs ]
+abbrev pub broken_step : Front → FlacStream → ℕ → ℕ → List ℕ → Option ℕ
+broken_step front s at b bs =
+    elim front [ Wait ↦ Some at | Other ↦ cond (are_tags (b ∷ bs)) None (Some at) | Whole len block ↦ broken_from s (len - 1) (at + 1) bs ]
 
 -- a frame, and then the others
 pub packets_whole : (s : FlacStream) → IsStream s → (at n len block : ℕ) (bs : List ℕ) → unit s bs ≡ Whole len block
@@ -136,16 +143,19 @@ packets_whole s i at n len block (b ∷ bs) e =
     let one : suc (len - 1) ≡ len = omega (arith, w.0) in
     let place : at + 1 + (len - 1) ≡ at + len = omega (arith, w.0) in
     let tail : packets_from s (len - 1) (at + 1) (n + block) bs ≡ packets_from s 0 (at + len) (n + block) (drop len (b ∷ bs)) =
-    packets-drop s bs (len - 1) (at + 1) (n + block) ∙ (ap (λ p. packets_from s 0 p (n + block) (drop (len - 1) bs)) place ∙ ap (λ j. packets_from s 0 (at + len) (n + block) (drop j (b ∷ bs))) one) in
+    packets-drop s bs (len - 1) (at + 1) (n + block)
+    ∙ (ap (λ p. packets_from s 0 p (n + block) (drop (len - 1) bs)) place ∙ ap (λ j. packets_from s 0 (at + len) (n + block) (drop j (b ∷ bs))) one) in
     ap (λ u. packets_step u s at n b bs) e ∙ ap (λ ps. packet_at (pos n) (pos block) at (take len (b ∷ bs)) ∷ ps) tail
 
-pub broken_whole : (s : FlacStream) → IsStream s → (at len block : ℕ) (bs : List ℕ) → unit s bs ≡ Whole len block → broken_from s 0 at bs ≡ broken_from s 0 (at + len) (drop len bs)
+pub broken_whole : (s : FlacStream) → IsStream s → (at len block : ℕ) (bs : List ℕ) → unit s bs ≡ Whole len block
+    → broken_from s 0 at bs ≡ broken_from s 0 (at + len) (drop len bs)
 broken_whole s i at len block [] e = let w = whole_at s i [] len block e in absurd (omega (arith, w.0, w.1))
 broken_whole s i at len block (b ∷ bs) e =
     let w = whole_at s i (b ∷ bs) len block e in
     let one : suc (len - 1) ≡ len = omega (arith, w.0) in
     let place : at + 1 + (len - 1) ≡ at + len = omega (arith, w.0) in
-    ap (λ u. broken_step u s at bs) e ∙ (broken-drop s bs (len - 1) (at + 1) ∙ (ap (λ p. broken_from s 0 p (drop (len - 1) bs)) place ∙ ap (λ j. broken_from s 0 (at + len) (drop j (b ∷ bs))) one))
+    ap (λ u. broken_step u s at b bs) e
+    ∙ (broken-drop s bs (len - 1) (at + 1) ∙ (ap (λ p. broken_from s 0 p (drop (len - 1) bs)) place ∙ ap (λ j. broken_from s 0 (at + len) (drop j (b ∷ bs))) one))
 
 -- no frame, or none that is whole
 pub packets_none : (s : FlacStream) (at n : ℕ) (bs : List ℕ) → (unit s bs ≡ Wait) ⊎ (unit s bs ≡ Other) → packets_from s 0 at n bs ≡ []
@@ -153,7 +163,17 @@ packets_none s at n [] h = refl
 packets_none s at n (b ∷ bs) (inl e) = ap (λ u. packets_step u s at n b bs) e
 packets_none s at n (b ∷ bs) (inr e) = ap (λ u. packets_step u s at n b bs) e
 
-pub broken_here : (s : FlacStream) (at : ℕ) (bs : List ℕ) → bs ≢ [] → (unit s bs ≡ Wait) ⊎ (unit s bs ≡ Other) → broken_from s 0 at bs ≡ Some at
+-- no frame: the end behind tags alone, or damage
+pub broken_other : (s : FlacStream) (at : ℕ) (bs : List ℕ) → bs ≢ [] → unit s bs ≡ Other → broken_from s 0 at bs ≡ cond (are_tags bs) None (Some at)
+broken_other s at [] some e = absurd (some refl)
+broken_other s at (b ∷ bs) some e = ap (λ u. broken_step u s at b bs) e
+
+pub broken_here : (s : FlacStream) (at : ℕ) (bs : List ℕ) → bs ≢ [] → (unit s bs ≡ Wait) ⊎ ((unit s bs ≡ Other) × (are_tags bs ≡ false))
+    → broken_from s 0 at bs ≡ Some at
 broken_here s at [] some h = absurd (some refl)
-broken_here s at (b ∷ bs) some (inl e) = ap (λ u. broken_step u s at bs) e
-broken_here s at (b ∷ bs) some (inr e) = ap (λ u. broken_step u s at bs) e
+broken_here s at (b ∷ bs) some (inl e) = ap (λ u. broken_step u s at b bs) e
+broken_here s at (b ∷ bs) some (inr e) = ap (λ u. broken_step u s at b bs) e.0 ∙ ap (λ t. cond t None (Some at)) e.1
+
+pub broken_tags : (s : FlacStream) (at : ℕ) (bs : List ℕ) → unit s bs ≡ Other → are_tags bs ≡ true → broken_from s 0 at bs ≡ None
+broken_tags s at [] e t = refl
+broken_tags s at (b ∷ bs) e t = ap (λ u. broken_step u s at b bs) e ∙ ap (λ t. cond t None (Some at)) t

@@ -9,7 +9,9 @@ use Rattle.ff_reader.specs.declared.fault.HeadFault.TheVariants.{Damaged, Unsupp
 use Rattle.ff_flac_dec.specs.declared.head.FlacHead.{FlacHead}
 use Rattle.ff_flac_dec.specs.declared.head.HeadState.{HeadState}
 use Rattle.ff_flac_dec.specs.declared.head.HeadState.TheVariants.{Tags, Blocks}
-use Rattle.ff_flac_dec.specs.declared.walk.FlacWalk.{FlacWalk}
+use Rattle.ff_reader.specs.declared.walk.HeadWalk.{HeadWalk}
+use Rattle.ff_flac_dec.specs.declared.walk.Flac.{Flac}
+use Rattle.ff_flac_dec.specs.declared.walk.TaggedWalk.{TaggedWalk}
 use Rattle.ff_flac_dec.specs.Streams.{stream_of, IsFlacHead}
 use Rattle.ff_flac_dec.specs.Blocks.{BlockStep, block}
 use Rattle.ff_flac_dec.specs.Tags.{tag, is_named}
@@ -58,6 +60,9 @@ answer whole bs = heads.answer reading early whole bs
 -- some bytes after these decide otherwise than others
 abbrev pub IsOpen : List ℕ → Type 0
 IsOpen bs = heads.IsOpen head bs
+
+abbrev pub FlacWalk : Type 0
+FlacWalk = TaggedWalk (HeadWalk Flac FlacHead HeadState)
 
 -- Of the bytes a front was read, within the limit, up to where the next tag or block begins.
 abbrev pub IsReached : FlacWalk → List ℕ → Type 0

@@ -3,6 +3,7 @@ pub mod Channels
 pub mod Streams
 pub mod Blocks
 pub mod Tags
+pub mod Trailers
 pub mod Heads
 pub mod Packets
 pub mod Cuts

@@ -1,5 +1,5 @@
 -- The frames behind the head, one after the other (RFC 9639, section 9).
-use Rattle.std.specs.Prelude.{ℕ, zero, suc, ◌+◌, ◌-◌, ◌/◌, pos, List, [], ◌∷◌, take, length, Option, Some, None}
+use Rattle.std.specs.Prelude.{ℕ, zero, suc, ◌+◌, ◌-◌, ◌/◌, if◌then◌else◌, pos, List, [], ◌∷◌, take, length, Option, Some, None}
 use Rattle.ff_bits.specs.Bits.{bits}
 use Rattle.ff_bits.specs.Reading.{Answer, Done, More, Bad}
 use Rattle.ff_frame.specs.Packet.{packet_at}
@@ -10,6 +10,7 @@ use Rattle.ff_flac_dec.specs.declared.front.Front.{Front}
 use Rattle.ff_flac_dec.specs.declared.front.Front.TheVariants.{Wait, Other, Whole}
 use Rattle.ff_flac_dec.specs.declared.head.FlacHead.{FlacHead}
 use Rattle.ff_flac_dec.specs.Streams.{stream_of}
+use Rattle.ff_flac_dec.specs.Trailers.{are_tags}
 
 -- of so many bytes, a frame with what it leaves; or some bytes more make one, or none do
 abbrev pub front_as : ℕ → Answer Frame → Front
@@ -28,12 +29,13 @@ packets_from s (suc skip) at first (b ∷ bs) = packets_from s skip (at + 1) fir
 packets_from s zero at first (b ∷ bs) =
     elim (unit s (b ∷ bs)) [ Wait ↦ [] | Other ↦ [] | Whole len block ↦ packet_at (pos first) (pos block) at (take len (b ∷ bs)) ∷ packets_from s (len - 1) (at + 1) (first + block) bs ]
 
--- the offset at which no frame begins, or one begins that is not whole; None where the last frame ends with the input
+-- the offset at which no frame begins, or one begins that is not whole; None where the last frame ends with the input, or tags alone are
+-- behind it
 abbrev pub broken_from : FlacStream → ℕ → ℕ → List ℕ → Option ℕ
 broken_from s skip at [] = None
 broken_from s (suc skip) at (b ∷ bs) = broken_from s skip (at + 1) bs
 broken_from s zero at (b ∷ bs) =
-    elim (unit s (b ∷ bs)) [ Wait ↦ Some at | Other ↦ Some at | Whole len block ↦ broken_from s (len - 1) (at + 1) bs ]
+    elim (unit s (b ∷ bs)) [ Wait ↦ Some at | Other ↦ if are_tags (b ∷ bs) then None else Some at | Whole len block ↦ broken_from s (len - 1) (at + 1) bs ]
 
 -- the packets in what follows the head, and where no further frame begins
 abbrev pub demuxed : FlacHead → List ℕ → List Pkt

@@ -5,4 +5,5 @@ pub mod Info
 pub mod Joins
 pub mod SoundLaws
 pub mod TagLaws
+pub mod Trails
 pub mod Units

@@ -9,10 +9,12 @@ ghost use Rattle.ff_flac_dec.specs.declared.head.FlacHead.{FlacHead};
 ghost use Rattle.ff_flac_dec.specs.declared.front.Front.TheVariants.{Wait};
 ghost use Rattle.ff_flac_dec.specs.Streams.{stream_of, IsHead};
 ghost use Rattle.ff_flac_dec.specs.Packets.{unit, demuxed, broken_at};
+ghost use Rattle.ff_flac_dec.specs.laws.Trails.{MayGoOn};
 
 use crate::front::{Front, front_sent};
 use crate::hand_over::FrameSender;
 use crate::head::FlacHead;
+use crate::trailer::behind_frames;
 use ff_frame::{Bytes, Cut, Pkt, StreamHead};
 use ff_lists::front;
 use ff_reader::{Held, PacketCut};
@@ -131,9 +133,9 @@ impl PacketCut for FlacCut {
             → Cuts self.new head fed (n + 1) × ((more : List ℕ) → slice_get (demuxed head (fed ++ more)) n ≡ Some p) }
         ensures ends { result ≡ Ok Cut.End → GaveAll flac_cutter self.old None }
         ensures breaks { (offset : ℕ) → result ≡ Ok (Cut.Broken offset) → GaveAll flac_cutter self.old (Some offset) }
-        // Not yet only where the input goes on, and what waits may be the beginning of a frame and is no whole one;
-        ensures not_yet { result ≡ Ok Cut.NotYet → (has_ended self.old ≡ false) × (unit (stream_of (head_of self.old).head) (waiting_in self.old) ≡ Wait) }
-        // and there, unless memory runs out.
+        // Not yet only where the input goes on, and what waits may be the beginning of a frame and is no whole one, or of tags;
+        ensures not_yet { result ≡ Ok Cut.NotYet → (has_ended self.old ≡ false) × MayGoOn (stream_of (head_of self.old).head) (waiting_in self.old) }
+        // and in a frame, unless memory runs out.
         ensures waits { has_ended self.old ≡ false → unit (stream_of (head_of self.old).head) (waiting_in self.old) ≡ Wait → IfOk result (λ cut. cut ≡ Cut.NotYet) }
         ensures err { OnErr result (self.new ≡ self.old) }
         ensures ended { has_ended self.new ≡ has_ended self.old }
@@ -172,7 +174,7 @@ impl PacketCut for FlacCut {
                 self.count += u64::from(block);
                 Ok(Cut::Pkt(p))
             }
-            Front::Other => Ok(Cut::Broken { offset }),
+            Front::Other => Ok(behind_frames(self.held.as_slice(), self.ended, offset)),
             Front::Wait => Ok(self.held.unfinished(self.ended, offset)),
         }
     }

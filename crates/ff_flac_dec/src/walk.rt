@@ -50,12 +50,15 @@ impl HeadFormat for Flac {
     ghost keeps = { is_kept };
 }
 
-/// How far a head was read: where the next tag or metadata block begins, and the stream's head, which the first block says.
+/// A walk over the tags and metadata blocks of a head.
 #[derive(Drop)]
-pub struct FlacWalk {
+pub struct TaggedWalk<W> {
     /// Over tags and metadata blocks.
-    pub units: HeadWalk<Flac>,
+    pub units: W,
 }
+
+/// How far a head was read: where the next tag or metadata block begins, and the stream's head, which the first block says.
+pub type FlacWalk = TaggedWalk<HeadWalk<Flac>>;
 
 fn is_open(found: &Result<FlacHead, HeadEnd>) -> bool
     ensures { result ≡ true ↔ found.now ≡ Err HeadEnd.NotYet }
@@ -75,12 +78,12 @@ fn ended(bytes: &[u8]) -> HeadEnd
     }
 }
 
-impl FlacWalk {
+impl TaggedWalk<HeadWalk<Flac>> {
     /// Before anything was read.
     pub fn new() -> FlacWalk
         ensures { IsReached result [] }
     {
-        FlacWalk {
+        TaggedWalk {
             units: HeadWalk::new(),
         }
     }

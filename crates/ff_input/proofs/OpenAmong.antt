@@ -1,5 +1,5 @@
 -- A format among others: what its own cut leaves open, the cut of any format does.
-use Rattle.std.proofs.Common.{◌≡◌, ℕ, ◌++◌, List, sym, ap, ◌∙◌, subst}
+use Rattle.std.proofs.Common.{inl, inr, ℕ, ◌++◌, List, sym, ap, ◌∙◌, subst}
 use Rattle.std.specs.Prelude.{slice_get}
 use Rattle.ff_frame.specs.declared.packet.Pkt.{Pkt}
 use Rattle.ff_reader.specs.Cutters.{Cutter}
@@ -10,7 +10,14 @@ module _ {H C K D : Type 0} {own : Cutter H C} {all : Cutter K D} {head_in : H �
   undecided_among : (h : H) (fed : List ℕ) (n : ℕ) → IsUndecided own h fed n → IsUndecided all (head_in h) fed n
   undecided_among h fed n u = (
     u.0,
-    λ same. u.1 (ap (λ (ps : List Pkt). slice_get ps n) (sym (a.demuxed h (fed ++ u.0))) ∙ (same ∙ ap (λ (ps : List Pkt). slice_get ps n) (a.demuxed h fed))),
+    elim u.1 [
+      | inl other ↦ inl (λ same. other (ap (λ (ps : List Pkt). slice_get ps n) (sym (a.demuxed h (fed ++ u.0)))
+          ∙ (same ∙ ap (λ (ps : List Pkt). slice_get ps n) (a.demuxed h fed))))
+      | inr ends ↦ inr (
+        ap (λ (ps : List Pkt). slice_get ps n) (a.demuxed h fed) ∙ ends.0,
+        λ same. ends.1 (sym (a.broken_at h (fed ++ u.0)) ∙ (same ∙ a.broken_at h fed)),
+      )
+    ],
   )
 
   pub open_among : ((h : H) → all.IsHead (head_in h) → own.IsHead h) → (cut : C) → LeavesOpen own cut → LeavesOpen all (cut_in cut)

@@ -1,5 +1,6 @@
 -- Where a cut of PCM wants more, its next packet is open: with the rest of a sample frame more it has a sample frame more.
-use Rattle.std.proofs.Common.{◌≡◌, ◌≢◌, ℕ, zero, suc, ◌+◌, ◌-◌, ◌*◌, ◌/◌, ◌<◌, ◌≤◌, ◌⊎◌, inl, inr, min, Bool, true, false, List, ◌++◌, length, replicate, Option, Some, None, pos, refl, sym, ap, ◌∙◌, subst, arith, length-append}
+use Rattle.std.proofs.Common.{◌≡◌, ◌≢◌, ℕ, zero, suc, ◌+◌, ◌-◌, ◌*◌, ◌/◌, ◌<◌, ◌≤◌, ◌⊎◌, inl, inr, min, Bool, true, false, List, ◌++◌, length, replicate}
+use Rattle.std.proofs.Common.{Option, Some, None, pos, refl, sym, ap, ◌∙◌, subst, arith, length-append}
 use Rattle.std.specs.Prelude.{slice_get}
 use Rattle.std.specs.Option.{option_map}
 use Rattle.std.proofs.lemmas.Int.{ints}
@@ -105,7 +106,8 @@ whole_of : (len : Option ℕ) (block l : ℕ) → option_map (λ n. n / block * 
 whole_of None block l e = cc
 whole_of (Some n) block l e = (n / block, let same : n / block * block ≡ l = cc in sym same)
 
-goes_on : (head : PcmHead) (cut : PcmCut) (fed : List ℕ) (n : ℕ) → Cuts cut head fed n → has_ended cut ≡ false → (ReachesLen (whole_len head) fed → ⊥) → is_done cut ≡ false
+goes_on : (head : PcmHead) (cut : PcmCut) (fed : List ℕ) (n : ℕ) → Cuts cut head fed n → has_ended cut ≡ false → (ReachesLen (whole_len head) fed → ⊥)
+    → is_done cut ≡ false
 goes_on head cut fed n c going undecided = pick (is_done cut) refl
   where
     over : IsBodyEnded (whole_len head) (has_ended cut) fed → is_done cut ≡ false
@@ -116,7 +118,8 @@ goes_on head cut fed n c going undecided = pick (is_done cut) refl
     pick false e = e
     pick true e = over (c.over e).all
 
-pub pcm_open : (head : PcmHead) (cut : PcmCut) (fed : List ℕ) (n : ℕ) → IsHead head → Cuts cut head fed n → has_ended cut ≡ false → (ReachesLen (whole_len head) fed → ⊥)
+pub pcm_open : (head : PcmHead) (cut : PcmCut) (fed : List ℕ) (n : ℕ) → IsHead head → Cuts cut head fed n → has_ended cut ≡ false
+    → (ReachesLen (whole_len head) fed → ⊥)
     → length fed < 1024 * (n + 1) * block_of head.head → IsUndecided pcm_cutter head fed n
 pcm_open head cut fed n is c going undecided high =
     let g = c.goes (goes_on head cut fed n c going undecided) in
@@ -124,4 +127,6 @@ pcm_open head cut fed n is c going undecided high =
     let used = ap (λ (k : ℕ). k * block_of head.head) g.at in
     let inside = subst (λ (b : ℕ). cut.first * b ≤ length (body (whole_len head) fed)) c.of_block g.inside in
     omega (arith, used, inside, body_length (whole_len head) fed) in
-    open_at head.start (block_of head.head) (some_block head.head is.stream) (whole_len head) fed n (whole_of head.len (block_of head.head)) undecided low high
+    let wanted =
+    open_at head.start (block_of head.head) (some_block head.head is.stream) (whole_len head) fed n (whole_of head.len (block_of head.head)) undecided low high in
+    (wanted.0, inl wanted.1)

@@ -28,4 +28,4 @@ y4m_open head used n held fed wait goes =
     ap (λ (xs : List ℕ). slice_get (demuxed head xs) n) (sym (append-nil fed))
     ∙ (ap (λ (ps : List Pkt). slice_get ps n) (h.packets ∙ ap (λ (ps : List Pkt). h.given ++ ps) (ap (packets_from size 0 at n) (append-nil held) ∙ packets_none size at n held (inl wait)))
     ∙ get_past h.given n h.number) in
-    (more, λ same. let clash = sym some ∙ (same ∙ none) in cc)
+    (more, inl (λ same. let clash = sym some ∙ (same ∙ none) in cc))

@@ -7,7 +7,7 @@ use Rattle.ff_reader.specs.Heads.{Found, answered, IsOpen}
 use Rattle.ff_reader.specs.Walks.{Grammar, head_limit, Reached}
 use Rattle.ff_reader.specs.declared.walk.HeadWalk.{HeadWalk}
 use Rattle.ff_flac_dec.specs.Heads as flac
-use Rattle.ff_flac_dec.specs.declared.walk.FlacWalk.{FlacWalk}
+use Rattle.ff_flac_dec.specs.Heads.{FlacWalk}
 use Rattle.ff_wav.specs.Heads as wav
 use Rattle.ff_wav.specs.Heads.{WavWalk}
 use Rattle.ff_input.specs.declared.one_of.OneOf.{OneOf}

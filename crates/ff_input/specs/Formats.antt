@@ -25,7 +25,7 @@ use Rattle.ff_flac_dec.specs.declared.cut.FlacCut.{FlacCut}
 use Rattle.ff_flac_dec.specs.Cuts.{flac_cutter}
 use Rattle.ff_flac_dec.specs.Heads as flac
 use Rattle.ff_flac_dec.specs.Tags as flac_tags
-use Rattle.ff_flac_dec.specs.declared.walk.FlacWalk.{FlacWalk}
+use Rattle.ff_flac_dec.specs.Heads.{FlacWalk}
 use Rattle.ff_input.specs.declared.formats.Y4mWalk.{Y4mWalk}
 use Rattle.ff_input.specs.declared.one_of.OneOf.{OneOf}
 use Rattle.ff_input.specs.declared.one_of.OneOf.TheVariants.{First, Other}

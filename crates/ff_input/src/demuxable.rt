@@ -15,7 +15,7 @@ use std::alloc::AllocError;
 pub const PIECE: usize = 65536;
 
 /// A format whose inputs can be demuxed. The packets of each are in shape for their lane. More is read only where
-/// what was read leaves the next packet undecided.
+/// what was read leaves the next packet undecided, or how the packets end.
 pub trait Demuxable: PacketCut {
     ghost use Rattle.ff_input.specs.laws.Owed.{Owes};
     ghost use Rattle.ff_input.specs.laws.Reading.{LeavesOpen};
@@ -31,7 +31,7 @@ pub trait Demuxable: PacketCut {
     /// The next packet, as `pull` gives it. What was given so far ends at or before byte 2^50.
     fn next_cut(&mut self) -> Result<Cut, AllocError>
         requires { Self.is.place self.old ≤ 2 ^ 50 }
-        // NotYet comes only where what was fed leaves the next packet undecided.
+        // NotYet comes only where what was fed leaves the next packet undecided, or how the packets end.
         ensures undecided { result ≡ Ok Cut.NotYet → LeavesOpen Self.is self.old }
         ensures gives { (p : Pkt) → result ≡ Ok (Cut.Pkt p) → GivesPacket Self.is self.old self.new p }
         ensures ends { result ≡ Ok Cut.End → GaveAll Self.is self.old None }

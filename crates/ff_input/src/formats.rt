@@ -9,7 +9,7 @@ use crate::head_reader::HeadReader;
 use crate::one_of::OneOf;
 use crate::walk::InputWalk;
 use ff_au::{Au, AuCut, AuHead, AuWalk};
-use ff_flac_dec::{Flac, FlacCut, FlacHead, FlacWalk};
+use ff_flac_dec::{Flac, FlacCut, FlacHead, FlacWalk, TaggedWalk};
 use ff_format::FileFormat;
 use ff_frame::HeadEnd;
 use ff_reader::{HeadFormat, HeadWalk};
@@ -108,7 +108,7 @@ impl HeadReader for BothForms<HeadWalk<RiffWave>, HeadWalk<Rf64Wave>> {
     }
 }
 
-impl HeadReader for FlacWalk {
+impl HeadReader for TaggedWalk<HeadWalk<Flac>> {
     ghost use Rattle.ff_flac_dec.specs.Heads.{head as flac_head};
     ghost use Rattle.ff_flac_dec.specs.Streams.{IsHead as IsFlacHead};
     ghost use Rattle.ff_input.specs.Answers.{flac_reached};

@@ -206,9 +206,9 @@ impl<S: Source + Drop, C: Demuxable + Drop> Machine for Demux<S, C> {
         Err(Refused { item })
     }
 
-    /// It reads only where what was read leaves the next packet undecided, and there a piece at a time. So after the last packet that
-    /// it gave it has read fewer bytes than the last piece: of any format but FLAC fewer than 65,536. Of FLAC a piece has as many
-    /// bytes as waited before it, where these are more.
+    /// It reads only where what was read leaves the next packet undecided, or how the packets end, and there a piece at a time. So
+    /// after a packet that it gave it has read fewer bytes than the last piece: of any format but FLAC fewer than 65,536. Of FLAC a
+    /// piece has as many bytes as waited before it, where these are more.
     fn pull(&mut self, _port: usize) -> Result<Option<Item>, AllocError>
         requires { _port < 1 }
         ensures shape { IsSameShape (demux_view S.left S.name S.faults self.old) (demux_view S.left S.name S.faults self.new) }

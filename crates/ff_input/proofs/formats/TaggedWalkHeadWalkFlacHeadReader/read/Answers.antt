@@ -1,5 +1,5 @@
 use Rattle.ff_flac_dec.proofs.HeadLemmas.{told_not_yet, told_decided, told_stays, told_sound}
-use Rattle.ff_input.proofs.formats.FlacWalkHeadReader.read.Goals as goal
+use Rattle.ff_input.proofs.formats.TaggedWalkHeadWalkFlacHeadReader.read.Goals as goal
 
 pub returns-clause-answers : goal.returns-clause-answers
 returns-clause-answers c = λ h.

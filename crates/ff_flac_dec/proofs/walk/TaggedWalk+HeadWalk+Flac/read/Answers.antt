@@ -1,7 +1,7 @@
 use Rattle.std.proofs.Common.{◌∙◌, sym}
 use Rattle.ff_flac_dec.proofs.HeadLemmas.{exact_on, exact_found, exact_over}
-use Rattle.ff_flac_dec.proofs.walk.FlacWalk.read.Goals as goal
-use Rattle.ff_flac_dec.proofs.walk.FlacWalk.read.Goals.{else-whole-via-then-whole+else-is_open, else-whole-via-else-whole}
+use Rattle.ff_flac_dec.proofs.walk.TaggedWalk+HeadWalk+Flac.read.Goals as goal
+use Rattle.ff_flac_dec.proofs.walk.TaggedWalk+HeadWalk+Flac.read.Goals.{else-whole-via-then-whole+else-is_open, else-whole-via-else-whole}
 
 pub returns-then-is_open-clause-exact : goal.returns-then-is_open-clause-exact
 returns-then-is_open-clause-exact c = λ h.
