@@ -1,5 +1,5 @@
 -- Streams by port, and what is due.
-use Rattle.std.proofs.Common.{◌≡◌, ◌≢◌, ℕ, zero, suc, ◌<◌, ◌≤◌, ◌==◌, ◌⊎◌, inl, inr, Bool, true, false, cond, List, [], ◌∷◌, map, length, take, nat_le, refl, ap, sym, subst, arith, Option, None, Some}
+use Rattle.std.proofs.Common.{◌≡◌, ◌≢◌, ℕ, zero, suc, ◌<◌, ◌≤◌, ◌==◌, ◌⊎◌, inl, inr, Bool, true, false, cond, List, [], ◌∷◌, map, length, take, nat_le, refl, ap, sym, ◌∙◌, subst, arith, Option, None, Some, is_some}
 use Rattle.std.proofs.lemmas.Bool.Decides.{nat_tests}
 use mathlib.Core.List.{IsPrefix}
 use Rattle.ff_stream.specs.declared.item.Item.{Item}
@@ -10,7 +10,7 @@ use Rattle.ff_stream.specs.laws.Order.{below_self, below_both, nothing_below, wi
 use Rattle.ff_stream.specs.Ports.{nothing, stream_at, AllBelow}
 use Rattle.ff_stream.specs.laws.LaneLaws.{valid_below, valid_front}
 use Rattle.ff_net.specs.Ways.{Flow, lane_at, IsValidOn, AreValid, with_item_at}
-use Rattle.ff_net.specs.Pasts.{Past, due, cut_to, fed}
+use Rattle.ff_net.specs.Pasts.{Past, Units, units_of, due, due_by, cut_to, fed}
 
 pub stream_at-with_item_same : (ss : List Flow) (p : ℕ) (x : Item) → stream_at (with_item_at ss p x) p ≡ with_item (stream_at ss p) x
 stream_at-with_item_same [] zero x = refl
@@ -70,24 +70,39 @@ cut_below n s = pick (nat_le n (length s.items)) refl
         let with_items : List Item → Flow = λ xs. record { items = xs; mark = s.mark } in
         inl (ap with_items (take_whole n s.items le))
 
-pub all_cut_below : (n : ℕ) (ss : List Flow) → AllBelow (map (cut_to n) ss) ss
-all_cut_below n [] p = below_self nothing
-all_cut_below n (s ∷ ss) zero = cut_below n s
-all_cut_below n (s ∷ ss) (suc p) = all_cut_below n ss p
+-- the units of a stream, as far as so many, are of it
+pub units_below : (s : Flow) (n : ℕ) (ss : List Flow) → AllBelow ((units_of s).upto n) (s ∷ ss)
+units_below s n ss zero = cut_below n s
+units_below s n ss (suc p) = nothing_below (stream_at ss p)
 
-due_at : (source : Bool) (n : ℕ) (ss : List Flow) → AllBelow (cond source (map (cut_to n) ss) ss) ss
-due_at true n ss = all_cut_below n ss
-due_at false n ss = λ p. below_self (stream_at ss p)
+-- what a source may give at any time is of what it means
+abbrev pub AreUnits : Past → Type 0
+AreUnits past = (units : Units) → past.task.source ≡ Some units → (n : ℕ) → AllBelow (units.upto n) (past.task.means past.got)
 
-pub due_below : (past : Past) → AllBelow (due past) (past.task.means past.got)
-due_below past = due_at past.task.source (length past.allowed) (past.task.means past.got)
+-- what is no source has none
+pub no_units : (past : Past) → past.task.source ≡ None → AreUnits past
+no_units past none units e n = (let clash : None ≡ Some units = sym none ∙ e in cc)
 
-pub given_below : (past : Past) → AllBelow past.gave (due past) → AllBelow past.gave (past.task.means past.got)
-given_below past g = all_trans past.gave (due past) (past.task.means past.got) g (due_below past)
+pub is_none : (o : Option Units) → o ≡ None → is_some o ≡ false
+is_none o e = ap (λ (p : Option Units). is_some p) e
+
+pub none_is : (o : Option Units) → is_some o ≡ false → o ≡ None
+none_is None e = refl
+none_is (Some units) e = cc
+
+pub due_below : (past : Past) → AreUnits past → AllBelow (due past) (past.task.means past.got)
+due_below past are = at past.task.source refl
+  where
+    at : (o : Option Units) → past.task.source ≡ o → AllBelow (due_by o (length past.allowed) (past.task.means past.got)) (past.task.means past.got)
+    at None e = λ p. below_self (stream_at (past.task.means past.got) p)
+    at (Some units) e = are units e (length past.allowed)
+
+pub given_below : (past : Past) → AreUnits past → AllBelow past.gave (due past) → AllBelow past.gave (past.task.means past.got)
+given_below past are g = all_trans past.gave (due past) (past.task.means past.got) g (due_below past are)
 
 -- of no source all that is meant is due
-pub due_meant : (past : Past) → past.task.source ≡ false → due past ≡ past.task.means past.got
-due_meant past e = ap (λ (b : Bool). cond b (map (cut_to (length past.allowed)) (past.task.means past.got)) (past.task.means past.got)) e
+pub due_meant : (past : Past) → past.task.source ≡ None → due past ≡ past.task.means past.got
+due_meant past e = ap (λ (o : Option Units). due_by o (length past.allowed) (past.task.means past.got)) e
 
 pub due_same : (past since : Past) → since.task ≡ past.task → since.got ≡ past.got → since.allowed ≡ past.allowed → due since ≡ due past
 due_same past since t g a = cc (t, g, a)

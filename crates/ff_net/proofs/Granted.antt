@@ -4,73 +4,26 @@ use mathlib.Core.List.{IsPrefix}
 use Rattle.ff_stream.specs.declared.item.Item.{Item}
 use Rattle.ff_stream.specs.declared.item.Lane.{Lane}
 use Rattle.ff_stream.specs.Stream.{Mark, still_open, whole, LiesBelow, opened, opened_mark}
-use Rattle.ff_stream.specs.laws.Order.{below_trans, closed_below, stream_at-opened}
+use Rattle.ff_stream.specs.laws.Order.{below_self, below_trans, closed_below, opened_below, stream_at-opened}
 use Rattle.ff_stream.specs.Ports.{nothing, stream_at, AllBelow, IsClosed}
 use Rattle.ff_net.specs.declared.ports.InPort.{InPort}
 use Rattle.ff_net.specs.declared.node.Node.{Node}
 use Rattle.ff_net.specs.Ways.{Flow, lane_at, IsValidOn, AreValid}
-use Rattle.ff_net.specs.Pasts.{Past, Task, IsIn, cut_to}
+use Rattle.ff_net.specs.Pasts.{Past, Task, Units, IsIn, due_by}
 use Rattle.ff_net.specs.laws.Laws.{Laws}
 use Rattle.ff_net.specs.laws.Ports.{in_at, in_wires}
 use Rattle.ff_net.specs.laws.Worlds.{Wire}
 use Rattle.ff_net.specs.laws.Nodes.{NodeStands, IsSound, IsDone, HaveLanes, in_wires_of, out_wires_of}
 use Rattle.ff_net.specs.Nets.{Part, IsUpward, solve}
-use Rattle.ff_net.specs.laws.Serial.{Moment, granted_part_of, granted_parts_of, part_of, parts_of, tried_by}
+use Rattle.ff_net.specs.laws.Serial.{Moment, granted_part_of, granted_parts_of, part_of, parts_of}
 use Rattle.ff_net.specs.laws.Views.{View}
-use Rattle.ff_net.proofs.Flows.{all_cut_below, given_below, valid_on_below}
+use Rattle.ff_net.proofs.Flows.{given_below, all_valid_below}
 use Rattle.ff_net.proofs.Induction.{Placed, parts, IsInputOf, IsLawful, AreLawful, AreFaultless, IsNet, exact_solve}
 use Rattle.ff_net.proofs.Whole.{at_port, bool_sound, lawful_by}
 
--- streams that are cut
-take_below : (n : ℕ) (xs rest : List Item) → IsPrefix (take n xs) (take n (xs ++ rest))
-take_below zero xs rest = ([], refl)
-take_below (suc n) [] rest = (take (suc n) rest, refl)
-take_below (suc n) (x ∷ xs) rest = let r = take_below n xs rest in (r.0, ap (λ (ys : List Item). x ∷ ys) r.1)
-
-cut_mark : (b : Bool) (m : Mark) → m ≡ still_open → cond b still_open m ≡ still_open
-cut_mark true m e = refl
-cut_mark false m e = e
-
-cut_keeps : (n : ℕ) (s t : Flow) → LiesBelow s t → LiesBelow (cut_to n s) (cut_to n t)
-cut_keeps n s t (inl e) = inl (ap (cut_to n) e)
-cut_keeps n s t (inr h) = inr (cut_mark (nat_le n (length s.items)) s.mark h.0, subst (λ (ys : List Item). IsPrefix (take n s.items) (take n ys)) h.1.1 (take_below n s.items h.1.0))
-
-abbrev no_items : List Item
-no_items = []
-
-take_nothing : (n : ℕ) → take n no_items ≡ no_items
-take_nothing zero = refl
-take_nothing (suc n) = refl
-
-cut_nothing : (n : ℕ) → cut_to n nothing ≡ nothing
-cut_nothing n =
-    ap (λ (xs : List Item). record { items = xs; mark = cond (nat_le n (length no_items)) still_open still_open }) (take_nothing n)
-    ∙ ap (λ (m : Mark). record { items = no_items; mark = m }) (cut_mark (nat_le n (length no_items)) still_open refl)
-
-stream_at-cut : (n : ℕ) (ss : List Flow) (p : ℕ) → stream_at (map (cut_to n) ss) p ≡ cut_to n (stream_at ss p)
-stream_at-cut n [] p = sym (cut_nothing n)
-stream_at-cut n (s ∷ ss) zero = refl
-stream_at-cut n (s ∷ ss) (suc p) = stream_at-cut n ss p
-
-all_cut_keeps : (n : ℕ) (rs ss : List Flow) → AllBelow rs ss → AllBelow (map (cut_to n) rs) (map (cut_to n) ss)
-all_cut_keeps n rs ss h p = rw (stream_at-cut n rs p, stream_at-cut n ss p) (cut_keeps n (stream_at rs p) (stream_at ss p) (h p))
-
-opened_cut : (b : Bool) (m : Mark) → opened_mark (cond b still_open m) ≡ cond b still_open (opened_mark m)
-opened_cut true m = refl
-opened_cut false m = refl
-
-cut_opened : (n : ℕ) (s : Flow) → opened (cut_to n s) ≡ cut_to n (opened s)
-cut_opened n s = ap (λ (m : Mark). record { items = take n s.items; mark = m }) (opened_cut (nat_le n (length s.items)) s.mark)
-
-all_cut_calm : (n : ℕ) (rs ss : List Flow) → AllBelow (map opened rs) ss → AllBelow (map opened (map (cut_to n) rs)) (map (cut_to n) ss)
-all_cut_calm n rs ss h p =
-    let below : LiesBelow (opened (stream_at rs p)) (stream_at ss p) = subst (λ (s : Flow). LiesBelow s (stream_at ss p)) (stream_at-opened rs p) (h p) in
-    let left : stream_at (map opened (map (cut_to n) rs)) p ≡ cut_to n (opened (stream_at rs p)) = stream_at-opened (map (cut_to n) rs) p ∙ (ap (λ (s : Flow). opened s) (stream_at-cut n rs p) ∙ cut_opened n (stream_at rs p)) in
-    subst (λ (s : Flow). LiesBelow s (stream_at (map (cut_to n) ss) p)) (sym left)
-    (subst (λ (s : Flow). LiesBelow (cut_to n (opened (stream_at rs p))) s) (sym (stream_at-cut n ss p)) (cut_keeps n (opened (stream_at rs p)) (stream_at ss p) below))
-
-cut_valid : (lanes : List Lane) (n : ℕ) (ss : List Flow) → AreValid lanes ss → AreValid lanes (map (cut_to n) ss)
-cut_valid lanes n ss v p = valid_on_below (lane_at lanes p) (stream_at (map (cut_to n) ss) p) (stream_at ss p) (all_cut_below n ss p) (v p)
+-- whoever isn't told of the breaks gets no more
+all_opened_below : (ss : List Flow) → AllBelow (map opened ss) ss
+all_opened_below ss p = subst (λ (s : Flow). LiesBelow s (stream_at ss p)) (sym (stream_at-opened ss p)) (opened_below (stream_at ss p))
 
 in_place : (ins : List InPort) (w : ℕ) → IsIn w (in_wires ins) → (p : ℕ) × (p < length ins) × ((in_at ins p).wire ≡ w)
 in_place [] w i = absurd i
@@ -105,7 +58,7 @@ module _ {M : Type 0} (view : M → View) (laws : (m : M) → Laws (view m)) whe
   module _ (lanes : List Lane) (world : ℕ → Wire) (ordered : (w : ℕ) → LiesBelow (world w).taken (world w).sent) (valid_sent : (w : ℕ) → IsValidOn (lane_at lanes w) (world w).sent) where
     lawful_at : (node : Node M) (past : Past) → HaveLanes (in_wires_of node) (view node.machine).in_lanes lanes → HaveLanes (out_wires_of node) (view node.machine).out_lanes lanes → NodeStands view node world past
         → IsLawful lanes world (granted_part_of view past.task node) (node.refused || is_some (view node.machine).fault)
-    lawful_at node past shaped_ins shaped_outs was = pick (view node.machine).source refl
+    lawful_at node past shaped_ins shaped_outs was = pick past.task.source refl
       where
         n : ℕ
         n = (view node.machine).tried
@@ -119,13 +72,23 @@ module _ {M : Type 0} (view : M → View) (laws : (m : M) → Laws (view m)) whe
         keeps : (ss : List Flow) → AreValid (view node.machine).in_lanes ss → AreValid (view node.machine).out_lanes (past.task.means ss)
         keeps = (laws node.machine).keeps past was.machine
 
-        pick : (o : Option ℕ) → (view node.machine).source ≡ o → IsLawful lanes world (record (part_of view past.task node) { means = λ ss. tried_by o (view node.machine).tried (past.task.means ss) }) (node.refused || is_some (view node.machine).fault)
-        pick None e = lawful_by view laws lanes world ordered valid_sent node past past.task.means mono calm keeps (given_below past ((laws node.machine).given past was.machine)) shaped_ins shaped_outs was
-        pick (Some s) e = lawful_by view laws lanes world ordered valid_sent node past (λ ss. map (cut_to n) (past.task.means ss))
-            (λ rs ss vr vs b. all_cut_keeps n (past.task.means rs) (past.task.means ss) (mono rs ss vr vs b))
-            (λ rs v. all_cut_calm n (past.task.means rs) (past.task.means (map opened rs)) (calm rs v))
-            (λ ss v. cut_valid (view node.machine).out_lanes n (past.task.means ss) (keeps ss v))
-            ((laws node.machine).tried_units past was.machine (subst (λ (o : Option ℕ). IsSome o) (sym e) refl)) shaped_ins shaped_outs was
+        pick : (o : Option Units) → past.task.source ≡ o → IsLawful lanes world (record (part_of view past.task node) { means = λ ss. due_by o n (past.task.means ss) }) (node.refused || is_some (view node.machine).fault)
+        pick None e = lawful_by view laws lanes world ordered valid_sent node past past.task.means mono calm keeps
+            (given_below past ((laws node.machine).units_below past was.machine) ((laws node.machine).given past was.machine)) shaped_ins shaped_outs was
+        pick (Some units) e = lawful_by view laws lanes world ordered valid_sent node past (λ ss. units.upto n)
+            (λ rs ss vr vs b p. below_self (stream_at (units.upto n) p))
+            (λ rs v. all_opened_below (units.upto n))
+            (λ ss v. all_valid_below (view node.machine).out_lanes (units.upto n) (past.task.means past.got) ((laws node.machine).units_below past was.machine units e n)
+            (keeps past.got ((laws node.machine).valid past was.machine)))
+            (subst (λ (o : Option Units). AllBelow past.gave (due_by o n (past.task.means past.got))) e ((laws node.machine).tried_units past was.machine (is_source e)))
+            shaped_ins shaped_outs was
+          where
+            some : (o : Option ℕ) → is_some o ≡ true → IsSome o
+            some None f = cc
+            some (Some k) f = refl
+
+            is_source : past.task.source ≡ Some units → IsSome (view node.machine).source
+            is_source e = some (view node.machine).source (sym ((laws node.machine).is_source past was.machine) ∙ ap (λ (o : Option Units). is_some o) e)
 
     are_lawful : (nodes : List (Node M)) (tasks : ℕ → Task) → ((k : ℕ) (d : Node M) → k < length nodes → HaveLanes (in_wires_of (slice_index_or nodes k d)) (view (slice_index_or nodes k d).machine).in_lanes lanes) → ((k : ℕ) (d : Node M) → k < length nodes → HaveLanes (out_wires_of (slice_index_or nodes k d)) (view (slice_index_or nodes k d).machine).out_lanes lanes) → ((k : ℕ) (d : Node M) → k < length nodes → (past : Past) × NodeStands view (slice_index_or nodes k d) world past × (past.task ≡ tasks k)) → AreLawful lanes world (all tasks nodes)
     are_lawful [] tasks shaped_ins shaped_outs each = tt

@@ -18,7 +18,7 @@ use Rattle.ff_net.specs.laws.Nodes.{HeldIs, IsSound, IsSame, IsDone, NodeStands}
 use Rattle.ff_net.specs.laws.Steps.{IsDue, Rests}
 use Rattle.ff_net.specs.laws.Turns.{Waits, with_fault, with_items, held_back, for_items, IsRefused, full, empty, choked, IsIdle}
 use Rattle.ff_net.specs.laws.Views.{View}
-use Rattle.ff_net.proofs.Flows.{due_meant}
+use Rattle.ff_net.proofs.Flows.{due_meant, none_is}
 use Rattle.ff_net.proofs.Matters.{all_close}
 use Rattle.ff_net.proofs.Moments.{with_item_new}
 use Rattle.ff_net.proofs.Changes.{true_not_false, none_held, busy_goes_on}
@@ -90,7 +90,7 @@ module _ {M : Type 0} (view : M → View) (laws : (m : M) → Laws (view m))
     where
       closes : OutputsClose (length (view node.machine).out_lanes) past → ⊥
       closes c =
-          let meant : due past ≡ past.task.means past.got = due_meant past ((laws node.machine).is_source past was.machine ∙ ap (λ (o : Option ℕ). is_some o) no_source) in
+          let meant : due past ≡ past.task.means past.got = due_meant past (none_is past.task.source ((laws node.machine).is_source past was.machine ∙ ap (λ (o : Option ℕ). is_some o) no_source)) in
           let sent : (world (out_at node.outs.items q).wire).sent ≡ stream_at (past.task.means past.got) q = rests.none_due ok q lt busy (none q lt busy) ∙ ap (λ (ss : List Flow). stream_at ss q) meant in
           c q (subst (λ (n : ℕ). q < n) outs_count lt) (busy_goes_on view node world past q was busy) (ap (λ (s : Flow). s.mark) (sym sent) ∙ (was.outs q lt).unclosed busy)
 

@@ -139,7 +139,7 @@ module _ {M : Type 0} (view : M → View) (how : (ℕ → Wire) → Past → (�
 
   part_kept : (task : Task) → part_of view task new ≡ part_of view task old
   part_kept task =
-      let make : List Lane → List Lane → List ℕ → List ℕ → Part = λ is os ins outs. record { means = task.means; in_lanes = is; out_lanes = os; ins = ins; outs = outs } in
+      let make : List Lane → List Lane → List ℕ → List ℕ → Part = λ is os ins outs. record { means = task.means; source = task.source; in_lanes = is; out_lanes = os; ins = ins; outs = outs } in
       ap (λ (ls : List Lane). make ls (view new.machine).out_lanes (in_wires_of new) (out_wires_of new)) step.in_lanes_same
       ∙ (ap (λ (ls : List Lane). make (view old.machine).in_lanes ls (in_wires_of new) (out_wires_of new)) step.out_lanes_same
       ∙ (ap (λ (ws : List ℕ). make (view old.machine).in_lanes (view old.machine).out_lanes ws (out_wires_of new)) step.ins_same

@@ -13,17 +13,17 @@ use Rattle.ff_net.specs.laws.Ports.{in_at, out_at}
 use Rattle.ff_net.specs.laws.Worlds.{Wire, Stand, lanes_of, take_on}
 use Rattle.ff_net.specs.laws.Nodes.{HeldIs, NodeStands, HaveLanes, in_wires_of, out_wires_of}
 use Rattle.ff_net.specs.laws.Views.{View}
-use Rattle.ff_net.proofs.Flows.{valid_on_below, broken_valid_on, given_below, fed_valid}
+use Rattle.ff_net.proofs.Flows.{valid_on_below, broken_valid_on, given_below, fed_valid, AreUnits}
 use Rattle.ff_net.proofs.PortSteps.{out_lane, in_lane, out_wire_there}
 use Rattle.ff_net.proofs.Moments.{with_wire_same}
 
 module _ {M : Type 0} (view : M → View) (node : Node M) (wires : Wires) (world : ℕ → Wire) (past : Past) (p : ℕ) (ins outs : List Lane)
     (stand : Stand wires world) (was : NodeStands view node world past) (valid : AreValid ins past.got) (keeps : (ss : List Flow) → AreValid ins ss → AreValid outs (past.task.means ss)) where
-  pub sent_valid : (x : Item) → AllBelow past.gave (due past) → HaveLanes (out_wires_of node) outs (lanes_of wires) → p < length node.outs.items → (out_at node.outs.items p).done ≡ false → (out_at node.outs.items p).held ≡ Some x
+  pub sent_valid : (x : Item) → AreUnits past → AllBelow past.gave (due past) → HaveLanes (out_wires_of node) outs (lanes_of wires) → p < length node.outs.items → (out_at node.outs.items p).done ≡ false → (out_at node.outs.items p).held ≡ Some x
       → IsValidOn (lane_at (lanes_of wires) (out_at node.outs.items p).wire) (with_item (world (out_at node.outs.items p).wire).sent x)
-  sent_valid x given shaped there busy held =
+  sent_valid x are given shaped there busy held =
       let gave : with_item (world (out_at node.outs.items p).wire).sent x ≡ stream_at past.gave p = subst (λ (h : Option Item). HeldIs h (world (out_at node.outs.items p).wire).sent (stream_at past.gave p)) held ((was.outs p there).held busy) in
-      let on_port : IsValidOn (lane_at outs p) (stream_at past.gave p) = valid_on_below (lane_at outs p) (stream_at past.gave p) (stream_at (past.task.means past.got) p) (given_below past given p) (keeps past.got valid p) in
+      let on_port : IsValidOn (lane_at outs p) (stream_at past.gave p) = valid_on_below (lane_at outs p) (stream_at past.gave p) (stream_at (past.task.means past.got) p) (given_below past are given p) (keeps past.got valid p) in
       subst (λ (s : Flow). IsValidOn (lane_at (lanes_of wires) (out_at node.outs.items p).wire) s) (sym gave)
       (subst (λ (l : Option Lane). IsValidOn l (stream_at past.gave p)) (sym (out_lane node.outs.items outs (lanes_of wires) shaped p there)) on_port)
 

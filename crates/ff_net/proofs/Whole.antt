@@ -119,7 +119,7 @@ module _ {M : Type 0} (view : M → View) (laws : (m : M) → Laws (view m)) whe
     lawful_at : (node : Node M) (past : Past) → HaveLanes (in_wires_of node) (view node.machine).in_lanes lanes → HaveLanes (out_wires_of node) (view node.machine).out_lanes lanes → NodeStands view node world past → IsLawful lanes world (part_of view past.task node) (node.refused || is_some (view node.machine).fault)
     lawful_at node past shaped_ins shaped_outs was =
         let l = laws node.machine in
-        lawful_by node past past.task.means (l.monotone past was.machine) (l.calm past was.machine) (l.keeps past was.machine) (given_below past (l.given past was.machine)) shaped_ins shaped_outs was
+        lawful_by node past past.task.means (l.monotone past was.machine) (l.calm past was.machine) (l.keeps past was.machine) (given_below past (l.units_below past was.machine) (l.given past was.machine)) shaped_ins shaped_outs was
 
     are_lawful : (nodes : List (Node M)) (tasks : ℕ → Task) → ((k : ℕ) (d : Node M) → k < length nodes → HaveLanes (in_wires_of (slice_index_or nodes k d)) (view (slice_index_or nodes k d).machine).in_lanes lanes) → ((k : ℕ) (d : Node M) → k < length nodes → HaveLanes (out_wires_of (slice_index_or nodes k d)) (view (slice_index_or nodes k d).machine).out_lanes lanes) → ((k : ℕ) (d : Node M) → k < length nodes → (past : Past) × NodeStands view (slice_index_or nodes k d) world past × (past.task ≡ tasks k)) → AreLawful lanes world (all_placed tasks nodes)
     are_lawful [] tasks shaped_ins shaped_outs each = tt

@@ -1,13 +1,14 @@
 -- A network of parts, and the meaning of the whole.
-use Rattle.std.specs.Prelude.{ℕ, suc, ◌==◌, if◌then◌else◌, List, [], ◌∷◌, ◌++◌, map}
+use Rattle.std.specs.Prelude.{ℕ, suc, ◌==◌, if◌then◌else◌, List, [], ◌∷◌, ◌++◌, map, Option}
 use Rattle.ff_stream.specs.declared.item.Lane.{Lane}
 use Rattle.ff_stream.specs.Ports.{nothing, stream_at}
 use Rattle.ff_net.specs.Ways.{Flow}
-use Rattle.ff_net.specs.Pasts.{IsIn}
+use Rattle.ff_net.specs.Pasts.{IsIn, Units}
 
--- a node: its function, the lanes of its ports, and the edge at each port, by number
+-- a node: its function, its units where it is a source, the lanes of its ports, and the edge at each port, by number
 pub record Part : Type 0 where
   pub means : List Flow → List Flow
+  pub source : Option Units
   pub in_lanes : List Lane
   pub out_lanes : List Lane
   pub ins : List ℕ

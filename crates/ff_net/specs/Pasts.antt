@@ -1,5 +1,5 @@
 -- What a machine is there for, and what it has behind it.
-use Rattle.std.specs.Prelude.{◌≡◌, ℕ, ◌⊎◌, Bool, List, [], ◌∷◌, ◌++◌, map, length, take, nat_le, cond, Option}
+use Rattle.std.specs.Prelude.{◌≡◌, ℕ, ◌⊎◌, List, [], ◌∷◌, ◌++◌, length, take, nat_le, cond, Option, Some, None}
 use Rattle.ff_stream.specs.declared.item.Item.{Item}
 use Rattle.ff_frame.specs.declared.event.Ticket.{Ticket}
 use Rattle.ff_stream.specs.Stream.{still_open}
@@ -12,12 +12,17 @@ pub record Feed : Type 0 where
   pub port : ℕ
   pub item : Item
 
--- what a machine is there for: the function of its streams, the fault that it makes of them itself, whether it is a
+-- what a source gives: its streams as far as so many units, one for each ticket, and how many units there are
+pub record Units : Type 0 where
+  pub upto : ℕ → List Flow
+  pub count : ℕ
+
+-- what a machine is there for: the function of its streams, the fault that it makes of them itself, its units where it is a
 -- source, and the events that it has to tell by what was fed
 pub record Task : Type 0 where
   pub means : List Flow → List Flow
   pub cause : List Flow → Option Fault
-  pub source : Bool
+  pub source : Option Units
   pub tells : List Feed → List Event
 
 -- what it was fed, call by call and by input, and gave, which events it told, which tickets it was allowed, which outputs
@@ -68,6 +73,20 @@ no_events feeds = []
 abbrev pub cut_to : ℕ → Flow → Flow
 cut_to n s = record { items = take n s.items; mark = cond (nat_le n (length s.items)) still_open s.mark }
 
--- what is to be given by now: of a source one item, or its end, for each ticket
+-- the units of one stream: an item, or its end
+abbrev pub units_of : Flow → Units
+units_of s = record { upto = λ n. cut_to n s ∷ []; count = length s.items }
+
+-- how many units a machine has; none, where it is no source
+abbrev pub count_of : Option Units → ℕ
+count_of None = 0
+count_of (Some units) = units.count
+
+-- of a source its streams as far as so many units, of another machine all that it means
+abbrev pub due_by : Option Units → ℕ → List Flow → List Flow
+due_by None n ss = ss
+due_by (Some units) n ss = units.upto n
+
+-- what is to be given by now: of a source one unit for each ticket
 abbrev pub due : Past → List Flow
-due past = cond past.task.source (map (cut_to (length past.allowed)) (past.task.means past.got)) (past.task.means past.got)
+due past = due_by past.task.source (length past.allowed) (past.task.means past.got)

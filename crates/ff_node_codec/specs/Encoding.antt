@@ -26,4 +26,4 @@ no_cause ss = None
 
 -- no source, and no fault of its own
 abbrev pub enc_task : (Item → Option Pkt) → Task
-enc_task made = record { means = λ ss. encoded made (stream_at ss 0) ∷ []; cause = no_cause; source = false; tells = no_events }
+enc_task made = record { means = λ ss. encoded made (stream_at ss 0) ∷ []; cause = no_cause; source = None; tells = no_events }

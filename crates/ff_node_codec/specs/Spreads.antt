@@ -24,7 +24,7 @@ abbrev pub damage_cause : Making → List Flow → Option Fault
 damage_cause f ss = fault_by (f.damage (stream_at ss 0))
 
 abbrev pub spread_task : ℕ → Making → Task
-spread_task n f = record { means = spread n f; cause = damage_cause f; source = false; tells = no_events }
+spread_task n f = record { means = spread n f; cause = damage_cause f; source = None; tells = no_events }
 
 -- what an item of a lane may give: an item with its times that fits another; only an item without a time gives nothing
 abbrev pub IsOutcomeOf : Lane → Item → Outcome → Type 0
@@ -72,7 +72,7 @@ pub record Spreads (lane_in lane_out : Lane) (f : Making) (n : ℕ) (lines : ℕ
   pub means : past.task.means ≡ spread n f
   pub silent : IsSilent past
   pub cause : (ss : List Flow) → past.task.cause ss ≡ damage_cause f ss
-  pub plain : past.task.source ≡ false
+  pub plain : past.task.source ≡ None
   pub others : (p : ℕ) → 1 ≤ p → stream_at past.got p ≡ nothing
   pub valid : IsValid lane_in (stream_at past.got 0)
   pub closed_is : (closed ≡ true) ↔ IsClosed (f.stream (stream_at past.got 0))

@@ -10,7 +10,7 @@ use Rattle.ff_reader.specs.Cutters.{Cutter}
 use Rattle.ff_net.specs.declared.fault.Fault.{Fault}
 use Rattle.ff_net.specs.declared.fault.Fault.TheVariants.{Device, Damaged, TooLong}
 use Rattle.ff_net.specs.laws.Laws.{IsOfInputs}
-use Rattle.ff_net.specs.Pasts.{Past, Task, IsIn}
+use Rattle.ff_net.specs.Pasts.{Past, Task, IsIn, units_of}
 use Rattle.ff_net.specs.Ways.{Flow}
 use Rattle.ff_node_demux.specs.Exiting.{exits}
 use Rattle.ff_node_demux.specs.Sources.{Sources, only}
@@ -67,7 +67,7 @@ module _ {H C : Type 0} (cutter : Cutter H C) where
 
   -- what a demuxer of this input, the one of this number, is there for
   abbrev pub demux_task : ℕ → H → List ℕ → Task
-  demux_task input head file = record { means = only (demux_of head file); cause = demux_cause head file; source = true; tells = exits input }
+  demux_task input head file = record { means = only (demux_of head file); cause = demux_cause head file; source = Some (units_of (demux_of head file)); tells = exits input }
 
 -- Of an input with this head these bytes were read, and the rest is left: the state of a demuxer after a past.
 pub record Demuxes {H C : Type 0} (cutter : Cutter H C) (left : Option (List ℕ)) (cut : C) (skip given : ℕ) (ticket ended : Bool) (fault : Option Fault) (past : Past) (head : H) (read rest : List ℕ) : Type 0 where

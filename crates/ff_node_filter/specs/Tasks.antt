@@ -1,5 +1,5 @@
 -- The task of a filter, and where a filter's view meets the past of a machine.
-use Rattle.std.specs.Prelude.{◌≡◌, ◌↔◌, ℕ, zero, suc, ◌<◌, Bool, true, false, List, [], ◌∷◌, length, Option, Some}
+use Rattle.std.specs.Prelude.{◌≡◌, ◌↔◌, ℕ, zero, suc, ◌<◌, Bool, true, false, List, [], ◌∷◌, length, Option, Some, None}
 use Rattle.ff_stream.specs.declared.item.Lane.{Lane}
 use Rattle.ff_stream.specs.Stream.{broken}
 use Rattle.ff_stream.specs.Ports.{nothing, stream_at, AllBelow, AllUnbroken, IsClosed}
@@ -21,7 +21,7 @@ abbrev pub ported : ℕ → (Ports → Ports) → List Flow → List Flow
 ported n f ss = listed n (f (stream_at ss))
 
 abbrev pub filter_task : ℕ → (Ports → Ports) → (List Flow → Option Fault) → Task
-filter_task n f cause = record { means = ported n f; cause = cause; source = false; tells = no_events }
+filter_task n f cause = record { means = ported n f; cause = cause; source = None; tells = no_events }
 
 -- what the function of a filter has to be: monotone, calm, from valid streams to valid ones; and where it breaks though
 -- no input is broken, the inputs have the cause TooLong, which stays
@@ -42,7 +42,7 @@ pub record Stands (v : View) (hurt long : Bool) (past : Past) : Type 0 where
   pub f : Ports → Ports
   pub lawful : IsLawful v.ins v.outs f past.task.cause
   pub means_is : past.task.means ≡ ported (length v.outs) f
-  pub plain : past.task.source ≡ false
+  pub plain : past.task.source ≡ None
   pub silent : IsSilent past
   pub settles : ClosesAll v.ins v.outs f
   pub valid : AreValid v.ins past.got

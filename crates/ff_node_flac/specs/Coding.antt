@@ -74,4 +74,4 @@ flac_cause ss = long_fault (is_long (stream_at ss 0))
 
 -- no source, and no event to tell
 abbrev pub flac_task : Task
-flac_task = record { means = λ ss. flac_coded (stream_at ss 0) ∷ []; cause = flac_cause; source = false; tells = no_events }
+flac_task = record { means = λ ss. flac_coded (stream_at ss 0) ∷ []; cause = flac_cause; source = None; tells = no_events }

@@ -177,7 +177,7 @@ module _ (layout : Layout) where
 
     -- it gives no stream of valid inputs, whatever it tells
     abbrev pub mux_task_of : (List Feed → List Event) → Task
-    mux_task_of tells = record { means = mux_means; cause = mux_cause; source = false; tells = tells }
+    mux_task_of tells = record { means = mux_means; cause = mux_cause; source = None; tells = tells }
 
   -- what the muxer of the output streams from this number on, with times of these bases, is there for
   abbrev pub mux_task : ℕ → List Fraction → Task

@@ -50,7 +50,7 @@ parts_same f g k (suc n) same =
 
 part_same : (tasks : ℕ → Task) (edges : List Edge) (ports ports' : Ports) (k : ℕ) → ports'.ins k ≡ ports.ins k → ports'.outs k ≡ ports.outs k → part_at tasks ports' edges k ≡ part_at tasks ports edges k
 part_same tasks edges ports ports' k i o =
-    let make : List Lane → List Lane → Part = λ is os. record { means = (tasks k).means; in_lanes = is; out_lanes = os; ins = at_ports (edge_to edges k) (length is); outs = at_ports (edge_from edges k) (length os) } in
+    let make : List Lane → List Lane → Part = λ is os. record { means = (tasks k).means; source = (tasks k).source; in_lanes = is; out_lanes = os; ins = at_ports (edge_to edges k) (length is); outs = at_ports (edge_from edges k) (length os) } in
     ap (λ (is : List Lane). make is (ports'.outs k)) i ∙ ap (λ (os : List Lane). make (ports.ins k) os) o
 
 network_same : (tasks : ℕ → Task) (edges : List Edge) (ports ports' : Ports) (count : ℕ) → AreSame ports ports' count → network tasks ports' edges count ≡ network tasks ports edges count

@@ -13,7 +13,7 @@ use Rattle.ff_stream.specs.declared.item.Lane.TheVariants.{Frames}
 use Rattle.ff_stream.specs.Ports.{stream_at, IsClosed, IsWhole}
 use Rattle.ff_lang.specs.declared.graph.Graph.{Graph}
 use Rattle.ff_words.specs.declared.job.OutputJob.{OutputJob}
-use Rattle.ff_net.specs.Pasts.{Past, Task}
+use Rattle.ff_net.specs.Pasts.{Past, Task, count_of}
 use Rattle.ff_net.specs.laws.Views.{View}
 use Rattle.ff_net.specs.Ways.{Flow}
 use Rattle.ff_files.specs.Works.{HoldsPart}
@@ -90,7 +90,7 @@ pub record IsEndOf {E : Type 0} (named : E → Option (List ℕ)) (failed : E �
 -- all that a part has to tell that is a source is that it has exited, and it tried at most one unit more than its stream has items
 pub record TellsExit (v : View) : Type 0 where
   pub exits : (past : Past) (number : ℕ) → v.stands past → v.source ≡ Some number → past.task.tells past.feeds ≡ Exited number ∷ []
-  pub few : (past : Past) (number : ℕ) → v.stands past → v.source ≡ Some number → v.tried ≤ length (stream_at (past.task.means past.got) 0).items + 1
+  pub few : (past : Past) (number : ℕ) → v.stands past → v.source ≡ Some number → v.tried ≤ count_of past.task.source + 1
 
 -- the sink of a part, and what it holds where the part is a muxer that was fed something, and has to tell of each stream that has closed
 pub record IsSinkOf {H K : Type 0} (is : KindsOf H) (holds called : K → Option (List ℕ)) (faulted : K → ℕ) (v : View) (snk : K) : Type 0 where

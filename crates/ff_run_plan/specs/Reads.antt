@@ -13,7 +13,7 @@ use Rattle.ff_sched.specs.declared.routes.Routes.{Routes}
 use Rattle.ff_sched.specs.Bits.{upto}
 use Rattle.ff_sched.specs.State.{State}
 use Rattle.ff_net.specs.Nets.{solve}
-use Rattle.ff_net.specs.Pasts.{Task, cut_to}
+use Rattle.ff_net.specs.Pasts.{Task, count_of, due_by}
 use Rattle.ff_net.specs.laws.Views.{View}
 use Rattle.ff_net.specs.Ways.{Flow}
 use Rattle.ff_net_threads.specs.declared.network.run.NodeFault.{NodeFault}
@@ -69,16 +69,16 @@ pub record AreGranted (sources : ℕ) (events : List Event) (reads : List (List 
 -- ---- how much was read
 
 -- of a source its streams as far as the units that it read, one under each place; of another node all
-abbrev pub as_read : List (List ℕ) → Option ℕ → List Flow → List Flow
-as_read reads None ss = ss
-as_read reads (Some i) ss = map (cut_to (length (reads_at reads i))) ss
+abbrev pub as_read : List (List ℕ) → Option ℕ → Task → List Flow → List Flow
+as_read reads None task ss = task.means ss
+as_read reads (Some i) task ss = due_by task.source (length (reads_at reads i)) (task.means ss)
 
 module _ {H : Type 0} (is : KindsOf H) (asked : Asked) (heads : List H) (bytes : List (List ℕ)) (nodes : List PlanNode) (edges : List Edge) where
   -- what each node is there for, the sources only as far as the units that they read
   abbrev pub read_task : List (List ℕ) → ℕ → Task
   read_task reads k =
       record (task_at is asked heads bytes nodes edges k) {
-        means = λ ss. as_read reads (source_at (slice_get nodes k)) ((task_at is asked heads bytes nodes edges k).means ss);
+        means = as_read reads (source_at (slice_get nodes k)) (task_at is asked heads bytes nodes edges k);
       }
 
   -- the streams on all edges that come of these units alone
@@ -89,7 +89,7 @@ module _ {H : Type 0} (is : KindsOf H) (asked : Asked) (heads : List H) (bytes :
   -- node they give the whole stream already.
   pub record AreEnough (reads : List (List ℕ)) : Type 0 where
     pub few : (i k : ℕ) → source_at (slice_get nodes k) ≡ Some i
-        → length (reads_at reads i) ≤ length (stream_at ((task_at is asked heads bytes nodes edges k).means []) 0).items + 1
+        → length (reads_at reads i) ≤ count_of (task_at is asked heads bytes nodes edges k).source + 1
     pub enough : (o p : ℕ) → o < length asked.outputs → p < length (edges_into edges (mux_node is asked heads bytes nodes edges o))
         → read_solution reads (slice_index_or (edges_into edges (mux_node is asked heads bytes nodes edges o)) p 0)
         ≡ solution is asked heads bytes nodes edges (slice_index_or (edges_into edges (mux_node is asked heads bytes nodes edges o)) p 0)

@@ -19,7 +19,7 @@ use Rattle.ff_run_plan.specs.Kinds.{KindsOf}
 
 -- that of a node that isn't there
 abbrev pub idle : Task
-idle = record { means = λ ss. []; cause = λ ss. None; source = false; tells = no_events }
+idle = record { means = λ ss. []; cause = λ ss. None; source = None; tells = no_events }
 
 -- the number of the first output stream at a node: the Mux nodes stand last, one for each output
 abbrev pub first_at : Asked → List PlanNode → List Edge → ℕ → ℕ

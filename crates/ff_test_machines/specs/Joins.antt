@@ -1,5 +1,5 @@
 -- A machine that joins two inputs: it gives the first of each pair of items.
-use Rattle.std.specs.Prelude.{◌≡◌, ◌↔◌, ℕ, zero, suc, ◌<◌, ◌≤◌, ◌⊎◌, Bool, true, false, cond, nat_le, List, [], ◌∷◌, length, take}
+use Rattle.std.specs.Prelude.{◌≡◌, ◌↔◌, ℕ, zero, suc, ◌<◌, ◌≤◌, ◌⊎◌, Bool, true, false, cond, nat_le, List, [], ◌∷◌, length, take, None}
 use Rattle.ff_stream.specs.declared.item.Lane.{Lane}
 use Rattle.ff_stream.specs.Stream.{Mark, still_open, whole, broken}
 use Rattle.ff_stream.specs.Lanes.{IsValid}
@@ -44,7 +44,7 @@ pub record Joins (lane : Lane) (first second : Flow) (next : ℕ) (ended stopped
   pub means : past.task.means ≡ join
   pub silent : IsSilent past
   pub cause : past.task.cause ≡ no_cause
-  pub plain : past.task.source ≡ false
+  pub plain : past.task.source ≡ None
   pub first_is : stream_at past.got 0 ≡ first
   pub second_is : stream_at past.got 1 ≡ second
   pub others : (p : ℕ) → 2 ≤ p → stream_at past.got p ≡ nothing

@@ -1,6 +1,7 @@
 -- Each kind of machine as the laws of machines see it, and these laws.
 use Rattle.std.specs.Prelude.{◌≡◌, ◌+◌, [], true, false, None, Some}
 use Rattle.std.proofs.Common.{arith}
+use Rattle.ff_net.proofs.Flows.{is_none, no_units}
 use Rattle.ff_net.specs.laws.Laws.{Laws}
 use Rattle.ff_net.specs.laws.Silence.{silent_front}
 use Rattle.ff_net.specs.laws.Views.{View}
@@ -25,7 +26,8 @@ source_view m = record { in_lanes = []; out_lanes = source_outs m; source = Some
 
 pub source_laws : (m : Source) → Laws (source_view m)
 source_laws m = record {
-  is_source = λ past s. s.0.source;
+  is_source = λ past s. ap (λ (o : Option Units). is_some o) s.0.source;
+  units_below = λ past s. lists_below m.lane m.items.items m.next m.ended m.ticket m.failed past s.0;
   valid = λ past s. s.0.got;
   keeps = λ past s. lists_keeps m.lane m.items.items m.next m.ended m.ticket m.failed past s.0;
   monotone = λ past s. lists_monotone m.lane m.items.items m.next m.ended m.ticket m.failed past s.0;
@@ -49,7 +51,8 @@ relay_view m = record { in_lanes = relay_ins m; out_lanes = relay_outs m; source
 
 pub relay_laws : (m : Relay) → Laws (relay_view m)
 relay_laws m = record {
-  is_source = λ past s. s.plain;
+  is_source = λ past s. is_none past.task.source s.plain;
+  units_below = λ past s. no_units past s.plain;
   valid = λ past s. relays_valid m.lane m.limit m.left m.closed m.given.items m.outs.items past s;
   keeps = λ past s. relays_keeps m.lane m.limit m.left m.closed m.given.items m.outs.items past s;
   monotone = λ past s. relays_monotone m.lane m.limit m.left m.closed m.given.items m.outs.items past s;
@@ -73,7 +76,8 @@ join_view m = record { in_lanes = join_ins m; out_lanes = join_outs m; source = 
 
 pub join_laws : (m : Join) → Laws (join_view m)
 join_laws m = record {
-  is_source = λ past s. s.plain;
+  is_source = λ past s. is_none past.task.source s.plain;
+  units_below = λ past s. no_units past s.plain;
   valid = λ past s. joins_valid m.lane (kept_of m.first) (kept_of m.second) m.next m.ended m.stopped past s;
   keeps = λ past s. joins_keeps m.lane (kept_of m.first) (kept_of m.second) m.next m.ended m.stopped past s;
   monotone = λ past s. joins_monotone m.lane (kept_of m.first) (kept_of m.second) m.next m.ended m.stopped past s;

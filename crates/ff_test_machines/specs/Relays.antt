@@ -46,7 +46,7 @@ pub record Relays (lane : Lane) (limit left : ℕ) (closed : Bool) (given : List
   pub means : past.task.means ≡ relay limit (length outs)
   pub silent : IsSilent past
   pub cause : past.task.cause ≡ no_cause
-  pub plain : past.task.source ≡ false
+  pub plain : past.task.source ≡ None
   pub others : (p : ℕ) → 1 ≤ p → stream_at past.got p ≡ nothing
   pub valid : IsValid lane (stream_at past.got 0)
   pub left_is : left ≡ limit - length (stream_at past.got 0).items

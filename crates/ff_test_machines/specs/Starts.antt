@@ -1,5 +1,5 @@
 -- What the machines are there for, and where they can be.
-use Rattle.std.specs.Prelude.{ℕ, List, true, false}
+use Rattle.std.specs.Prelude.{ℕ, List, true, false, None}
 use Rattle.ff_stream.specs.declared.item.Item.{Item}
 use Rattle.ff_net.specs.Pasts.{Past, Task, no_events}
 use Rattle.ff_test_machines.specs.declared.join.Join.{Join}
@@ -16,11 +16,11 @@ list_task number items = record { means = list_of items; cause = no_cause; sourc
 
 -- to repeat the first items, so many, on so many outputs
 abbrev pub relay_task : ℕ → ℕ → Task
-relay_task limit count = record { means = relay limit count; cause = no_cause; source = false; tells = no_events }
+relay_task limit count = record { means = relay limit count; cause = no_cause; source = None; tells = no_events }
 
 -- to give the first of each pair
 abbrev pub join_task : Task
-join_task = record { means = join; cause = no_cause; source = false; tells = no_events }
+join_task = record { means = join; cause = no_cause; source = None; tells = no_events }
 
 -- the machine can be where it is after this past
 abbrev pub source_stands : Source → Past → Type 0

@@ -31,7 +31,7 @@ FitAll (s ∷ ss) (n ∷ ns) = (length n.outs.items ≡ length s.view.outs) × F
 
 -- a filter as a part of a network: its function on lists of streams
 abbrev pub part_of : Spot → Node → Part
-part_of s n = record { means = ported (length s.view.outs) s.view.rest; in_lanes = s.view.ins; out_lanes = s.view.outs; ins = n.ins.items; outs = n.outs.items }
+part_of s n = record { means = ported (length s.view.outs) s.view.rest; source = None; in_lanes = s.view.ins; out_lanes = s.view.outs; ins = n.ins.items; outs = n.outs.items }
 
 abbrev pub parts_of : List Spot → List Node → List Part
 parts_of [] ns = []

@@ -7,7 +7,7 @@ use Rattle.ff_stream.specs.Ports.{stream_at, AllBelow, AllUnbroken, IsMonotone, 
 use Rattle.ff_net.specs.declared.fault.Fault.{Fault}
 use Rattle.ff_net.specs.declared.fault.Fault.TheVariants.{Device, Damaged, TooLong, TooLarge, NoMemory}
 use Rattle.ff_net.specs.Ways.{Flow, AreValid}
-use Rattle.ff_net.specs.Pasts.{Past, IsIn, no_events, due, cut_to}
+use Rattle.ff_net.specs.Pasts.{Past, Units, IsIn, no_events, due, due_by}
 use Rattle.ff_net.specs.laws.Views.{View}
 
 -- a count that has come from before to now has risen, or stands at its last value
@@ -92,7 +92,9 @@ reads_of v past = take v.tried (map (λ t. t.place) past.allowed)
 -- what each machine owes, by its view: for each past that can be behind it
 pub record Laws (v : View) : Type 0 where
   -- a source's past is a source's
-  pub is_source : (past : Past) → v.stands past → past.task.source ≡ is_some v.source
+  pub is_source : (past : Past) → v.stands past → is_some past.task.source ≡ is_some v.source
+  -- its units are of what it means
+  pub units_below : (past : Past) → v.stands past → (units : Units) → past.task.source ≡ Some units → (n : ℕ) → AllBelow (units.upto n) (past.task.means past.got)
   -- what was fed is valid for the lanes of the inputs
   pub valid : (past : Past) → v.stands past → AreValid v.in_lanes past.got
   -- valid inputs give valid outputs
@@ -126,4 +128,4 @@ pub record Laws (v : View) : Type 0 where
   -- it tried a unit under no more tickets than it was allowed
   pub tried_allowed : (past : Past) → v.stands past → v.tried ≤ length past.allowed
   -- and a source gave no more than the units that it tried, or the end that it found in place of one
-  pub tried_units : (past : Past) → v.stands past → IsSome v.source → AllBelow past.gave (map (cut_to v.tried) (past.task.means past.got))
+  pub tried_units : (past : Past) → v.stands past → IsSome v.source → AllBelow past.gave (due_by past.task.source v.tried (past.task.means past.got))

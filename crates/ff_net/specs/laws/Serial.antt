@@ -5,7 +5,7 @@ use Rattle.ff_stream.specs.Stream.{LiesBelow}
 use Rattle.ff_net.specs.declared.node.Node.{Node}
 use Rattle.ff_net.specs.declared.wires.Wires.{Wires}
 use Rattle.ff_net.specs.Nets.{Part}
-use Rattle.ff_net.specs.Pasts.{Past, Task, IsIn, cut_to}
+use Rattle.ff_net.specs.Pasts.{Past, Task, IsIn, due_by}
 use Rattle.ff_net.specs.laws.Worlds.{Wire, Stand}
 use Rattle.ff_net.specs.laws.Logs.{PassStep}
 use Rattle.ff_net.specs.laws.Nodes.{NodeStands, IsOf, IsShaped, HaveLanes, in_wires_of, out_wires_of}
@@ -45,23 +45,15 @@ pub record Moment {M : Type 0} (view : M → View) (tasks : ℕ → Task) (nodes
 
 -- the parts that the nodes are, with these tasks
 abbrev pub part_of : {M : Type 0} → (M → View) → Task → Node M → Part
-part_of view task node = record { means = task.means; in_lanes = (view node.machine).in_lanes; out_lanes = (view node.machine).out_lanes; ins = in_wires_of node; outs = out_wires_of node }
+part_of view task node = record { means = task.means; source = task.source; in_lanes = (view node.machine).in_lanes; out_lanes = (view node.machine).out_lanes; ins = in_wires_of node; outs = out_wires_of node }
 
 abbrev pub parts_of : {M : Type 0} → (M → View) → (ℕ → Task) → List (Node M) → List Part
 parts_of view tasks [] = []
 parts_of view tasks (n ∷ ns) = part_of view (tasks zero) n ∷ parts_of view (λ k. tasks (suc k)) ns
 
-abbrev pub tried_by : Option ℕ → ℕ → List Flow → List Flow
-tried_by None n ss = ss
-tried_by (Some s) n ss = map (cut_to n) ss
-
--- of a source its streams as far as the units that it has tried; of another machine all that it means
-abbrev pub tried_of : View → List Flow → List Flow
-tried_of v ss = tried_by v.source v.tried ss
-
 -- the parts, each source as far as the units that it has tried
 abbrev pub granted_part_of : {M : Type 0} → (M → View) → Task → Node M → Part
-granted_part_of view task node = record (part_of view task node) { means = λ ss. tried_of (view node.machine) (task.means ss) }
+granted_part_of view task node = record (part_of view task node) { means = λ ss. due_by task.source (view node.machine).tried (task.means ss) }
 
 abbrev pub granted_parts_of : {M : Type 0} → (M → View) → (ℕ → Task) → List (Node M) → List Part
 granted_parts_of view tasks [] = []

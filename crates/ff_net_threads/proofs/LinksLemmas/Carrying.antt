@@ -159,7 +159,7 @@ pub on_wires_self : (ins outs : List ℕ) (wires : Wires) (world : ℕ → Wire)
 on_wires_self ins outs wires world past holds w stand h = record { now = world; stand = stand; fits = h; course = course_self ins outs world past }
 
 pub some_past : Past
-some_past = start (record { means = λ ss. []; cause = λ ss. None; source = false; tells = no_events })
+some_past = start (record { means = λ ss. []; cause = λ ss. None; source = None; tells = no_events })
 
 -- at another name of the same wire
 pub renamed : (holds : Option Lane → Wire → Type 0) (lanes lanes' : List Lane) (w w' : ℕ) (now : ℕ → Wire) → lanes' ≡ lanes → w' ≡ w → holds (lane_at lanes w) (now w) → holds (lane_at lanes' w') (now w')

@@ -21,7 +21,8 @@ use Rattle.ff_net.specs.Nets.{Part, IsUpward, solve}
 use Rattle.ff_net.specs.Pasts.{Past, Task, IsIn}
 use Rattle.ff_net.specs.laws.Ports.{in_at, in_wires, out_at}
 use Rattle.ff_net.specs.laws.Worlds.{Wire}
-use Rattle.ff_net.specs.laws.Serial.{Moment, granted_parts_of, part_of, parts_of, tried_of}
+use Rattle.ff_net.specs.laws.Serial.{Moment, granted_parts_of, part_of, parts_of}
+use Rattle.ff_net.specs.Pasts.{due_by}
 use Rattle.ff_net.specs.laws.Theorem.{Settled, AllFare, MeetsSolution}
 use Rattle.ff_net.specs.laws.Views.{View}
 use Rattle.ff_net.specs.laws.Nodes.{NodeStands, LogStands, HaveLanes, IsSound, IsDone, machine_of, pass_of, outputs_of, in_wires_of, out_wires_of}
@@ -105,7 +106,7 @@ module _ {M : Type 0} (view : M → View) where
 
   same_part : (task : Task) (a b : Node M) → (view a.machine).in_lanes ≡ (view b.machine).in_lanes → (view a.machine).out_lanes ≡ (view b.machine).out_lanes → in_wires_of a ≡ in_wires_of b → out_wires_of a ≡ out_wires_of b → part_of view task a ≡ part_of view task b
   same_part task a b ei eo ew ev =
-      let make : List Lane → List Lane → List ℕ → List ℕ → Part = λ i o v w. record { means = task.means; in_lanes = i; out_lanes = o; ins = v; outs = w } in
+      let make : List Lane → List Lane → List ℕ → List ℕ → Part = λ i o v w. record { means = task.means; source = task.source; in_lanes = i; out_lanes = o; ins = v; outs = w } in
       ap (λ x. make x (view a.machine).out_lanes (in_wires_of a) (out_wires_of a)) ei
       ∙ (ap (λ x. make (view b.machine).in_lanes x (in_wires_of a) (out_wires_of a)) eo ∙ (ap (λ x. make (view b.machine).in_lanes (view b.machine).out_lanes x (out_wires_of a)) ew ∙ ap (λ x. make (view b.machine).in_lanes (view b.machine).out_lanes (in_wires_of b) x) ev))
 
@@ -138,8 +139,8 @@ module _ {M : Type 0} (view : M → View) where
   read_are tasks (l ∷ ls) (m ∷ ms) same are =
       let part : Part = part_of view (tasks zero) (node_of l) in
       let here : m ≡ machine_of (node_of l) = are zero l m (omega arith) in
-      ap (λ (x : M). record part { means = λ ss. tried_of (view x) (part.means ss) } ∷ granted_parts_of view (λ k. tasks (suc k)) (nodes_of ls)) (sym here)
-      ∙ ap (λ (ps : List Part). record part { means = λ ss. tried_of (view m) (part.means ss) } ∷ ps)
+      ap (λ (x : M). record part { means = λ ss. due_by part.source (view x).tried (part.means ss) } ∷ granted_parts_of view (λ k. tasks (suc k)) (nodes_of ls)) (sym here)
+      ∙ ap (λ (ps : List Part). record part { means = λ ss. due_by part.source (view m).tried (part.means ss) } ∷ ps)
       (read_are (λ k. tasks (suc k)) ls ms (omega (arith, same)) (λ k d e lt. are (suc k) d e (omega (arith, lt))))
 
   -- what settling the links shows

@@ -181,7 +181,7 @@ module _ {M : Type 0} (view : M → View) where
 
     part_is : (tasks : ℕ → Task) (k : ℕ) (d : Linked M) → k < length ls → part_of view (tasks k) (node_at ls k d) ≡ part_at tasks ports edges (0 + k)
     part_is tasks k d lt =
-        let make : List Lane → List Lane → List ℕ → List ℕ → Part = λ i o v w. record { means = (tasks k).means; in_lanes = i; out_lanes = o; ins = v; outs = w } in
+        let make : List Lane → List Lane → List ℕ → List ℕ → Part = λ i o v w. record { means = (tasks k).means; source = (tasks k).source; in_lanes = i; out_lanes = o; ins = v; outs = w } in
         let n = node_at ls k d in
         let e = machine_of n in
         let lanes : (f : View → List Lane) → f (view e) ≡ lanes_at f view machines k = λ f. sym (lanes_nth f machines k e (there k lt) ∙ ap (λ (m : M). f (view m)) (machine_is k d e lt)) in

@@ -39,7 +39,7 @@ pub record AreFit (ports : Ports) (count : ℕ) (edges : List Edge) : Type 0 whe
 
 -- a node with this task
 abbrev pub part_at : (ℕ → Task) → Ports → List Edge → ℕ → Part
-part_at tasks ports edges k = record { means = (tasks k).means; in_lanes = ports.ins k; out_lanes = ports.outs k; ins = ins_at ports edges k; outs = outs_at ports edges k }
+part_at tasks ports edges k = record { means = (tasks k).means; source = (tasks k).source; in_lanes = ports.ins k; out_lanes = ports.outs k; ins = ins_at ports edges k; outs = outs_at ports edges k }
 
 -- so many, from this number on
 abbrev pub parts_from : (ℕ → Part) → ℕ → ℕ → List Part

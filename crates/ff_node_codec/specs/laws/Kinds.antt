@@ -6,6 +6,7 @@ use Rattle.ff_frame.specs.declared.head.StreamHead.{StreamHead}
 use Rattle.ff_stream.specs.declared.item.Item.{Item}
 use Rattle.ff_stream.specs.declared.item.Lane.{Lane}
 use Rattle.ff_stream.specs.declared.item.Lane.TheVariants.{Frames, Packets}
+use Rattle.ff_net.proofs.Flows.{is_none, no_units}
 use Rattle.ff_net.specs.declared.fault.Fault.{Fault}
 use Rattle.ff_net.specs.laws.Laws.{FaultStep, Laws}
 use Rattle.ff_net.specs.Pasts.{Past}
@@ -63,7 +64,8 @@ module _ (lane_in lane_out : Lane) (f : Making) (m : Spread) (stands : Past → 
 
   pub spread_laws : Laws (spread_view lane_in lane_out m stands)
   spread_laws = record {
-    is_source = λ past s. (is past s).plain;
+    is_source = λ past s. is_none past.task.source (is past s).plain;
+    units_below = λ past s. no_units past (is past s).plain;
     valid = λ past s. spreads_valid lane_in lane_out f n lines m.closed m.damage past (is past s);
     keeps = λ past s. spreads_keeps lane_in lane_out f n lines m.closed m.damage past (is past s);
     monotone = λ past s. spreads_monotone lane_in lane_out f n lines m.closed m.damage past (is past s);

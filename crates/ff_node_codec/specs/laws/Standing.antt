@@ -34,7 +34,7 @@ at_first false = nothing
 pub record IsSpreadTask (n : ℕ) (f : Making) (task : Task) : Type 0 where
   pub means : task.means ≡ spread n f
   pub cause : (ss : List Flow) → task.cause ss ≡ damage_cause f ss
-  pub plain : task.source ≡ false
+  pub plain : task.source ≡ None
   pub silent : task.tells ≡ no_events
 
 -- damage that was found stays

@@ -8,7 +8,7 @@ use Rattle.ff_stream.specs.Lanes.{AreInShape}
 use Rattle.ff_stream.specs.Within.{some_pass, within, passes_limits}
 use Rattle.ff_net.specs.declared.fault.Fault.{Fault}
 use Rattle.ff_net.specs.declared.fault.Fault.TheVariants.{TooLong}
-use Rattle.ff_net.specs.Pasts.{Past, Task, IsIn}
+use Rattle.ff_net.specs.Pasts.{Past, Task, IsIn, units_of}
 use Rattle.ff_net.specs.Ways.{Flow}
 use Rattle.ff_source.specs.declared.made.Made.{Made}
 use Rattle.ff_source.specs.Sources.{head_of, frames_of}
@@ -33,7 +33,7 @@ frames_cause head frames inputs = length_fault (are_too_long head frames)
 -- what the source of this number is there for that gives these frames
 abbrev pub frames_task : ℕ → StreamHead → List Item → Task
 frames_task number head frames =
-    record { means = only (limited_frames head frames); cause = frames_cause head frames; source = true; tells = exits number }
+    record { means = only (limited_frames head frames); cause = frames_cause head frames; source = Some (units_of (limited_frames head frames)); tells = exits number }
 
 -- what a source filter that gives this is there for
 abbrev pub gen_task : ℕ → Made → Task

@@ -7,16 +7,17 @@ use Rattle.ff_stream.specs.declared.item.Lane.TheVariants.{Packets}
 use Rattle.ff_stream.specs.Stream.{still_open, whole, broken}
 use Rattle.ff_stream.specs.Ports.{AllBelow, AllUnbroken, IsMonotone, IsCalm, IsClosed, stream_at}
 use Rattle.ff_stream.specs.Within.{before_pass}
+use Rattle.ff_net.proofs.Flows.{AreUnits}
 use Rattle.ff_net.specs.declared.fault.Fault.{Fault}
 use Rattle.ff_net.specs.declared.fault.Fault.TheVariants.{TooLong}
 use Rattle.ff_net.specs.laws.Laws.{IsOfInputs, CauseStays, IsPending, AllAsked}
-use Rattle.ff_net.specs.Pasts.{Past, due, cut_to}
+use Rattle.ff_net.specs.Pasts.{Past, due, cut_to, Units, count_of, due_by}
 use Rattle.ff_net.specs.Ways.{Flow, AreValid}
 use Rattle.ff_reader.specs.Cutters.{Cutter}
 use Rattle.ff_node_demux.specs.Demuxing.{mark_at, damage_at, items_of, break_of, demux_of, is_too_long, fault_in, passes_in_demux, DemuxStands}
 use Rattle.ff_input.specs.laws.Shapes.{IsShaped}
 use Rattle.ff_node_demux.specs.laws.DemuxShapes.{demux_valid}
-use Rattle.ff_node_demux.specs.laws.SourceLaws.{source_valid, source_keeps, source_monotone, source_calm, source_unbroken, source_given, tried_of, source_tried, source_few, source_units}
+use Rattle.ff_node_demux.specs.laws.SourceLaws.{source_valid, source_keeps, source_monotone, source_calm, source_unbroken, source_given, tried_of, source_tried, source_few, source_units, source_below}
 
 module _ {H C : Type 0} (cutter : Cutter H C) where
   pub demux_mark : (head : H) (file : List ℕ) (b : Bool) → is_too_long cutter head file ≡ b
@@ -54,8 +55,8 @@ module _ {H C : Type 0} (cutter : Cutter H C) (left : Option (List ℕ)) (cut : 
   abbrev stream : Flow
   stream = demux_of cutter d.0 file
 
-  pub demux_is_source : past.task.source ≡ true
-  demux_is_source = d.3.sources.source
+  pub demux_is_source : is_some past.task.source ≡ true
+  demux_is_source = ap (λ (o : Option Units). is_some o) d.3.sources.source
 
   pub demux_fed : AreValid [] past.got
   demux_fed = source_valid stream given ended ticket past d.3.sources
@@ -84,10 +85,13 @@ module _ {H C : Type 0} (cutter : Cutter H C) (left : Option (List ℕ)) (cut : 
   pub demux_tried : tried_of given ended ≤ length past.allowed
   demux_tried = source_tried stream given ended ticket past d.3.sources
 
-  pub demux_few : tried_of given ended ≤ length (stream_at (past.task.means past.got) 0).items + 1
+  pub demux_few : tried_of given ended ≤ count_of past.task.source + 1
   demux_few = source_few stream given ended ticket past d.3.sources
 
-  pub demux_units : AllBelow past.gave (map (cut_to (tried_of given ended)) (past.task.means past.got))
+  pub demux_below : AreUnits past
+  demux_below = source_below stream given ended ticket past d.3.sources
+
+  pub demux_units : AllBelow past.gave (due_by past.task.source (tried_of given ended) (past.task.means past.got))
   demux_units = source_units stream given ended ticket past d.3.sources
 
   pub demux_unbroken : fault ≡ None → AllUnbroken past.gave

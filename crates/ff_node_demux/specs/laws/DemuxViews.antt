@@ -8,7 +8,7 @@ use Rattle.ff_net.specs.Ways.{AreValid}
 use Rattle.ff_node_demux.specs.declared.demux.Demux.{Demux}
 use Rattle.ff_node_demux.specs.laws.Demuxers.{demux_in_lanes, demux_out_lanes, demux_source, demux_fault, demux_failures, demux_device, demux_holds, demux_reads, demux_spent, demux_stands}
 use Rattle.ff_node_demux.specs.laws.DemuxClaims.{no_input, is_some_source, holds_none}
-use Rattle.ff_node_demux.specs.laws.DemuxLaws.{demux_is_source, demux_fed, demux_keeps, demux_monotone, demux_cause_stays, demux_calm, demux_given, demux_unbroken, demux_caused, demux_ticket_used, demux_tried, demux_units}
+use Rattle.ff_node_demux.specs.laws.DemuxLaws.{demux_is_source, demux_fed, demux_keeps, demux_monotone, demux_cause_stays, demux_calm, demux_given, demux_unbroken, demux_caused, demux_ticket_used, demux_tried, demux_units, demux_below}
 use Rattle.ff_input.specs.laws.Shapes.{IsShaped}
 use Rattle.ff_node_demux.specs.Exiting.{exits_front}
 
@@ -45,6 +45,7 @@ module _ {S C H : Type 0} {G : Ghosts C H} (left : S → Option (List ℕ)) (nam
     told = λ past s. exits_front m.input m.stopped m.told past s.1;
     ticket_used = λ past q s i f p a h. holds_none m.ticket h (demux_ticket_used G.is (left m.src) m.cut m.skip m.given m.ticket m.ended m.fault past s.0 q f p a);
     tried_allowed = λ past s. demux_tried G.is (left m.src) m.cut m.skip m.given m.ticket m.ended m.fault past s.0;
+    units_below = λ past s. demux_below G.is (left m.src) m.cut m.skip m.given m.ticket m.ended m.fault past s.0;
     tried_units = λ past s i. demux_units G.is (left m.src) m.cut m.skip m.given m.ticket m.ended m.fault past s.0;
   }
 

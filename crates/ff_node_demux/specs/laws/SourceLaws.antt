@@ -1,5 +1,5 @@
 -- The laws of a machine that gives one closed stream, an item or its end for each ticket.
-use Rattle.std.specs.Prelude.{◌≡◌, ◌≢◌, ℕ, zero, suc, ◌+◌, ◌<◌, ◌≤◌, Bool, true, false, cond, Some, List, [], ◌∷◌, ◌++◌, map, length, take, slice_get, nat_le, refl}
+use Rattle.std.specs.Prelude.{◌≡◌, ◌≢◌, ℕ, zero, suc, ◌+◌, ◌<◌, ◌≤◌, Bool, true, false, cond, Some, List, [], ◌∷◌, ◌++◌, map, length, take, slice_get, nat_le, refl, Option}
 use Rattle.std.proofs.Common.{sym, subst, ap, inl, inr, ◌∙◌, arith}
 use Rattle.std.proofs.lemmas.List.{take_all}
 use Rattle.std.proofs.lemmas.Bool.Decides.{nat_tests}
@@ -12,8 +12,8 @@ use Rattle.ff_stream.specs.Lanes.{IsValid}
 use Rattle.ff_stream.specs.Ports.{nothing, stream_at, AllBelow, AllUnbroken, IsMonotone, IsCalm, IsClosed, IsUnbroken}
 use Rattle.ff_stream.specs.laws.Order.{below_self, opened_below}
 use Rattle.ff_net.specs.Ways.{Flow, AreValid}
-use Rattle.ff_net.specs.Pasts.{Past, gave_item, due, cut_to}
-use Rattle.ff_net.proofs.Flows.{stream_at-with_item_same, stream_at-with_item_other}
+use Rattle.ff_net.specs.Pasts.{Past, gave_item, due, cut_to, Units, units_of, count_of, due_by}
+use Rattle.ff_net.proofs.Flows.{stream_at-with_item_same, stream_at-with_item_other, AreUnits, units_below}
 use Rattle.ff_node_demux.specs.Sources.{only, part_of, count, Sources}
 
 take_less : (n m : ℕ) (xs : List Item) → n ≤ m → IsPrefix (take n xs) (take m xs)
@@ -110,11 +110,11 @@ few_tried : (s : Flow) (n : ℕ) (ended : Bool) → n ≤ length s.items → tri
 few_tried s n true le = omega (arith, le)
 few_tried s n false le = omega (arith, le)
 
--- and these are at most one more than its stream has items
+-- and these are at most one more than it has units
 pub source_few : (s : Flow) (n : ℕ) (ended ticket : Bool) (past : Past) → Sources s n ended ticket past
-    → tried_of n ended ≤ length (stream_at (past.task.means past.got) 0).items + 1
+    → tried_of n ended ≤ count_of past.task.source + 1
 source_few s n ended ticket past l =
-    subst (λ (f : List Flow → List Flow). tried_of n ended ≤ length (stream_at (f past.got) 0).items + 1) (sym l.means) (few_tried s n ended l.in_range)
+    subst (λ (o : Option Units). tried_of n ended ≤ count_of o + 1) (sym l.source) (few_tried s n ended l.in_range)
 
 units_at : (s : Flow) (n : ℕ) (ended ticket : Bool) (past : Past) → Sources s n ended ticket past
     → LiesBelow (stream_at past.gave 0) (cut_to (tried_of n ended) s)
@@ -127,9 +127,20 @@ units_at s n false ticket past l =
 
 -- what it gave are these units, or the end in place of one
 pub source_units : (s : Flow) (n : ℕ) (ended ticket : Bool) (past : Past) → Sources s n ended ticket past
-    → AllBelow past.gave (map (cut_to (tried_of n ended)) (past.task.means past.got))
-source_units s n ended ticket past l zero = subst (λ (f : List Flow → List Flow). LiesBelow (stream_at past.gave 0) (stream_at (map (cut_to (tried_of n ended)) (f past.got)) 0)) (sym l.means) (units_at s n ended ticket past l)
-source_units s n ended ticket past l (suc p) = subst (λ (f : List Flow → List Flow). LiesBelow (stream_at past.gave (suc p)) (stream_at (map (cut_to (tried_of n ended)) (f past.got)) (suc p))) (sym l.means) (inl (l.others p))
+    → AllBelow past.gave (due_by past.task.source (tried_of n ended) (past.task.means past.got))
+source_units s n ended ticket past l zero =
+    subst (λ (o : Option Units). LiesBelow (stream_at past.gave 0) (stream_at (due_by o (tried_of n ended) (past.task.means past.got)) 0)) (sym l.source)
+    (units_at s n ended ticket past l)
+source_units s n ended ticket past l (suc p) =
+    subst (λ (o : Option Units). LiesBelow (stream_at past.gave (suc p)) (stream_at (due_by o (tried_of n ended) (past.task.means past.got)) (suc p))) (sym l.source)
+    (inl (l.others p))
+
+-- and its units are of what it means
+pub source_below : (s : Flow) (n : ℕ) (ended ticket : Bool) (past : Past) → Sources s n ended ticket past → AreUnits past
+source_below s n ended ticket past l units e k =
+    let same : units_of s ≡ units = (let both : Some (units_of s) ≡ Some units = sym l.source ∙ e in cc) in
+    subst (λ (u : Units). AllBelow (u.upto k) (past.task.means past.got)) same
+    (subst (λ (f : List Flow → List Flow). AllBelow ((units_of s).upto k) (f past.got)) (sym l.means) (units_below s k []))
 
 get_within : (xs : List Item) (n : ℕ) (x : Item) → slice_get xs n ≡ Some x → n < length xs
 get_within [] n x e = cc

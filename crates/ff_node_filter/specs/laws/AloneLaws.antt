@@ -1,6 +1,7 @@
 -- The laws of a filter as a machine, from those of the filter.
 use Rattle.std.specs.Prelude.{◌≡◌, ℕ, ◌<◌, Bool, true, false, length, Some, refl}
 use Rattle.std.proofs.Common.{◌∙◌, arith, ap}
+use Rattle.ff_net.proofs.Flows.{is_none, no_units}
 use Rattle.ff_net.specs.declared.fault.Fault.{Fault}
 use Rattle.ff_net.specs.declared.fault.Fault.TheVariants.{Device}
 use Rattle.ff_net.specs.laws.Views.{IsSameShape}
@@ -42,7 +43,8 @@ pub alone_laws : (v : View) (spends : ℕ → Bool) (hurt long : Bool)
     → ((p : ℕ) → p < length v.ins → 0 < length v.outs → AllDone v → spends p ≡ true)
     → Laws (alone_view v spends hurt long)
 alone_laws v spends hurt long only shut done = record {
-  is_source = λ past s. s.plain;
+  is_source = λ past s. is_none past.task.source s.plain;
+  units_below = λ past s. no_units past s.plain;
   valid = λ past s. s.valid;
   keeps = λ past s. task_keeps v hurt long past s;
   monotone = λ past s. task_monotone v hurt long past s;

@@ -12,7 +12,7 @@ use Rattle.ff_net.specs.laws.Laws.{CauseStays, OutputsClose, AllAsked, Settles, 
 use Rattle.ff_net.specs.Pasts.{Past, IsIn, due}
 use Rattle.ff_net.specs.laws.Silence.{silent_front}
 use Rattle.ff_net.specs.Ways.{Flow, AreValid}
-use Rattle.ff_net.proofs.Flows.{due_meant}
+use Rattle.ff_net.proofs.Flows.{due_meant, is_none, no_units}
 use Rattle.ff_net.proofs.Matters.{may_spend}
 use Rattle.ff_node_flac.specs.declared.queue.Queue.{Queue}
 use Rattle.ff_node_flac.specs.declared.shut.Shut.{Shut}
@@ -146,7 +146,8 @@ module _ (head : StreamHead) (queue : Queue) (closed : Shut) (told over stopped 
 
 pub encoder_laws : (head : StreamHead) (queue : Queue) (closed : Shut) (told over stopped long : Bool) → Laws (encoder_view head queue closed told over stopped long)
 encoder_laws head queue closed told over stopped long = record {
-  is_source = λ past s. s.plain;
+  is_source = λ past s. is_none past.task.source s.plain;
+  units_below = λ past s. no_units past s.plain;
   valid = λ past s. s.valid;
   keeps = λ past s. keeps head queue closed told over stopped long past s;
   monotone = λ past s. monotone head queue closed told over stopped long past s;

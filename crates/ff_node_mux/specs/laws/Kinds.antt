@@ -1,6 +1,7 @@
 -- A muxer as the laws of machines see it, and these laws.
 use Rattle.std.specs.Prelude.{◌≡◌, true, false, [], None}
 use Rattle.std.proofs.Common.{arith}
+use Rattle.ff_net.proofs.Flows.{is_none, no_units}
 use Rattle.ff_net.specs.laws.Laws.{Laws}
 use Rattle.ff_net.specs.laws.Views.{View}
 use Rattle.ff_host.specs.declared.sink.Sink.{Ghosts as SinkGhosts}
@@ -31,7 +32,8 @@ module _ {K W : Type 0} {S : SinkGhosts K} {F : WriterGhosts W} where
 
   pub mux_laws : (m : Mux K W S F) → Laws (mux_view m)
   mux_laws m = record {
-    is_source = λ past s. mux_source m past s.0;
+    is_source = λ past s. is_none past.task.source (mux_source m past s.0);
+    units_below = λ past s. no_units past (mux_source m past s.0);
     valid = λ past s. mux_valid m past s.0;
     keeps = λ past s ss v. mux_keeps m past s.0 ss v;
     monotone = λ past s. mux_monotone m past s.0;

@@ -30,7 +30,7 @@ pub no_output : (q : ℕ) → q < 0 → ⊥
 no_output q lt = omega arith
 
 module _ {K W : Type 0} {S : SinkGhosts K} {F : WriterGhosts W} (m : Mux K W S F) (past : Past) (s : mux_writes m past) where
-  pub mux_source : past.task.source ≡ false
+  pub mux_source : past.task.source ≡ None
   mux_source = ap (λ (t : Task). t.source) s.1.task
 
   pub mux_valid : AreValid (mux_in_lanes m) past.got

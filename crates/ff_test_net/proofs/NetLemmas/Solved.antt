@@ -24,7 +24,7 @@ use Rattle.ff_test_net.specs.net.Chains.{IsChain, AllSound, WasFed, chain_tasks}
 use Rattle.ff_test_net.proofs.NetLemmas.Chains.{apart_0_1}
 
 abbrev part : Task → List Lane → List Lane → List ℕ → List ℕ → Part
-part task ls ls' ws vs = record { means = task.means; in_lanes = ls; out_lanes = ls'; ins = ws; outs = vs }
+part task ls ls' ws vs = record { means = task.means; source = task.source; in_lanes = ls; out_lanes = ls'; ins = ws; outs = vs }
 
 solve_is : (count limit : ℕ) (la la' lb lb' lc lc' : List Lane) (ia oa ib ob ic oc : List ℕ) → ia ≡ [] → oa ≡ 0 ∷ [] → ib ≡ 0 ∷ [] → ob ≡ 1 ∷ [] → ic ≡ 1 ∷ [] → oc ≡ []
     → solve (part (chain_tasks count limit 0) la la' ia oa ∷ part (chain_tasks count limit 1) lb lb' ib ob ∷ part (chain_tasks count limit 2) lc lc' ic oc ∷ []) 1 ≡ stopped_at limit (whole_stream (byte_packets count))

@@ -107,6 +107,7 @@ module _ {F : Type 0} {G : FilterGhosts F} where
       pub graph_laws : Laws (graph_shown m)
       graph_laws = record {
         is_source = by_all.is_source;
+        units_below = by_all.units_below;
         valid = by_all.valid;
         keeps = by_all.keeps;
         monotone = by_all.monotone;

@@ -9,7 +9,7 @@ use Rattle.ff_net.specs.laws.Laws.{FaultStep, IsOfInputs}
 use Rattle.ff_net.specs.Nets.{Part, solve}
 use Rattle.ff_net.specs.laws.Nodes.{IsSound, machine_of, in_wires_of, out_wires_of}
 use Rattle.ff_net.specs.Pasts.{Past, Task, IsIn}
-use Rattle.ff_net.specs.laws.Serial.{tried_of}
+use Rattle.ff_net.specs.Pasts.{due_by}
 use Rattle.ff_net.specs.laws.Views.{View}
 use Rattle.ff_net.specs.Ways.{Flow}
 use Rattle.ff_net_threads.specs.declared.links.linked.Linked.{Linked}
@@ -76,7 +76,7 @@ pub record MeetsNetwork {M : Type 0} (view : M → View) (tasks : ℕ → Task) 
 abbrev pub read_parts : {M : Type 0} → (M → View) → List M → List Part → List Part
 read_parts view [] parts = parts
 read_parts view (m ∷ ms) [] = []
-read_parts view (m ∷ ms) (p ∷ ps) = record p { means = λ ss. tried_of (view m) (p.means ss) } ∷ read_parts view ms ps
+read_parts view (m ∷ ms) (p ∷ ps) = record p { means = λ ss. due_by p.source (view m).tried (p.means ss) } ∷ read_parts view ms ps
 
 -- Where no fault is reported, the units that the sources have tried are enough: at each machine without outputs the solution is
 -- already what comes of them alone

@@ -8,11 +8,12 @@ use Rattle.ff_stream.specs.declared.item.Lane.TheVariants.{Frames}
 use Rattle.ff_stream.specs.Stream.{still_open, whole, broken, whole_stream}
 use Rattle.ff_stream.specs.Ports.{AllBelow, AllUnbroken, IsMonotone, IsCalm, IsClosed, stream_at}
 use Rattle.ff_stream.specs.laws.WithinLaws.{within_valid}
+use Rattle.ff_net.proofs.Flows.{AreUnits}
 use Rattle.ff_net.specs.declared.fault.Fault.{Fault}
 use Rattle.ff_net.specs.laws.Laws.{IsOfInputs, CauseStays, IsPending, AllAsked}
-use Rattle.ff_net.specs.Pasts.{Past, due, cut_to}
+use Rattle.ff_net.specs.Pasts.{Past, due, cut_to, Units, count_of, due_by}
 use Rattle.ff_net.specs.Ways.{Flow, AreValid}
-use Rattle.ff_node_demux.specs.laws.SourceLaws.{source_valid, source_keeps, source_monotone, source_calm, source_unbroken, source_given, tried_of}
+use Rattle.ff_node_demux.specs.laws.SourceLaws.{source_valid, source_keeps, source_monotone, source_calm, source_unbroken, source_given, tried_of, source_below}
 use Rattle.ff_node_demux.specs.laws.SourceLaws.{source_tried, source_few, source_units}
 use Rattle.ff_node_demux.specs.gens.Generating.{limited_frames, are_too_long, length_fault, GenStands}
 
@@ -30,8 +31,8 @@ module _ (left : List Item) (head : StreamHead) (given : ℕ) (ticket ended long
   abbrev stream : Flow
   stream = limited_frames head d.0
 
-  pub gen_is_source : past.task.source ≡ true
-  gen_is_source = d.1.sources.source
+  pub gen_is_source : is_some past.task.source ≡ true
+  gen_is_source = ap (λ (o : Option Units). is_some o) d.1.sources.source
 
   pub gen_fed : AreValid [] past.got
   gen_fed = source_valid stream given ended ticket past d.1.sources
@@ -56,10 +57,13 @@ module _ (left : List Item) (head : StreamHead) (given : ℕ) (ticket ended long
   pub gen_tickets : tried_of given ended ≤ length past.allowed
   gen_tickets = source_tried stream given ended ticket past d.1.sources
 
-  pub gen_few : tried_of given ended ≤ length (stream_at (past.task.means past.got) 0).items + 1
+  pub gen_few : tried_of given ended ≤ count_of past.task.source + 1
   gen_few = source_few stream given ended ticket past d.1.sources
 
-  pub gen_units : AllBelow past.gave (map (cut_to (tried_of given ended)) (past.task.means past.got))
+  pub gen_below : AreUnits past
+  gen_below = source_below stream given ended ticket past d.1.sources
+
+  pub gen_units : AllBelow past.gave (due_by past.task.source (tried_of given ended) (past.task.means past.got))
   gen_units = source_units stream given ended ticket past d.1.sources
 
   -- at the end, a frame was too long exactly where some frame is

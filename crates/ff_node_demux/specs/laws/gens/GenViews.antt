@@ -6,7 +6,7 @@ use Rattle.ff_net.specs.laws.Views.{View}
 use Rattle.ff_net.specs.Ways.{AreValid}
 use Rattle.ff_node_demux.specs.laws.DemuxClaims.{no_input, is_some_source, holds_none}
 use Rattle.ff_node_demux.specs.Exiting.{exits_front}
-use Rattle.ff_node_demux.specs.laws.gens.GenLaws.{gen_is_source, gen_fed, gen_keeps, gen_monotone, gen_cause_stays, gen_calm, gen_given, gen_unbroken}
+use Rattle.ff_node_demux.specs.laws.gens.GenLaws.{gen_is_source, gen_fed, gen_keeps, gen_monotone, gen_cause_stays, gen_calm, gen_given, gen_unbroken, gen_below}
 use Rattle.ff_node_demux.specs.laws.gens.GenLaws.{gen_caused, gen_ticket_used, gen_tickets, gen_units}
 use Rattle.ff_node_demux.specs.laws.gens.Generators.{gen_in_lanes, gen_out_lanes, gen_source, gen_fault, gen_holds, gen_tried, gen_spent, gen_stands}
 use Rattle.ff_node_demux.specs.declared.gens.generator.Gen.{Gen}
@@ -44,5 +44,6 @@ module _ {G : Type 0} (left : G → List Item) where
     told = λ past s. exits_front m.number m.stopped m.told past s.1;
     ticket_used = λ past q s i f p a h. holds_none m.ticket h (gen_ticket_used (left m.frames) m.head m.given m.ticket m.ended m.long past s.0 q p a);
     tried_allowed = λ past s. gen_tickets (left m.frames) m.head m.given m.ticket m.ended m.long past s.0;
+    units_below = λ past s. gen_below (left m.frames) m.head m.given m.ticket m.ended m.long past s.0;
     tried_units = λ past s i. gen_units (left m.frames) m.head m.given m.ticket m.ended m.long past s.0;
   }

@@ -2,6 +2,7 @@
 use Rattle.std.specs.Prelude.{◌≡◌, ℕ, List, false, None, Some, Option, is_some, IsSome}
 use Rattle.std.proofs.Common.{sym, ap, ◌∙◌}
 use Rattle.ff_frame.specs.declared.event.Event.{Event}
+use Rattle.ff_net.proofs.Flows.{is_none}
 use Rattle.ff_net.specs.Pasts.{Past, Feed}
 use Rattle.ff_net.specs.laws.Views.{View}
 use Rattle.ff_net.specs.laws.Laws.{IsPending, IsReading, Laws}
@@ -21,11 +22,12 @@ none_there (Some x) e s = cc
 module _ (v : View) (lead : Lead) (laws : Laws v) where
   -- it is no source, and so never one that goes on reading
   pub reads_nothing : (past : Past) → LeadStands v lead past → IsReading (leading_view v lead) past → ⊥
-  reads_nothing past s r = none_there v.source (sym (laws.is_source (quiet past) s.inner) ∙ s.plain) r.is_source
+  reads_nothing past s r = none_there v.source (sym (laws.is_source (quiet past) s.inner) ∙ is_none past.task.source s.plain) r.is_source
 
   pub leading_laws : Laws (leading_view v lead)
   leading_laws = record {
     is_source = λ past s. laws.is_source (quiet past) s.inner;
+    units_below = λ past s. laws.units_below (quiet past) s.inner;
     valid = λ past s. laws.valid (quiet past) s.inner;
     keeps = λ past s. laws.keeps (quiet past) s.inner;
     monotone = λ past s. laws.monotone (quiet past) s.inner;

@@ -1,5 +1,5 @@
 -- A machine that tells which of its inputs is the best one, as the laws of machines see it.
-use Rattle.std.specs.Prelude.{◌≡◌, ℕ, false, List, [], length}
+use Rattle.std.specs.Prelude.{◌≡◌, ℕ, false, List, [], length, None}
 use Rattle.ff_time.specs.Fraction.{Fraction}
 use Rattle.ff_net.specs.Pasts.{Past, no_events}
 use Rattle.ff_net.specs.laws.Views.{View}
@@ -15,7 +15,7 @@ quiet past = record past { task = record past.task { tells = no_events }; told =
 -- as there are inputs.
 pub record LeadStands (v : View) (lead : Lead) (past : Past) : Type 0 where
   pub inner : v.stands (quiet past)
-  pub plain : past.task.source ≡ false
+  pub plain : past.task.source ≡ None
   pub graph : ℕ
   pub bases : List Fraction
   pub count : length bases ≡ length v.in_lanes
