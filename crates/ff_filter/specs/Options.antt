@@ -1,7 +1,8 @@
 -- How the arguments of a filter set its options.
-use Rattle.std.specs.Prelude.{◌≡◌, ◌⊎◌, ℕ, ◌+◌, ◌≤◌, ◌^◌, nat_le, nat_lt, ◌&&◌, Bool, true, false, ◌||◌, not, cond, if◌then◌else◌}
+use Rattle.std.specs.Prelude.{◌≡◌, ◌⊎◌, ℕ, ◌+◌, ◌≤◌, ◌^◌, ◌==◌, nat_le, nat_lt, ◌&&◌, Bool, true, false, ◌||◌, not, cond, if◌then◌else◌}
 use Rattle.std.specs.Prelude.{is_some, Option, Some, None, List, [], ◌∷◌, length, Result, Ok, Err}
 use Rattle.std.specs.Str.{bytes_eq}
+use Rattle.ff_time.specs.Digits.{number_of}
 use Rattle.ff_time.specs.Duration.{IsDuration}
 use Rattle.ff_frame.specs.declared.config.ConfigError.{ConfigError}
 use Rattle.ff_frame.specs.declared.config.ConfigError.TheVariants.{UnknownOption, BadOption, Pads, Kind, NoMemory}
@@ -41,6 +42,24 @@ abbrev pub AreRead : {S : Type 0} → Manual S → Bool → ℕ → S → List A
 AreRead manual keyed place s [] r = r ≡ Ok s
 AreRead manual keyed place s (a ∷ others) r =
     IsReadBy manual s a.value (λ t. AreRead manual (keyed || is_some a.key) (place + 1) t others) (option_of manual keyed place a.key) r
+
+-- a whole number of 1 to 5 digits from lo to hi
+abbrev pub number_between : ℕ → ℕ → Option ℕ → Option ℕ
+number_between lo hi None = None
+number_between lo hi (Some n) = cond (nat_le lo n && nat_le n hi) (Some n) None
+
+abbrev pub ranged : ℕ → ℕ → List ℕ → Option ℕ
+ranged lo hi text = number_between lo hi (number_of 5 text)
+
+-- the argument gives the option of this number
+abbrev pub gives : ℕ → Option ℕ → Bool
+gives option None = false
+gives option (Some o) = o == option
+
+-- what is checked holds, and it goes on; else it is refused so
+abbrev pub Checked : {X : Type 0} → Bool → ConfigError → (Result X ConfigError → Type 0) → Result X ConfigError → Type 0
+Checked true e next r = next r
+Checked false e next r = r ≡ Err e
 
 -- a time of at most 10^15 microseconds
 abbrev pub IsTime : List ℕ → ℕ → Type 0

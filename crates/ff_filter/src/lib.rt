@@ -37,7 +37,9 @@ pub use lasting::{TrimSettings, lasting_stop};
 pub use laws::shared_functions_are_sound;
 pub use limited::Limited;
 pub use machine::{Single, machine_of};
-pub use options::{Settings, option_of, read_args, read_time, sound_settings, video_settings};
+pub use options::{
+    Settings, option_of, ranged, read_args, read_time, sound_settings, video_settings,
+};
 pub use outlet::Outlet;
 pub use pass::Pass;
 pub use plain::{ExprSettings, NoSettings};

@@ -1,10 +1,10 @@
 //! The reading of a filter's arguments, and the checks of its input's head.
 ghost use Rattle.std.specs.Prelude.{◌≡◌, ◌↔◌, ◌<◌, ◌≤◌, ◌^◌, ℕ, length, IfSome, IsNone, Some, false};
-ghost use Rattle.ff_filter.specs.Options.{Manual, named, option_of as option_at, AreRead, IsTime, only_head, is_sound, is_video, AreSet};
+ghost use Rattle.ff_filter.specs.Options.{Manual, named, option_of as option_at, AreRead, ranged as ranged_of, IsTime, only_head, is_sound, is_video, AreSet};
 
 use ff_frame::{ConfigError, StreamHead};
 use ff_lang::Arg;
-use ff_time::read_duration;
+use ff_time::{read_duration, read_number};
 
 /// The settings of a filter, as its arguments make them.
 pub trait Settings: Copy {
@@ -61,6 +61,23 @@ pub fn read_args<S: Settings>(settings: S, args: &[Arg]) -> Result<S, ConfigErro
         keyed = keyed | arg.key.is_some();
     }
     Ok(settings)
+}
+
+/// A whole number of 1 to 5 digits from `least` to `most`.
+pub fn ranged(text: &str, least: u64, most: u64) -> Option<u64>
+    ensures value { result ≡ ranged_of least most text.now }
+    ensures within { IfSome result (λ n. (least ≤ n) × (n ≤ most)) }
+{
+    match read_number(text, 5) {
+        None => None,
+        Some(number) => {
+            if least <= number && number <= most {
+                Some(number)
+            } else {
+                None
+            }
+        }
+    }
 }
 
 /// A time in microseconds, at most 10^15 of them.
