@@ -1,14 +1,15 @@
 -- The formats of files, a row each: its names, and what an output of it takes.
-use Rattle.std.specs.Prelude.{◌≡◌, ℕ, ◌≤◌, nat_le, Bool, true, false, if◌then◌else◌, ◌&&◌, not, List, [], ◌∷◌, codes, length, Option, None, Some, refl}
+use Rattle.std.specs.Prelude.{◌≡◌, ℕ, ◌≤◌, nat_le, Bool, true, false, if◌then◌else◌, cond, ◌&&◌, ◌==◌, not, List, [], ◌∷◌, codes, length, Option, None, Some, refl}
 use Rattle.std.specs.Str.{bytes_eq}
 use Rattle.std.proofs.Common.{arith}
-use Rattle.ff_frame.specs.Codecs.{coding_of}
+use Rattle.ff_frame.specs.Codecs.{coding_of, depth_bytes}
 use Rattle.ff_frame.specs.declared.coding.ByteOrder.{ByteOrder}
 use Rattle.ff_frame.specs.declared.coding.ByteOrder.TheVariants.{LittleEndian, BigEndian}
 use Rattle.ff_frame.specs.declared.coding.Coding.{Coding}
 use Rattle.ff_frame.specs.declared.coding.Coding.TheVariants as coding
 use Rattle.ff_frame.specs.declared.coding.PcmDepth.{PcmDepth}
 use Rattle.ff_frame.specs.declared.coding.PcmDepth.TheVariants.{Bits8, Bits16, Bits24, Bits32}
+use Rattle.ff_frame.specs.declared.coding.PcmForm.{PcmForm}
 use Rattle.ff_frame.specs.declared.head.Codec.{Codec}
 use Rattle.ff_frame.specs.declared.head.Codec.TheVariants as codec
 use Rattle.ff_frame.specs.declared.hash.HashKind.{HashKind}
@@ -16,7 +17,7 @@ use Rattle.ff_frame.specs.declared.hash.HashKind.TheVariants.{Sha256, Md5}
 use Rattle.ff_format.specs.declared.format.FileFormat.{FileFormat}
 use Rattle.ff_format.specs.declared.format.FileFormat.TheVariants as format
 use Rattle.ff_format.specs.declared.format.SoundTaken.{SoundTaken}
-use Rattle.ff_format.specs.declared.format.SoundTaken.TheVariants.{Nothing, Pcm, PcmIn, Flac}
+use Rattle.ff_format.specs.declared.format.SoundTaken.TheVariants.{Nothing, Pcm, PcmIn, PcmOf, Flac}
 use Rattle.ff_format.specs.declared.format.Taken.{Taken}
 
 abbrev pub format_name : FileFormat → List ℕ
@@ -24,6 +25,15 @@ format_name format.Wav = codes "wav"
 format_name format.Au = codes "au"
 format_name format.Flac = codes "flac"
 format_name format.Y4m = codes "yuv4mpegpipe"
+format_name format.U8 = codes "u8"
+format_name format.S8 = codes "s8"
+format_name format.S16le = codes "s16le"
+format_name format.S16be = codes "s16be"
+format_name format.S24le = codes "s24le"
+format_name format.S24be = codes "s24be"
+format_name format.S32le = codes "s32le"
+format_name format.S32be = codes "s32be"
+format_name format.RawVideo = codes "rawvideo"
 format_name format.FrameHash = codes "framehash"
 format_name format.FrameMd5 = codes "framemd5"
 format_name format.FrameCrc = codes "framecrc"
@@ -39,14 +49,7 @@ is_read format.Wav = true
 is_read format.Au = true
 is_read format.Flac = true
 is_read format.Y4m = true
-is_read format.FrameHash = false
-is_read format.FrameMd5 = false
-is_read format.FrameCrc = false
-is_read format.Hash = false
-is_read format.Md5 = false
-is_read format.StreamHash = false
-is_read format.Crc = false
-is_read format.Null = false
+is_read _ = false
 
 -- each format with its name, how the names of its files end (empty where no ending tells it), and whether an input and an
 -- output may have it
@@ -56,6 +59,15 @@ file_formats =
     (format_name format.Au, codes ".au", format.Au, is_read format.Au, true) ∷
     (format_name format.Flac, codes ".flac", format.Flac, is_read format.Flac, true) ∷
     (format_name format.Y4m, codes ".y4m", format.Y4m, is_read format.Y4m, true) ∷
+    (format_name format.U8, [], format.U8, is_read format.U8, true) ∷
+    (format_name format.S8, [], format.S8, is_read format.S8, true) ∷
+    (format_name format.S16le, [], format.S16le, is_read format.S16le, true) ∷
+    (format_name format.S16be, [], format.S16be, is_read format.S16be, true) ∷
+    (format_name format.S24le, [], format.S24le, is_read format.S24le, true) ∷
+    (format_name format.S24be, [], format.S24be, is_read format.S24be, true) ∷
+    (format_name format.S32le, [], format.S32le, is_read format.S32le, true) ∷
+    (format_name format.S32be, [], format.S32be, is_read format.S32be, true) ∷
+    (format_name format.RawVideo, [], format.RawVideo, is_read format.RawVideo, true) ∷
     (format_name format.FrameHash, [], format.FrameHash, is_read format.FrameHash, true) ∷
     (format_name format.FrameMd5, [], format.FrameMd5, is_read format.FrameMd5, true) ∷
     (format_name format.FrameCrc, [], format.FrameCrc, is_read format.FrameCrc, true) ∷
@@ -77,6 +89,15 @@ found format.Wav = (codes ".wav", refl)
 found format.Au = (codes ".au", refl)
 found format.Flac = (codes ".flac", refl)
 found format.Y4m = (codes ".y4m", refl)
+found format.U8 = ([], refl)
+found format.S8 = ([], refl)
+found format.S16le = ([], refl)
+found format.S16be = ([], refl)
+found format.S24le = ([], refl)
+found format.S24be = ([], refl)
+found format.S32le = ([], refl)
+found format.S32be = ([], refl)
+found format.RawVideo = ([], refl)
 found format.FrameHash = ([], refl)
 found format.FrameMd5 = ([], refl)
 found format.FrameCrc = ([], refl)
@@ -91,6 +112,15 @@ short_name format.Wav = omega arith
 short_name format.Au = omega arith
 short_name format.Flac = omega arith
 short_name format.Y4m = omega arith
+short_name format.U8 = omega arith
+short_name format.S8 = omega arith
+short_name format.S16le = omega arith
+short_name format.S16be = omega arith
+short_name format.S24le = omega arith
+short_name format.S24be = omega arith
+short_name format.S32le = omega arith
+short_name format.S32be = omega arith
+short_name format.RawVideo = omega arith
 short_name format.FrameHash = omega arith
 short_name format.FrameMd5 = omega arith
 short_name format.FrameCrc = omega arith
@@ -101,14 +131,32 @@ short_name format.Crc = omega arith
 short_name format.Null = omega arith
 
 -- ---- what an output takes: WAV linear PCM with the lowest byte first, unsigned where a sample has one byte and signed else, AU signed
--- linear PCM with the highest byte first, FLAC what is coded so, YUV4MPEG2 pictures, each of one stream; digests any linear PCM and
--- pictures, of up to 16 streams, and so does null
+-- linear PCM with the highest byte first, FLAC what is coded so, YUV4MPEG2 and raw video pictures, a format of samples its own codec,
+-- each of one stream; digests any linear PCM and pictures, of up to 16 streams, and so does null
+
+-- sound that is coded so, and no other
+abbrev pub sound_alone : Coding → SoundTaken
+sound_alone (coding.Pcm form) = PcmOf form
+sound_alone coding.Flac = Nothing
+sound_alone coding.RawVideo = Nothing
+
+abbrev pub samples_alone : Codec → Taken
+samples_alone c = record { sound = sound_alone (coding_of c); pictures = false; codec = c; streams = 1 }
 
 abbrev pub taken_by : FileFormat → Taken
 taken_by format.Wav = record { sound = PcmIn LittleEndian false; pictures = false; codec = codec.PcmS16le; streams = 1 }
 taken_by format.Au = record { sound = PcmIn BigEndian true; pictures = false; codec = codec.PcmS16be; streams = 1 }
 taken_by format.Flac = record { sound = Flac; pictures = false; codec = codec.Flac; streams = 1 }
 taken_by format.Y4m = record { sound = Nothing; pictures = true; codec = codec.PcmS16le; streams = 1 }
+taken_by format.U8 = samples_alone codec.PcmU8
+taken_by format.S8 = samples_alone codec.PcmS8
+taken_by format.S16le = samples_alone codec.PcmS16le
+taken_by format.S16be = samples_alone codec.PcmS16be
+taken_by format.S24le = samples_alone codec.PcmS24le
+taken_by format.S24be = samples_alone codec.PcmS24be
+taken_by format.S32le = samples_alone codec.PcmS32le
+taken_by format.S32be = samples_alone codec.PcmS32be
+taken_by format.RawVideo = record { sound = Nothing; pictures = true; codec = codec.PcmS16le; streams = 1 }
 taken_by format.FrameHash = record { sound = Pcm; pictures = true; codec = codec.PcmS16le; streams = 16 }
 taken_by format.FrameMd5 = record { sound = Pcm; pictures = true; codec = codec.PcmS16le; streams = 16 }
 taken_by format.FrameCrc = record { sound = Pcm; pictures = true; codec = codec.PcmS16le; streams = 16 }
@@ -133,6 +181,7 @@ abbrev pub is_some_sound : SoundTaken → Bool
 is_some_sound Nothing = false
 is_some_sound Pcm = true
 is_some_sound (PcmIn order signed_bytes) = true
+is_some_sound (PcmOf form) = true
 is_some_sound Flac = true
 
 abbrev pub same_order : ByteOrder → ByteOrder → Bool
@@ -140,6 +189,9 @@ same_order LittleEndian LittleEndian = true
 same_order LittleEndian BigEndian = false
 same_order BigEndian LittleEndian = false
 same_order BigEndian BigEndian = true
+
+abbrev pub same_form : PcmForm → PcmForm → Bool
+same_form a b = same_order a.order b.order && depth_bytes a.depth == depth_bytes b.depth && cond a.signed b.signed (not b.signed)
 
 -- samples of this depth are signed so: those of one byte as told, longer ones always
 abbrev pub signed_so : Bool → PcmDepth → Bool → Bool
@@ -158,6 +210,9 @@ takes_coding Pcm coding.RawVideo rate = false
 takes_coding (PcmIn order signed_bytes) (coding.Pcm form) rate = same_order order form.order && signed_so signed_bytes form.depth form.signed
 takes_coding (PcmIn order signed_bytes) coding.Flac rate = false
 takes_coding (PcmIn order signed_bytes) coding.RawVideo rate = false
+takes_coding (PcmOf own) (coding.Pcm form) rate = same_form own form
+takes_coding (PcmOf own) coding.Flac rate = false
+takes_coding (PcmOf own) coding.RawVideo rate = false
 takes_coding Flac (coding.Pcm form) rate = false
 takes_coding Flac coding.Flac rate = nat_le rate 1048575
 takes_coding Flac coding.RawVideo rate = false

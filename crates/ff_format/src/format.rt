@@ -1,6 +1,6 @@
 //! The formats, a row each.
 ghost use Rattle.std.specs.Prelude.{◌≡◌, ◌≤◌};
-ghost use Rattle.ff_format.specs.Formats.{same_order, signed_so};
+ghost use Rattle.ff_format.specs.Formats.{same_order, same_form, signed_so, samples_alone as samples_alone_of};
 
 use ff_frame::{ByteOrder, Codec, Coding, HashKind, PcmDepth, PcmForm};
 
@@ -15,6 +15,24 @@ pub enum FileFormat {
     Flac,
     /// YUV4MPEG2.
     Y4m,
+    /// Samples of one unsigned byte and nothing else, for outputs alone, as the seven that follow.
+    U8,
+    /// Samples of one signed byte.
+    S8,
+    /// Signed samples of two bytes, the lowest first.
+    S16le,
+    /// Signed samples of two bytes, the highest first.
+    S16be,
+    /// Signed samples of three bytes, the lowest first.
+    S24le,
+    /// Signed samples of three bytes, the highest first.
+    S24be,
+    /// Signed samples of four bytes, the lowest first.
+    S32le,
+    /// Signed samples of four bytes, the highest first.
+    S32be,
+    /// Pictures and nothing else, for outputs alone.
+    RawVideo,
     /// Digests of packets, for outputs alone.
     FrameHash,
     /// The same, by MD5 where no digest is asked for.
@@ -35,11 +53,20 @@ pub enum FileFormat {
 
 /// The values of `-f`, each with how the names of such files end (empty where no ending tells). Beside them stands
 /// whether an input and an output may have it.
-pub static FORMATS: [(&'static str, &'static str, FileFormat, bool, bool); 12] = [
+pub static FORMATS: [(&'static str, &'static str, FileFormat, bool, bool); 21] = [
     ("wav", ".wav", FileFormat::Wav, true, true),
     ("au", ".au", FileFormat::Au, true, true),
     ("flac", ".flac", FileFormat::Flac, true, true),
     ("yuv4mpegpipe", ".y4m", FileFormat::Y4m, true, true),
+    ("u8", "", FileFormat::U8, false, true),
+    ("s8", "", FileFormat::S8, false, true),
+    ("s16le", "", FileFormat::S16le, false, true),
+    ("s16be", "", FileFormat::S16be, false, true),
+    ("s24le", "", FileFormat::S24le, false, true),
+    ("s24be", "", FileFormat::S24be, false, true),
+    ("s32le", "", FileFormat::S32le, false, true),
+    ("s32be", "", FileFormat::S32be, false, true),
+    ("rawvideo", "", FileFormat::RawVideo, false, true),
     ("framehash", "", FileFormat::FrameHash, false, true),
     ("framemd5", "", FileFormat::FrameMd5, false, true),
     ("framecrc", "", FileFormat::FrameCrc, false, true),
@@ -62,6 +89,8 @@ pub enum SoundTaken {
         order: ByteOrder,
         signed_bytes: bool,
     },
+    /// Linear PCM of this form alone.
+    PcmOf(PcmForm),
     /// FLAC, of a rate of at most 1,048,575.
     Flac,
 }
@@ -75,7 +104,8 @@ impl SoundTaken {
     {
         match self {
             SoundTaken::Nothing => false,
-            SoundTaken::Pcm | SoundTaken::PcmIn { .. } | SoundTaken::Flac => true,
+            SoundTaken::Pcm | SoundTaken::PcmIn { .. } | SoundTaken::PcmOf(_) | SoundTaken::Flac =>
+                true,
         }
     }
 
@@ -92,6 +122,7 @@ impl SoundTaken {
                 },
                 Coding::Pcm(form),
             ) => is_order(order, form.order) && is_signed_so(form, signed_bytes),
+            (SoundTaken::PcmOf(own), Coding::Pcm(form)) => is_form(own, form),
             (SoundTaken::Flac, Coding::Flac) => rate <= 1_048_575,
             _ => false,
         }
@@ -108,6 +139,13 @@ fn is_order(a: ByteOrder, b: ByteOrder) -> bool
         (ByteOrder::LittleEndian, ByteOrder::BigEndian) => false,
         (ByteOrder::BigEndian, ByteOrder::LittleEndian) => false,
     }
+}
+
+// Whether two forms are one.
+fn is_form(a: PcmForm, b: PcmForm) -> bool
+    ensures { result ≡ same_form a b }
+{
+    is_order(a.order, b.order) && a.depth.bytes() == b.depth.bytes() && a.signed == b.signed
 }
 
 // Whether samples are signed so: those of one byte as told, longer ones always.
@@ -137,12 +175,29 @@ pub struct Taken {
     pub streams: usize,
 }
 
+// Audio of this codec, one stream of it.
+fn samples_alone(codec: Codec) -> Taken
+    ensures { result ≡ samples_alone_of codec }
+{
+    let sound = match codec.coding() {
+        Coding::Pcm(form) => SoundTaken::PcmOf(form),
+        Coding::Flac | Coding::RawVideo => SoundTaken::Nothing,
+    };
+    Taken {
+        sound,
+        pictures: false,
+        codec,
+        streams: 1,
+    }
+}
+
 impl FileFormat {
     ghost use Rattle.ff_format.specs.Formats.{taken_by, default_hash, has_file};
 
     /// What an output of it takes: WAV takes linear PCM with the lowest byte first, unsigned where a sample has one
     /// byte and signed else. AU takes signed linear PCM with the highest byte first. FLAC takes what is coded so,
-    /// YUV4MPEG2 video, each of one stream. Digests and `Null` take any linear PCM and video, of up to 16 streams.
+    /// YUV4MPEG2 and `RawVideo` video, a format of samples its own codec, each of one stream. Digests and `Null` take
+    /// any linear PCM and video, of up to 16 streams.
     pub fn taken(self) -> Taken
         ensures row { result ≡ taken_by self }
         ensures few { result.streams ≤ 16 }
@@ -172,7 +227,15 @@ impl FileFormat {
                 codec: Codec::Flac,
                 streams: 1,
             },
-            FileFormat::Y4m => Taken {
+            FileFormat::U8 => samples_alone(Codec::PcmU8),
+            FileFormat::S8 => samples_alone(Codec::PcmS8),
+            FileFormat::S16le => samples_alone(Codec::PcmS16le),
+            FileFormat::S16be => samples_alone(Codec::PcmS16be),
+            FileFormat::S24le => samples_alone(Codec::PcmS24le),
+            FileFormat::S24be => samples_alone(Codec::PcmS24be),
+            FileFormat::S32le => samples_alone(Codec::PcmS32le),
+            FileFormat::S32be => samples_alone(Codec::PcmS32be),
+            FileFormat::Y4m | FileFormat::RawVideo => Taken {
                 sound: SoundTaken::Nothing,
                 pictures: true,
                 codec: Codec::PcmS16le,

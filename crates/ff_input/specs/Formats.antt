@@ -59,14 +59,7 @@ head_in format.Wav bs = as_found First (wav.head bs)
 head_in format.Y4m bs = as_found Other (as_found First (y4m.head bs))
 head_in format.Flac bs = as_found Other (as_found Other (as_found First (flac.head bs)))
 head_in format.Au bs = as_found Other (as_found Other (as_found Other (au.head bs)))
-head_in format.FrameHash bs = Err (Unsupported 0)
-head_in format.FrameMd5 bs = Err (Unsupported 0)
-head_in format.FrameCrc bs = Err (Unsupported 0)
-head_in format.Hash bs = Err (Unsupported 0)
-head_in format.Md5 bs = Err (Unsupported 0)
-head_in format.StreamHash bs = Err (Unsupported 0)
-head_in format.Crc bs = Err (Unsupported 0)
-head_in format.Null bs = Err (Unsupported 0)
+head_in _ bs = Err (Unsupported 0)
 
 -- what its inputs begin with: `RIFF` or `RF64`, any four bytes and `WAVE`; `YUV4MPEG2` and a space or a line feed; `fLaC`,
 -- or `ID3` where tags come before it; `.snd`

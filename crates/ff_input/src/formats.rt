@@ -79,14 +79,7 @@ pub(crate) fn start_of(format: FileFormat) -> InputWalk
             FlacWalk::new(),
         )))),
         FileFormat::Au => InputWalk::In(OneOf::Other(OneOf::Other(OneOf::Other(AuWalk::new())))),
-        FileFormat::FrameHash
-        | FileFormat::FrameMd5
-        | FileFormat::FrameCrc
-        | FileFormat::Hash
-        | FileFormat::Md5
-        | FileFormat::StreamHash
-        | FileFormat::Crc
-        | FileFormat::Null => InputWalk::Other,
+        _ => InputWalk::Other,
     }
 }
 

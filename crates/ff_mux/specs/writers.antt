@@ -3,4 +3,5 @@ pub mod HashFile
 pub mod CrcFile
 pub mod DigestFiles
 pub mod NullFile
+pub mod RawFile
 pub mod AnyWriters

@@ -22,7 +22,8 @@ pub use flac::{flac_first, flac_last};
 pub use laws::stream_info_is_its_fields;
 pub use put::HashPut;
 pub use writers::{
-    AnyWriter, CrcWriter, FlacWriter, HashWriter, JoinedWriter, NullWriter, StreamsWriter,
-    SumWriter, finished_crcs_are_texts, finished_digests_are_texts, finished_flacs_are_streams,
-    finished_hashes_are_texts, null_writes_nothing, writer_of, written_flacs_are_read_again,
+    AnyWriter, CrcWriter, FlacWriter, HashWriter, JoinedWriter, NullWriter, RawWriter,
+    StreamsWriter, SumWriter, finished_crcs_are_texts, finished_digests_are_texts,
+    finished_flacs_are_streams, finished_hashes_are_texts, finished_raw_is_packets,
+    null_writes_nothing, writer_of, written_flacs_are_read_again,
 };

@@ -12,6 +12,7 @@ use Rattle.ff_mux.specs.writers.DigestFiles.{at_end, DigestsAreTexts}
 use Rattle.ff_mux.specs.writers.FlacFile.{as_long, FlacsAreStreams}
 use Rattle.ff_mux.specs.writers.HashFile.{HashesAreTexts}
 use Rattle.ff_mux.specs.writers.NullFile.{NullWritesNothing}
+use Rattle.ff_mux.specs.writers.RawFile.{RawIsPackets}
 
 eight : (n : ℕ) → 8 + n ≡ suc (suc (suc (suc (suc (suc (suc (suc n)))))))
 eight n = omega arith
@@ -48,3 +49,6 @@ digests_are_texts text totals packets = (
 
 pub null_nothing : NullWritesNothing
 null_nothing totals packets = digests_are_texts (λ ps. []) totals packets
+
+pub raw_packets : RawIsPackets
+raw_packets totals packets = ap Some (append-nil (bytes_in packets))

@@ -1,5 +1,5 @@
 -- The formats that are written, and a writer of any: a line for each.
-use Rattle.std.specs.Prelude.{◌≡◌, ⊤, ℕ, List, length, Option}
+use Rattle.std.specs.Prelude.{◌≡◌, ⊤, ℕ, List, length, Option, refl}
 use Rattle.ff_format.specs.Formats.{taken_by}
 use Rattle.ff_format.specs.Layouts.{Layout, bytes_in}
 use Rattle.ff_format.specs.Outputs.{OutputFormat, WritesTaken, no_layout}
@@ -11,12 +11,13 @@ use Rattle.ff_frame.specs.declared.head.StreamHead.{StreamHead}
 use Rattle.ff_frame.specs.declared.packet.Pkt.{Pkt}
 use Rattle.ff_frame.specs.declared.totals.Totals.{Totals}
 use Rattle.ff_mux.specs.declared.writers.any.AnyWriter.{AnyWriter}
-use Rattle.ff_mux.specs.declared.writers.any.AnyWriter.TheVariants.{Wav, Flac, Y4m, Hash, Crc, Au, Joined, Streams, Sum, Null}
+use Rattle.ff_mux.specs.declared.writers.any.AnyWriter.TheVariants.{Wav, Flac, Y4m, Hash, Crc, Au, Joined, Streams, Sum, Raw, Null}
 use Rattle.ff_mux.specs.writers.CrcFile.{crc_format, crc_layout, crc_writes}
 use Rattle.ff_mux.specs.writers.DigestFiles.{joined_format, joined_layout, joined_writes, joined_writes_md5}
 use Rattle.ff_mux.specs.writers.DigestFiles.{streams_format, streams_layout, streams_writes, sum_format, sum_layout, sum_writes}
 use Rattle.ff_mux.specs.writers.FlacFile.{flac_format, flac_inside, flac_layout, flac_writes}
 use Rattle.ff_mux.specs.writers.NullFile.{null_format, null_writes}
+use Rattle.ff_mux.specs.writers.RawFile.{raw_format, raw_layout, raw_writes}
 use Rattle.ff_mux.specs.writers.HashFile.{hash_format, hash_layout, hash_writes, md5_writes}
 use Rattle.ff_mux.specs.laws.writers.Writers.{flac_head, hash_kind, hash_heads, crc_heads, joined_kind, HasJoined, HasSummed, streams_kind, streams_heads, HasStreams}
 use Rattle.ff_au.specs.Header as au
@@ -31,6 +32,15 @@ format_of format.Wav = wav_format
 format_of format.Au = au_format
 format_of format.Flac = flac_format
 format_of format.Y4m = y4m_format
+format_of format.U8 = raw_format
+format_of format.S8 = raw_format
+format_of format.S16le = raw_format
+format_of format.S16be = raw_format
+format_of format.S24le = raw_format
+format_of format.S24be = raw_format
+format_of format.S32le = raw_format
+format_of format.S32be = raw_format
+format_of format.RawVideo = raw_format
 format_of format.FrameHash = hash_format
 format_of format.FrameMd5 = hash_format
 format_of format.FrameCrc = crc_format
@@ -54,6 +64,15 @@ writes_taken format.Wav = wav_writes
 writes_taken format.Au = au_writes
 writes_taken format.Flac = flac_writes
 writes_taken format.Y4m = y4m_writes
+writes_taken format.U8 = raw_writes (taken_by format.U8) refl
+writes_taken format.S8 = raw_writes (taken_by format.S8) refl
+writes_taken format.S16le = raw_writes (taken_by format.S16le) refl
+writes_taken format.S16be = raw_writes (taken_by format.S16be) refl
+writes_taken format.S24le = raw_writes (taken_by format.S24le) refl
+writes_taken format.S24be = raw_writes (taken_by format.S24be) refl
+writes_taken format.S32le = raw_writes (taken_by format.S32le) refl
+writes_taken format.S32be = raw_writes (taken_by format.S32be) refl
+writes_taken format.RawVideo = raw_writes (taken_by format.RawVideo) refl
 writes_taken format.FrameHash = hash_writes
 writes_taken format.FrameMd5 = md5_writes
 writes_taken format.FrameCrc = crc_writes
@@ -70,6 +89,7 @@ any_layout (Wav put) = wav_layout (written_mode put) (written_head put)
 any_layout (Au put) = au_layout (au.written_head put)
 any_layout (Flac w) = flac_layout (flac_head w)
 any_layout (Y4m w) = y4m_layout (y4m_head w)
+any_layout (Raw w) = raw_layout
 any_layout (Hash w) = hash_layout (hash_kind w) (hash_heads w)
 any_layout (Crc w) = crc_layout (crc_heads w)
 any_layout (Joined w) = joined_layout (joined_kind w)
@@ -82,6 +102,7 @@ any_counts (Wav put) packets = body_size put ≡ length (bytes_in packets)
 any_counts (Au put) packets = au.body_size put ≡ au.size_field (length (bytes_in packets))
 any_counts (Flac w) packets = ⊤
 any_counts (Y4m w) packets = ⊤
+any_counts (Raw w) packets = ⊤
 any_counts (Hash w) packets = ⊤
 any_counts (Crc w) packets = ⊤
 any_counts (Joined w) packets = HasJoined w packets
@@ -94,6 +115,7 @@ any_inside (Wav put) n totals = wav_inside (written_mode put) (written_head put)
 any_inside (Au put) n totals = au_inside (au.written_head put) n
 any_inside (Flac w) n totals = flac_inside (flac_head w) totals
 any_inside (Y4m w) n totals = tt
+any_inside (Raw w) n totals = tt
 any_inside (Hash w) n totals = tt
 any_inside (Crc w) n totals = tt
 any_inside (Joined w) n totals = tt

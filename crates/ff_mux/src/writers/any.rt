@@ -7,6 +7,7 @@ use crate::writers::flac::FlacWriter;
 use crate::writers::frame_crc::CrcWriter;
 use crate::writers::frame_hash::HashWriter;
 use crate::writers::null::NullWriter;
+use crate::writers::raw::RawWriter;
 use ff_au::AuPut;
 use ff_format::{FileFormat, OutputOptions, Patch, TooLarge, Writer};
 use ff_frame::{Pkt, StreamHead, Totals};
@@ -25,6 +26,8 @@ pub enum AnyWriter {
     Flac(FlacWriter),
     /// YUV4MPEG2.
     Y4m(Y4mWriter),
+    /// Samples or pictures alone.
+    Raw(RawWriter),
     /// Digests.
     Hash(HashWriter),
     /// Adler-32 sums.
@@ -55,6 +58,15 @@ pub fn writer_of(
         FileFormat::Au => Ok(AnyWriter::Au(AuPut::new(alloc, &heads[0]))),
         FileFormat::Flac => Ok(AnyWriter::Flac(FlacWriter::new(alloc, heads[0]))),
         FileFormat::Y4m => Ok(AnyWriter::Y4m(Y4mWriter::new(alloc, heads[0]))),
+        FileFormat::U8
+        | FileFormat::S8
+        | FileFormat::S16le
+        | FileFormat::S16be
+        | FileFormat::S24le
+        | FileFormat::S24be
+        | FileFormat::S32le
+        | FileFormat::S32be
+        | FileFormat::RawVideo => Ok(AnyWriter::Raw(RawWriter::new(alloc))),
         FileFormat::FrameHash | FileFormat::FrameMd5 => {
             let heads = Vec::from_slice(alloc, heads)?;
             Ok(AnyWriter::Hash(HashWriter::new(alloc, options.hash, heads)))
@@ -88,6 +100,7 @@ impl Writer for AnyWriter {
             AnyWriter::Au(put) => Writer::first(put),
             AnyWriter::Flac(writer) => writer.first(),
             AnyWriter::Y4m(writer) => writer.first(),
+            AnyWriter::Raw(writer) => writer.first(),
             AnyWriter::Hash(writer) => writer.first(),
             AnyWriter::Crc(writer) => writer.first(),
             AnyWriter::Joined(writer) => writer.first(),
@@ -103,6 +116,7 @@ impl Writer for AnyWriter {
             AnyWriter::Au(put) => put.text(stream, packet),
             AnyWriter::Flac(writer) => writer.text(stream, packet),
             AnyWriter::Y4m(writer) => writer.text(stream, packet),
+            AnyWriter::Raw(writer) => writer.text(stream, packet),
             AnyWriter::Hash(writer) => writer.text(stream, packet),
             AnyWriter::Crc(writer) => writer.text(stream, packet),
             AnyWriter::Joined(writer) => writer.text(stream, packet),
@@ -118,6 +132,7 @@ impl Writer for AnyWriter {
             AnyWriter::Au(put) => Writer::add(put, stream, packet),
             AnyWriter::Flac(writer) => writer.add(stream, packet),
             AnyWriter::Y4m(writer) => writer.add(stream, packet),
+            AnyWriter::Raw(writer) => writer.add(stream, packet),
             AnyWriter::Hash(writer) => writer.add(stream, packet),
             AnyWriter::Crc(writer) => writer.add(stream, packet),
             AnyWriter::Joined(writer) => writer.add(stream, packet),
@@ -133,6 +148,7 @@ impl Writer for AnyWriter {
             AnyWriter::Au(put) => put.tail(alloc),
             AnyWriter::Flac(writer) => writer.tail(alloc),
             AnyWriter::Y4m(writer) => writer.tail(alloc),
+            AnyWriter::Raw(writer) => writer.tail(alloc),
             AnyWriter::Hash(writer) => writer.tail(alloc),
             AnyWriter::Crc(writer) => writer.tail(alloc),
             AnyWriter::Joined(writer) => writer.tail(alloc),
@@ -148,6 +164,7 @@ impl Writer for AnyWriter {
             AnyWriter::Au(put) => Writer::last(put, totals),
             AnyWriter::Flac(writer) => writer.last(totals),
             AnyWriter::Y4m(writer) => writer.last(totals),
+            AnyWriter::Raw(writer) => writer.last(totals),
             AnyWriter::Hash(writer) => writer.last(totals),
             AnyWriter::Crc(writer) => writer.last(totals),
             AnyWriter::Joined(writer) => writer.last(totals),

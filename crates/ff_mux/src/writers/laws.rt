@@ -5,6 +5,7 @@ ghost use Rattle.ff_mux.specs.writers.FlacFile.{FlacsAreStreams};
 ghost use Rattle.ff_mux.specs.laws.writers.FlacWritten.{FieldsAreRead, FilesAreRead, HeadersAreRead};
 ghost use Rattle.ff_mux.specs.writers.HashFile.{HashesAreTexts};
 ghost use Rattle.ff_mux.specs.writers.NullFile.{NullWritesNothing};
+ghost use Rattle.ff_mux.specs.writers.RawFile.{RawIsPackets};
 
 /// The finished file of a FLAC stream is the mark, STREAMINFO with the totals, where they were told, and the packets' bytes.
 pub fn finished_flacs_are_streams()
@@ -33,6 +34,11 @@ pub fn finished_crcs_are_texts()
 /// whole nothing is written.
 pub fn finished_digests_are_texts()
     ensures { DigestsAreTexts }
+{}
+
+/// The finished file of a raw format is the bytes of the packets one after another.
+pub fn finished_raw_is_packets()
+    ensures { RawIsPackets }
 {}
 
 /// Of no packets is anything written in the format null.

@@ -1,5 +1,8 @@
-use Rattle.std.proofs.Common.{[], refl, lit≤, inl, inr}
-use Rattle.ff_input.specs.Formats.{input_head}
+use Rattle.std.proofs.Common.{◌≡◌, ℕ, List, [], Err, refl, lit≤}
+use Rattle.ff_format.specs.declared.format.FileFormat.{FileFormat}
+use Rattle.ff_format.specs.declared.format.FileFormat.TheVariants as format
+use Rattle.ff_reader.specs.declared.fault.HeadFault.TheVariants.{Unsupported}
+use Rattle.ff_input.specs.Formats.{head_in, input_head}
 use Rattle.ff_input.proofs.formats.start_of.Goals as goal
 
 pub returns-in-Wav : goal.returns-in-Wav
@@ -18,15 +21,16 @@ pub returns-in-Au : goal.returns-in-Au
 unfolding input_head
 returns-in-Au c = rw c.in-Au.is (λ more. refl, ([], [], refl, (lit≤ tt, c.new-in-Au.ensures)))
 
-pub returns-in-FrameHash : goal.returns-in-FrameHash
+-- a format that isn't read
+not_read : (f : FileFormat) → (f ≡ format.Wav → ⊥) → (f ≡ format.Y4m → ⊥) → (f ≡ format.Flac → ⊥) → (f ≡ format.Au → ⊥) → (bs : List ℕ)
+    → head_in f bs ≡ Err (Unsupported 0)
+not_read format.Wav wav y4m flac au bs = absurd (wav refl)
+not_read format.Y4m wav y4m flac au bs = absurd (y4m refl)
+not_read format.Flac wav y4m flac au bs = absurd (flac refl)
+not_read format.Au wav y4m flac au bs = absurd (au refl)
+not_read other wav y4m flac au bs = refl
+
+pub returns-in_default : goal.returns-in_default
 unfolding input_head
-returns-in-FrameHash c = elim c.in-FrameHash.is [
-  | inl e ↦ rw e (λ more. refl)
-  | inr (inl e) ↦ rw e (λ more. refl)
-  | inr (inr (inl e)) ↦ rw e (λ more. refl)
-  | inr (inr (inr (inl e))) ↦ rw e (λ more. refl)
-  | inr (inr (inr (inr (inl e)))) ↦ rw e (λ more. refl)
-  | inr (inr (inr (inr (inr (inl e))))) ↦ rw e (λ more. refl)
-  | inr (inr (inr (inr (inr (inr (inl e)))))) ↦ rw e (λ more. refl)
-  | inr (inr (inr (inr (inr (inr (inr e)))))) ↦ rw e (λ more. refl)
-]
+returns-in_default c = λ more.
+    not_read c.args.format c.in_default.not-Wav c.in_default.not-Y4m c.in_default.not-Flac c.in_default.not-Au more

@@ -27,7 +27,7 @@ use Rattle.ff_pcm.specs.Frames.{IsPcmHead}
 use Rattle.ff_plan_layout.specs.Streams.{audio_codec, coded_bits, most_streams, packed_as, packed_bits, takes_head, takes_kind, takes_sound as sound_taken}
 use Rattle.ff_pcm.specs.body.Packets as pcm
 use Rattle.ff_format.specs.declared.format.SoundTaken.{SoundTaken}
-use Rattle.ff_format.specs.declared.format.SoundTaken.TheVariants.{Nothing, Pcm, PcmIn, Flac}
+use Rattle.ff_format.specs.declared.format.SoundTaken.TheVariants.{Nothing, Pcm, PcmIn, PcmOf, Flac}
 use Rattle.ff_words.specs.declared.job.OutputJob.{OutputJob}
 use Rattle.ff_run.specs.build.Parts.{CanEncodeTo, is_flac, is_flac_coded}
 
@@ -105,12 +105,14 @@ flac_rate : (s : SoundTaken) (rate : ℕ) → takes_sound s codec.Flac rate ≡ 
 flac_rate Nothing rate e = cc
 flac_rate Pcm rate e = cc
 flac_rate (PcmIn order signed_bytes) rate e = cc
+flac_rate (PcmOf form) rate e = cc
 flac_rate Flac rate e = grind (arith, nat_tests)
 
 no_pictures : (s : SoundTaken) (rate : ℕ) → takes_sound s codec.RawVideo rate ≡ true → ⊥
 no_pictures Nothing rate e = cc
 no_pictures Pcm rate e = cc
 no_pictures (PcmIn order signed_bytes) rate e = cc
+no_pictures (PcmOf form) rate e = cc
 no_pictures Flac rate e = cc
 
 encode_sound : (s : SoundTaken) (c : Codec) (tb : Fraction) (rate bits channels : ℕ) (from : Codec) → IsBase tb

@@ -15,5 +15,8 @@ returns-in-Hash-clause-too_large c = rw c.in-Hash.is c.add-in-Hash.ensures.too_l
 pub returns-in-Crc-clause-too_large : goal.returns-in-Crc-clause-too_large
 returns-in-Crc-clause-too_large c = rw c.in-Crc.is c.add-in-Crc.ensures.too_large
 
+pub returns-in-Raw-clause-too_large : goal.returns-in-Raw-clause-too_large
+returns-in-Raw-clause-too_large c = rw c.in-Raw.is c.add-in-Raw.ensures.too_large
+
 pub returns-in-Null-clause-too_large : goal.returns-in-Null-clause-too_large
 returns-in-Null-clause-too_large c = rw c.in-Null.is c.add-in-Null.ensures.too_large

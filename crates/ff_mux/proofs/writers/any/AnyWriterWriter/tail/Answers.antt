@@ -21,5 +21,8 @@ returns-in-Streams c = rw c.in-Streams.is c.tail-in-Streams.ensures
 pub returns-in-Sum : goal.returns-in-Sum
 returns-in-Sum c = rw c.in-Sum.is c.tail-in-Sum.ensures
 
+pub returns-in-Raw : goal.returns-in-Raw
+returns-in-Raw c = rw c.in-Raw.is c.tail-in-Raw.ensures
+
 pub returns-in-Null : goal.returns-in-Null
 returns-in-Null c = rw c.in-Null.is c.tail-in-Null.ensures
