@@ -6,11 +6,11 @@ use Rattle.ff_frame.specs.declared.config.ConfigError.{ConfigError}
 use Rattle.ff_frame.specs.declared.config.ConfigError.TheVariants.{Pads, Kind, Mismatch}
 use Rattle.ff_frame.specs.declared.head.StreamHead.{StreamHead}
 use Rattle.ff_lang.specs.declared.graph.Arg.{Arg}
-use Rattle.ff_filter.specs.Options.{AreRead}
+use Rattle.ff_filter.specs.Options.{AreRead, Checked}
 use Rattle.ff_concat.specs.declared.settings.Asked.{Asked}
 use Rattle.ff_concat.specs.declared.settings.ConcatSettings.{ConcatSettings}
 use Rattle.ff_concat.specs.Arguments.{asked, streams_of, concat_manual, concat_start}
-use Rattle.ff_concat.specs.ConcatOptions.{are_of_kinds, AreAlike, AreJoined, Checked, AfterRead, IsConcat}
+use Rattle.ff_concat.specs.ConcatOptions.{are_of_kinds, AreAlike, AreJoined, AfterRead, IsConcat}
 use Rattle.ff_concat.specs.Heads.{all_alike}
 use Rattle.ff_concat.specs.Pads.{inputs_of}
 use Rattle.ff_concat.specs.Configured.{joined_as, after_read, concat_by}

@@ -5,13 +5,13 @@ use Rattle.ff_frame.specs.declared.config.ConfigError.{ConfigError}
 use Rattle.ff_frame.specs.declared.config.ConfigError.TheVariants.{Pads, Kind, NoMemory}
 use Rattle.ff_frame.specs.declared.head.StreamHead.{StreamHead}
 use Rattle.ff_lang.specs.declared.graph.Arg.{Arg}
-use Rattle.ff_filter.specs.Options.{AreRead, IsRefused}
+use Rattle.ff_filter.specs.Options.{AreRead, IsRefused, Checked}
 use Rattle.ff_filter.specs.Views.{View}
 use Rattle.ff_filter.specs.laws.spread.Many.{AreMade}
 use Rattle.ff_concat.specs.declared.settings.Asked.{Asked}
 use Rattle.ff_concat.specs.declared.settings.ConcatSettings.{ConcatSettings}
 use Rattle.ff_concat.specs.Arguments.{one_if, asked, concat_manual, concat_start}
-use Rattle.ff_concat.specs.ConcatOptions.{AreJoined, Checked, AfterRead, are_of_kinds, IsConcat, start_view, start_heads}
+use Rattle.ff_concat.specs.ConcatOptions.{AreJoined, AfterRead, are_of_kinds, IsConcat, start_view, start_heads}
 use Rattle.ff_concat.specs.Pads.{inputs_of}
 
 checked : {X : Type 0} (b : Bool) (e : ConfigError) (next : Result X ConfigError → Type 0) (r : Result X ConfigError) → b ≡ true → next r → Checked b e next r

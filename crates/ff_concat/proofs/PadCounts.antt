@@ -5,9 +5,9 @@ use Rattle.std.specs.Prelude.{IfSome, ◌==◌, ◌&&◌}
 use Rattle.std.proofs.lemmas.Bool.Decides.{nat_tests}
 use Rattle.ff_time.specs.Digits.{number_of}
 use Rattle.ff_lang.specs.declared.graph.Arg.{Arg}
-use Rattle.ff_filter.specs.Options.{option_of}
+use Rattle.ff_filter.specs.Options.{option_of, number_between, ranged, gives}
 use Rattle.ff_concat.specs.declared.settings.Asked.{Asked}
-use Rattle.ff_concat.specs.Arguments.{number_between, ranged, one_if, too_many, concat_manual, gives, said_from, said, ends_with_n}
+use Rattle.ff_concat.specs.Arguments.{one_if, too_many, concat_manual, said_from, said, ends_with_n}
 use Rattle.ff_concat.specs.Arguments.{or_two, video_alone, asked_of, asked_by, asked, streams_of}
 use Rattle.ff_concat.specs.Pads.{inputs_of}
 

@@ -1,18 +1,9 @@
 -- The arguments of `concat`, and what they ask for.
 use Rattle.std.specs.Prelude.{◌≡◌, ℕ, ◌+◌, ◌-◌, ◌*◌, ◌==◌, nat_le, nat_lt, ◌&&◌, Bool, true, false, ◌||◌, not, cond, is_some, Option, Some, None, List, [], ◌∷◌, codes}
-use Rattle.ff_time.specs.Digits.{number_of}
 use Rattle.ff_lang.specs.declared.graph.Arg.{Arg}
-use Rattle.ff_filter.specs.Options.{Manual, option_of}
+use Rattle.ff_filter.specs.Options.{Manual, option_of, ranged, gives}
 use Rattle.ff_concat.specs.declared.settings.Asked.{Asked}
 use Rattle.ff_concat.specs.declared.settings.ConcatSettings.{ConcatSettings}
-
--- a whole number of 1 to 5 digits from lo to hi
-abbrev pub number_between : ℕ → ℕ → Option ℕ → Option ℕ
-number_between lo hi None = None
-number_between lo hi (Some n) = cond (nat_le lo n && nat_le n hi) (Some n) None
-
-abbrev pub ranged : ℕ → ℕ → List ℕ → Option ℕ
-ranged lo hi text = number_between lo hi (number_of 5 text)
 
 abbrev pub one_if : Bool → ℕ
 one_if b = cond b 1 0
@@ -50,11 +41,6 @@ concat_manual = record {
   Sets = λ s option value t. concat_set s option value ≡ Some t;
 }
 
--- the argument gives the option of this number
-abbrev pub gives : ℕ → Option ℕ → Bool
-gives option None = false
-gives option (Some o) = o == option
-
 -- What the last of these arguments says that gives the option: a number from lo to hi, or none such. Where none gives it, it
 -- is n.
 abbrev pub said_from : ℕ → ℕ → ℕ → Bool → ℕ → Option ℕ → List Arg → Option ℕ
@@ -65,11 +51,12 @@ said_from option lo hi keyed place n (a ∷ others) =
 abbrev pub said : ℕ → ℕ → ℕ → ℕ → List Arg → Option ℕ
 said option lo hi otherwise args = said_from option lo hi false 0 (Some otherwise) args
 
--- how many of these arguments give an option from this number on
+-- the argument gives an option from this number on
 abbrev pub from_number : ℕ → Option ℕ → Bool
 from_number least None = false
 from_number least (Some o) = nat_le least o
 
+-- how many of these arguments give an option from this number on
 abbrev pub times_from : ℕ → Bool → ℕ → List Arg → ℕ
 times_from least keyed place [] = 0
 times_from least keyed place (x ∷ others) =

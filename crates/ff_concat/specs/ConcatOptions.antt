@@ -10,7 +10,7 @@ use Rattle.ff_stream.specs.Ports.{nothing}
 use Rattle.ff_stream.specs.Within.{within, passes_limits}
 use Rattle.ff_lang.specs.declared.graph.Arg.{Arg}
 use Rattle.ff_filter.specs.Joins.{Flow, Ports}
-use Rattle.ff_filter.specs.Options.{AreRead, is_video, is_sound}
+use Rattle.ff_filter.specs.Options.{AreRead, Checked, is_video, is_sound}
 use Rattle.ff_filter.specs.Views.{View}
 use Rattle.ff_concat.specs.declared.settings.ConcatSettings.{ConcatSettings}
 use Rattle.ff_concat.specs.declared.settings.Asked.{Asked}
@@ -34,10 +34,6 @@ AreAlike w hs = (i : ℕ) (d : StreamHead) → i + w < length hs → slice_index
 -- the heads of a segment, and how many segments there are; refused where the heads of two segments differ
 abbrev pub AreJoined : Asked → List StreamHead → Result (List StreamHead × ℕ) ConfigError → Type 0
 AreJoined a hs r = (AreAlike (streams_of a) hs × (r ≡ Ok (take (streams_of a) hs, a.segments))) ⊎ ((AreAlike (streams_of a) hs → ⊥) × (r ≡ Err Mismatch))
-
-abbrev pub Checked : {X : Type 0} → Bool → ConfigError → (Result X ConfigError → Type 0) → Result X ConfigError → Type 0
-Checked true e next r = next r
-Checked false e next r = r ≡ Err e
 
 abbrev pub AfterRead : {X : Type 0} → (Result X ConfigError → Type 0) → Result ConcatSettings ConfigError → Result X ConfigError → Type 0
 AfterRead next (Ok s) r = next r

@@ -1,28 +1,10 @@
 //! The arguments of `concat`.
-ghost use Rattle.std.specs.Prelude.{◌≡◌, ◌≤◌, ◌+◌, IfSome, Some};
-ghost use Rattle.ff_concat.specs.Arguments.{ranged as ranged_of, one_if, too_many as too_many_of, allowed as allowed_of};
+ghost use Rattle.std.specs.Prelude.{◌≡◌, ◌≤◌, ◌+◌, Some};
+ghost use Rattle.ff_concat.specs.Arguments.{one_if, too_many as too_many_of, allowed as allowed_of};
 ghost use Rattle.ff_concat.specs.Arguments.{set_segments, set_video, set_audio, concat_set};
 
 use crate::settings::ConcatSettings;
-use ff_filter::Settings;
-use ff_time::read_number;
-
-// A whole number of 1 to 5 digits from `least` to `most`.
-pub(crate) fn ranged(text: &str, least: u64, most: u64) -> Option<u64>
-    ensures value { result ≡ ranged_of least most text.now }
-    ensures within { IfSome result (λ n. (least ≤ n) × (n ≤ most)) }
-{
-    match read_number(text, 5) {
-        None => None,
-        Some(number) => {
-            if least <= number && number <= most {
-                Some(number)
-            } else {
-                None
-            }
-        }
-    }
-}
+use ff_filter::{Settings, ranged};
 
 // How many streams a segment has.
 pub(crate) fn streams(video: bool, audio: bool) -> usize

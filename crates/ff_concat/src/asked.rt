@@ -1,13 +1,13 @@
 //! What the arguments of `concat` ask for.
 ghost use Rattle.std.specs.Prelude.{◌≡◌, ◌≤◌, ◌||◌, true, false, IfSome};
-ghost use Rattle.ff_filter.specs.Options.{option_of as option_at};
-ghost use Rattle.ff_concat.specs.Arguments.{concat_manual, concat_start, gives, from_number, video_alone as alone, asked_of as asked_in};
+ghost use Rattle.ff_filter.specs.Options.{option_of as option_at, gives};
+ghost use Rattle.ff_concat.specs.Arguments.{concat_manual, concat_start, from_number, video_alone as alone, asked_of as asked_in};
 ghost use Rattle.ff_concat.specs.Arguments.{said as said_of, times_from, ends_with_n as ends_with, asked as asked_all, asked_by as asked_for, streams_of};
 ghost use Rattle.ff_concat.specs.Pads.{inputs_of, takes_audio as audio_at};
 
-use crate::arguments::{ranged, streams, too_many};
+use crate::arguments::{streams, too_many};
 use crate::settings::{Asked, ConcatSettings};
-use ff_filter::option_of;
+use ff_filter::{option_of, ranged};
 use ff_lang::Arg;
 
 // Whether an argument gives the option of this number.

@@ -1,6 +1,5 @@
 //! The items of a segment that wait to be given.
-ghost use Rattle.std.specs.Prelude.{◌≡◌, ◌++◌, ◌∷◌, [], true, false, OnOk, OnErr, IfErr, IfSome, IfNone, IsNone};
-ghost use Rattle.ff_stream.specs.declared.item.Item.{Item};
+ghost use Rattle.std.specs.Prelude.{◌≡◌, ◌++◌, ◌∷◌, [], true, false, OnOk, OnErr, IfErr, IfSome, IsNone};
 ghost use Rattle.ff_filter.specs.Views.{closes, none_closes};
 
 use ff_stream::{Item, Refused};

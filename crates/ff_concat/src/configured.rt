@@ -1,5 +1,5 @@
 //! `concat` by its arguments and the heads of its inputs.
-ghost use Rattle.std.specs.Prelude.{◌≡◌, ◌≤◌, ◌*◌, ◌||◌, ◌&&◌, ◌∷◌, [], IfOk, IfErr, cond, length, true, false};
+ghost use Rattle.std.specs.Prelude.{◌≡◌, ◌≤◌, ◌*◌, ◌||◌, ◌∷◌, [], IfOk, IfErr, cond, length, true, false};
 ghost use Rattle.ff_frame.specs.declared.config.ConfigError.TheVariants.{NoMemory};
 ghost use Rattle.ff_filter.specs.Options.{is_video, is_sound};
 ghost use Rattle.ff_concat.specs.Arguments.{streams_of};

@@ -1,5 +1,5 @@
 //! How an output gives its items.
-ghost use Rattle.std.specs.Prelude.{◌≡◌, ◌<◌, ◌≤◌, ◌+◌, ◌*◌, ◌^◌, length, true, false, Ok, Some, None, OnErr, [], ◌∷◌};
+ghost use Rattle.std.specs.Prelude.{◌≡◌, ◌<◌, ◌+◌, ◌*◌, ◌^◌, length, true, false, Ok, Some, None, OnErr, [], ◌∷◌};
 ghost use Rattle.std.specs.List.{All};
 ghost use Rattle.ff_stream.specs.declared.item.Item.{Item as AnItem};
 ghost use Rattle.ff_filter.specs.Options.{is_sound};

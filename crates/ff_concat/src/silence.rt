@@ -1,5 +1,5 @@
 //! Audio of zeros.
-ghost use Rattle.std.specs.Prelude.{◌≡◌, ◌<◌, ◌≤◌, ◌*◌, ◌^◌, IfOk, replicate, pos};
+ghost use Rattle.std.specs.Prelude.{◌≡◌, ◌<◌, ◌≤◌, ◌^◌, IfOk, replicate, pos};
 ghost use Rattle.ff_concat.specs.Silences.{silent_frame as silent_frame_of};
 
 use ff_frame::{AFrame, Samples};

@@ -1,9 +1,8 @@
 //! How an output stands of which nothing waits in its current segment.
-ghost use Rattle.std.specs.Prelude.{◌&&◌, ◌≡◌, ◌<◌, ◌≤◌, ◌+◌, ◌*◌, length, true, false, [], List, ℕ};
+ghost use Rattle.std.specs.Prelude.{◌&&◌, ◌≡◌, ◌<◌, ◌+◌, ◌*◌, length, true, false, []};
 ghost use Rattle.ff_filter.specs.Options.{is_video};
-ghost use Rattle.ff_concat.specs.declared.backlog.Backlog.{Backlog as ABacklog};
 ghost use Rattle.ff_concat.specs.Silences.{filled};
-ghost use Rattle.ff_concat.specs.laws.Tracks.{queue_at, closed_from, is_done};
+ghost use Rattle.ff_concat.specs.laws.Tracks.{closed_from, is_done};
 ghost use Rattle.ff_concat.specs.laws.Standing.{lost_from, StandsAs, IsPassed};
 
 use crate::backlog::Backlog;

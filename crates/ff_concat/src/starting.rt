@@ -1,6 +1,5 @@
 //! The machine of `concat` to which nothing came.
-ghost use Rattle.std.specs.Prelude.{◌≡◌, ◌<◌, ◌≤◌, ◌*◌, ◌^◌, ◌∷◌, [], IfOk, IfErr, length};
-ghost use Rattle.ff_frame.specs.declared.config.ConfigError.TheVariants.{NoMemory};
+ghost use Rattle.std.specs.Prelude.{◌≡◌, ◌<◌, ◌≤◌, ◌^◌, ◌∷◌, [], IfOk};
 ghost use Rattle.ff_frame.specs.Heads.{base_of_head};
 ghost use Rattle.ff_concat.specs.ConcatOptions.{start_view};
 ghost use Rattle.ff_concat.specs.laws.Fresh.{AreEmpty, AreNew, IsFresh};

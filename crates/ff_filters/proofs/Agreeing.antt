@@ -8,7 +8,7 @@ use Rattle.ff_frame.specs.declared.head.StreamHead.{StreamHead}
 use Rattle.ff_frame.specs.declared.head.StreamHead.TheVariants.{Audio, Video}
 use Rattle.ff_frame.specs.Heads.{base_of_head}
 use Rattle.ff_lang.specs.declared.graph.Arg.{Arg}
-use Rattle.ff_filter.specs.Options.{is_sound, is_video, Manual, AreRead, IsConfigured}
+use Rattle.ff_filter.specs.Options.{is_sound, is_video, Manual, AreRead, IsConfigured, Checked}
 use Rattle.ff_filter.specs.declared.lasting.settings.TrimSettings.{TrimSettings}
 use Rattle.ff_filter.specs.declared.range.Range.{Range}
 use Rattle.ff_filter.specs.Ranges.{IsCeiling}
@@ -35,7 +35,7 @@ use Rattle.ff_concat.specs.Arguments.{concat_manual, concat_set, concat_start}
 use Rattle.ff_concat.specs.ConcatOptions.{IsConcat}
 use Rattle.ff_concat.proofs.Agreeing.{concat_is as segments_are}
 use Rattle.ff_joins.specs.JoinOptions.{channels_in, join_manual, inputs_said, is_like, AreAlike, IsJoin}
-use Rattle.ff_joins.specs.Arguments.{Checked, GoesOn, AfterRead as AfterArgs, each_head}
+use Rattle.ff_joins.specs.Arguments.{GoesOn, AfterRead as AfterArgs, each_head}
 use Rattle.ff_filters.specs.Ticks.{TrimTimes, set_trim, ticks_at, in_bits, in_bits-near, range_in}
 use Rattle.ff_filters.specs.ReadBy.{and_then, unless, read_by, configured_by}
 use Rattle.ff_filters.specs.SetBy.{set_none, set_expr, set_crop, set_pad, set_fps, set_split, set_stack, set_join}

@@ -9,13 +9,12 @@ use Rattle.ff_time.specs.Fraction.{Fraction}
 use Rattle.ff_time.specs.Rescale.{Reaches}
 use Rattle.ff_time.proofs.Ceiling.{IsCeiling-div_ceil, Reaches-ceiling, Reaches-least}
 use Rattle.ff_stream.specs.Times.{ticks}
-use Rattle.ff_filter.specs.Options.{IsTime}
+use Rattle.ff_filter.specs.Options.{IsTime, number_between}
 use Rattle.ff_filter.specs.declared.range.RangeSettings.{RangeSettings}
 use Rattle.ff_filter.specs.declared.range.Range.{Range}
 use Rattle.ff_filter.specs.declared.lasting.settings.TrimSettings.{TrimSettings}
 use Rattle.ff_filter.specs.Ranges.{SetsRange, IsCeiling, IsStop, IsRange}
 use Rattle.ff_filter.specs.lasting.Lastings.{SetsTrim, trim_manual, range_same}
-use Rattle.ff_joins.specs.Arguments.{number_between}
 use Rattle.ff_filters.specs.Texts.{duration_of, time_of}
 use Rattle.ff_filters.specs.Ticks.{Times, set_times, TrimTimes, set_trim, ticks_at, in_bits, in_bits-near, range_in}
 use Rattle.ff_filters.proofs.Durations.{duration_in, duration_out}

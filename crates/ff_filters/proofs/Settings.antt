@@ -6,12 +6,12 @@ use Rattle.std.proofs.lemmas.Bool.Decides.{nat_tests}
 use Rattle.ff_time.specs.Digits.{number_of, ratio_of}
 use Rattle.ff_time.specs.Fraction.{Fraction, IsBase}
 use Rattle.ff_lang.specs.declared.graph.Arg.{Arg}
-use Rattle.ff_filter.specs.Options.{Manual, option_of}
+use Rattle.ff_filter.specs.Options.{Manual, option_of, ranged, gives}
 use Rattle.ff_filter.specs.declared.spread.copies.SplitSettings.{SplitSettings}
 use Rattle.ff_filter.specs.spread.Splits.{split_manual}
 use Rattle.ff_vfilter.specs.declared.fps.FpsSettings.{FpsSettings}
 use Rattle.ff_fsync.specs.stacks.Options.{taken_inputs, inputs_of as stack_inputs, gives_inputs, counted}
-use Rattle.ff_joins.specs.Arguments.{ranged, or_else, gives, last_from}
+use Rattle.ff_joins.specs.Arguments.{or_else, last_from}
 use Rattle.ff_filters.specs.ReadBy.{taken_by, given_by, read_by}
 use Rattle.ff_filters.specs.SetBy.{set_fps, set_split}
 use Rattle.ff_filters.specs.Texts.{on_some, base_of, rate_base}

@@ -21,7 +21,7 @@ use Rattle.ff_fsync.specs.stacks.Options.{SetsStack, stack_manual}
 use Rattle.ff_joins.specs.declared.join_options.JoinSettings.{JoinSettings}
 use Rattle.ff_joins.specs.JoinOptions.{join_manual}
 use Rattle.ff_concat.specs.Arguments.{concat_manual, concat_set}
-use Rattle.ff_joins.specs.Arguments.{number_between, ranged}
+use Rattle.ff_filter.specs.Options.{number_between, ranged}
 use Rattle.ff_filters.specs.Texts.{on_some, base_of, rate_base}
 use Rattle.ff_filters.specs.SetBy.{set_none, set_expr, set_crop, set_pad, set_fps, set_split, set_stack, set_join}
 use Rattle.ff_filters.proofs.LowestTerms.{base_in, base_out}

@@ -5,7 +5,7 @@ use Rattle.ff_time.specs.Fraction.{Fraction}
 use Rattle.ff_frame.specs.Sizes.{sides_of}
 use Rattle.ff_frame.specs.declared.config.ConfigError.{ConfigError}
 use Rattle.ff_lang.specs.declared.graph.Arg.{Arg}
-use Rattle.ff_joins.specs.Arguments.{number_between}
+use Rattle.ff_filter.specs.Options.{number_between}
 use Rattle.ff_source.specs.declared.color.Color as colors
 use Rattle.ff_source.specs.declared.color_options.ColorSettings.{ColorSettings}
 use Rattle.ff_source.specs.declared.silence_options.SilenceSettings.{SilenceSettings}

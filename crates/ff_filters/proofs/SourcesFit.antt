@@ -10,7 +10,7 @@ use Rattle.ff_frame.specs.declared.config.ConfigError.TheVariants.{BadOption, Ba
 use Rattle.ff_frame.specs.Video.{IsSide}
 use Rattle.ff_lang.specs.declared.graph.Arg.{Arg}
 use Rattle.ff_filter.specs.Ranges.{IsCeiling}
-use Rattle.ff_joins.specs.Arguments.{number_between}
+use Rattle.ff_filter.specs.Options.{number_between}
 use Rattle.ff_source.specs.declared.color.Color as colors
 use Rattle.ff_source.specs.declared.made.Made.{Made}
 use Rattle.ff_source.specs.declared.made.Made.TheVariants.{Pictures, Silence}

@@ -11,7 +11,7 @@ use Rattle.ff_vfilter.specs.declared.fps.FpsSettings.{FpsSettings}
 use Rattle.ff_vfilter.specs.Sizes.{put}
 use Rattle.ff_fsync.specs.declared.stacks.options.StackSettings.{StackSettings}
 use Rattle.ff_joins.specs.declared.join_options.JoinSettings.{JoinSettings}
-use Rattle.ff_joins.specs.Arguments.{ranged}
+use Rattle.ff_filter.specs.Options.{ranged}
 use Rattle.ff_filters.specs.Texts.{rate_base}
 
 -- there is no option

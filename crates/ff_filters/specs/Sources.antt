@@ -6,7 +6,7 @@ use Rattle.ff_frame.specs.Sizes.{sides_of, is_side}
 use Rattle.ff_frame.specs.declared.config.ConfigError.{ConfigError}
 use Rattle.ff_frame.specs.declared.config.ConfigError.TheVariants.{BadOption, BadSize}
 use Rattle.ff_lang.specs.declared.graph.Arg.{Arg}
-use Rattle.ff_joins.specs.Arguments.{number_between}
+use Rattle.ff_filter.specs.Options.{number_between}
 use Rattle.ff_source.specs.declared.color.Color as colors
 use Rattle.ff_source.specs.declared.color.Color.TheVariants.{Black}
 use Rattle.ff_source.specs.declared.made.Made.{Made}

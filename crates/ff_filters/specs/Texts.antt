@@ -4,7 +4,7 @@ use Rattle.std.specs.Prelude.{Option, Some, None, List, [], ◌∷◌, length}
 use Rattle.ff_time.specs.Digits.{ratio_of}
 use Rattle.ff_time.specs.Fraction.{Fraction}
 use Rattle.ff_time.specs.Reading.{Exact, first, letter_of, next_of, value_of}
-use Rattle.ff_joins.specs.Arguments.{number_between}
+use Rattle.ff_filter.specs.Options.{number_between}
 
 -- f goes on from what is there
 abbrev pub on_some : {A B : Type 0} → (A → Option B) → Option A → Option B

@@ -1,14 +1,10 @@
 -- A frame of the output, and the limits.
-use Rattle.std.proofs.Common.{◌≡◌, ℕ, ◌+◌, Bool, true, false, List, [], ◌∷◌, ◌++◌, cond, refl, ap, sym, ◌∙◌}
+use Rattle.std.proofs.Common.{◌≡◌, ℕ, ◌+◌, Bool, true, false, [], ◌∷◌, cond, refl, ap, sym, ◌∙◌}
 use Rattle.ff_stream.specs.declared.item.Item.{Item}
 use Rattle.ff_stream.specs.declared.item.Item.TheVariants.{Audio, Video, Packet, Trailer, End, Broken}
 use Rattle.ff_stream.specs.Stream.{still_open, broken}
-use Rattle.ff_stream.specs.Times.{end_ticks}
-use Rattle.ff_filter.specs.declared.after.After.{After}
-use Rattle.ff_filter.specs.declared.after.After.TheVariants.{More, Whole, Broke}
-use Rattle.ff_filter.specs.Joins.{Flow, Ports, one, before, before_all, before_all-last, joined}
+use Rattle.ff_filter.specs.Joins.{Flow, one, before, joined}
 use Rattle.ff_filter.specs.Views.{closes}
-use Rattle.ff_filter.specs.Made.{waiting, is_over}
 use Rattle.ff_filter.specs.laws.Runs.{no_more}
 use Rattle.ff_filter.specs.laws.Limits.{limit_step, limited, run_next}
 

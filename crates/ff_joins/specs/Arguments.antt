@@ -1,28 +1,13 @@
 -- Filters whose arguments say how many inputs they have.
-use Rattle.std.specs.Prelude.{◌≡◌, ℕ, ◌+◌, ◌==◌, nat_le, ◌&&◌, Bool, true, false, ◌||◌, cond, is_some, Option, Some, None, List, [], ◌∷◌, Result, Ok}
-use Rattle.std.specs.Prelude.{Err}
-use Rattle.ff_time.specs.Digits.{number_of}
+use Rattle.std.specs.Prelude.{◌≡◌, ℕ, ◌+◌, ◌&&◌, Bool, true, false, ◌||◌, cond, is_some, Option, Some, None, List, [], ◌∷◌, Result, Ok, Err}
 use Rattle.ff_frame.specs.declared.config.ConfigError.{ConfigError}
 use Rattle.ff_frame.specs.declared.head.StreamHead.{StreamHead}
 use Rattle.ff_lang.specs.declared.graph.Arg.{Arg}
-use Rattle.ff_filter.specs.Options.{Manual, option_of, AreRead}
-
--- a whole number of 1 to 5 digits from lo to hi
-abbrev pub number_between : ℕ → ℕ → Option ℕ → Option ℕ
-number_between lo hi None = None
-number_between lo hi (Some n) = cond (nat_le lo n && nat_le n hi) (Some n) None
-
-abbrev pub ranged : ℕ → ℕ → List ℕ → Option ℕ
-ranged lo hi text = number_between lo hi (number_of 5 text)
+use Rattle.ff_filter.specs.Options.{Manual, option_of, AreRead, ranged, gives}
 
 abbrev pub or_else : ℕ → Option ℕ → ℕ
 or_else d None = d
 or_else d (Some n) = n
-
--- the argument gives the option of this number
-abbrev pub gives : ℕ → Option ℕ → Bool
-gives option None = false
-gives option (Some o) = o == option
 
 -- The number from lo to hi that the last of these arguments says that gives the option: d where that one says none such, or
 -- none gives the option, whatever becomes of the other arguments.
@@ -34,11 +19,6 @@ last_from manual option lo hi d keyed place n (a ∷ others) =
 
 abbrev pub last_number : {S : Type 0} → Manual S → ℕ → ℕ → ℕ → ℕ → List Arg → ℕ
 last_number manual option lo hi d args = last_from manual option lo hi d false 0 d args
-
--- what is checked holds, and it goes on; else it is refused so
-abbrev pub Checked : {X : Type 0} → Bool → ConfigError → (Result X ConfigError → Type 0) → Result X ConfigError → Type 0
-Checked true e next r = next r
-Checked false e next r = r ≡ Err e
 
 abbrev pub GoesOn : {S X : Type 0} → (S → Result X ConfigError → Type 0) → Result S ConfigError → Result X ConfigError → Type 0
 GoesOn next (Ok s) r = next s r

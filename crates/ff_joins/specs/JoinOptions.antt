@@ -5,9 +5,9 @@ use Rattle.ff_frame.specs.declared.config.ConfigError.TheVariants.{Pads, Kind, M
 use Rattle.ff_frame.specs.declared.head.StreamHead.{StreamHead}
 use Rattle.ff_frame.specs.declared.head.StreamHead.TheVariants.{Audio, Video}
 use Rattle.ff_lang.specs.declared.graph.Arg.{Arg}
-use Rattle.ff_filter.specs.Options.{Manual, is_sound}
+use Rattle.ff_filter.specs.Options.{Manual, ranged, Checked, is_sound}
 use Rattle.ff_joins.specs.declared.join_options.JoinSettings.{JoinSettings}
-use Rattle.ff_joins.specs.Arguments.{ranged, last_number, Checked, AfterRead, each_head}
+use Rattle.ff_joins.specs.Arguments.{last_number, AfterRead, each_head}
 
 -- `inputs` is 2 to 8
 abbrev pub join_manual : Manual JoinSettings

@@ -1,28 +1,10 @@
 //! Whole numbers that the arguments of `join` give.
-ghost use Rattle.std.specs.Prelude.{◌≡◌, ◌≤◌, false, IfSome};
-ghost use Rattle.ff_filter.specs.Options.{option_of as option_at};
-ghost use Rattle.ff_joins.specs.Arguments.{ranged as ranged_of, or_else, gives, last_number as last_number_of};
+ghost use Rattle.std.specs.Prelude.{◌≡◌};
+ghost use Rattle.ff_filter.specs.Options.{option_of as option_at, ranged as ranged_of, gives};
+ghost use Rattle.ff_joins.specs.Arguments.{or_else, last_number as last_number_of};
 
-use ff_filter::{Settings, option_of};
+use ff_filter::{Settings, option_of, ranged};
 use ff_lang::Arg;
-use ff_time::read_number;
-
-/// A whole number of 1 to 5 digits from `least` to `most`.
-pub fn ranged(text: &str, least: u64, most: u64) -> Option<u64>
-    ensures value { result ≡ ranged_of least most text.now }
-    ensures within { IfSome result (λ n. (least ≤ n) × (n ≤ most)) }
-{
-    match read_number(text, 5) {
-        None => None,
-        Some(number) => {
-            if least <= number && number <= most {
-                Some(number)
-            } else {
-                None
-            }
-        }
-    }
-}
 
 // Whether an argument gives the option of this number.
 fn is_given<S: Settings>(arg: &Arg, keyed: bool, place: usize, option: usize) -> bool

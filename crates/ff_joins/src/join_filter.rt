@@ -1,5 +1,4 @@
 //! The machine of `join` as a filter.
-ghost use Rattle.std.specs.Prelude.{◌≡◌};
 ghost use Rattle.ff_joins.specs.laws.JoinSeen.{join_seen, join_spent};
 ghost use Rattle.ff_joins.specs.laws.JoinLaws.{join-grows, join-hides, join-settles, join-quiet, join-spent_only, join-shut_spent, join-done_spent};
 

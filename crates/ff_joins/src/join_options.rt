@@ -5,8 +5,8 @@ ghost use Rattle.ff_joins.specs.Arguments.{each_head};
 ghost use Rattle.ff_joins.specs.JoinOptions.{is_like as like_head, channels_of as channels_of_head, channels_in, rate_of};
 ghost use Rattle.ff_joins.specs.JoinOptions.{bits_of, with_channels as with_all, AreAlike, IsJoin};
 
-use crate::arguments::{last_number, ranged};
-use ff_filter::{Settings, read_args};
+use crate::arguments::last_number;
+use ff_filter::{Settings, ranged, read_args};
 use ff_frame::{ConfigError, StreamHead};
 use ff_lang::Arg;
 

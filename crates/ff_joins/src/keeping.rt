@@ -1,5 +1,5 @@
 //! The sample frames that an input of `join` keeps.
-ghost use Rattle.std.specs.Prelude.{◌≡◌, ◌≤◌, ◌+◌, ◌*◌, ◌/◌, ◌++◌, [], length, take, true, false, OnOk, OnErr, IfErr};
+ghost use Rattle.std.specs.Prelude.{◌≡◌, ◌≤◌, ◌*◌, ◌/◌, ◌++◌, [], length, true, false, OnOk, OnErr, IfErr};
 ghost use Rattle.ff_stream.specs.declared.item.Item.TheVariants.{Audio};
 ghost use Rattle.ff_filter.specs.Joins.{Flow, before};
 ghost use Rattle.ff_filter.specs.Made.{is_over as is_over_by};

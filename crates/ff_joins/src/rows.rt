@@ -1,6 +1,5 @@
 //! The sample frames that wait on several inputs.
 ghost use Rattle.std.specs.Prelude.{◌≡◌, ◌⊎◌, ◌≤◌, ◌<◌, ◌^◌, ℕ, map, length, true, false};
-ghost use Rattle.ff_filter.specs.declared.after.After.{After as AnAfter};
 ghost use Rattle.ff_joins.specs.laws.JoinCuts.{width_to};
 ghost use Rattle.ff_joins.specs.laws.Lots.{lots, lane_of, skipped};
 

@@ -18,7 +18,7 @@ use Rattle.ff_net.specs.Ways.{lane_at, IsValidOn, AreValid}
 use Rattle.ff_filter.specs.declared.after.After.TheVariants.{More}
 use Rattle.ff_filter.specs.Joins.{Flow, Ports, Grows, HidesBreaks, grows_after, hides_after}
 use Rattle.ff_filter.specs.laws.Limits.{limited, limited_is}
-use Rattle.ff_filter.specs.Options.{is_sound}
+use Rattle.ff_filter.specs.Options.{is_sound, Checked}
 use Rattle.ff_filter.specs.Views.{View}
 use Rattle.ff_fsync.specs.Sides.{Sound, sync_view}
 use Rattle.ff_fsync.specs.laws.SideLaws.{sync-grows, sync-hides}
@@ -33,7 +33,7 @@ use Rattle.ff_fsync.specs.stacks.Stacks.{StackOf, stack_on, stacked_of, stack_vi
 use Rattle.ff_fsync.proofs.StacksLemmas.Seeing.{none_came, stack_seen}
 use Rattle.ff_fsync.proofs.StacksLemmas.Exact.{AreBased}
 use Rattle.ff_fsync.proofs.StacksLemmas.Valid.{stacks_in_shape, stacks_unbroken}
-use Rattle.ff_joins.specs.Arguments.{Checked, each_head}
+use Rattle.ff_joins.specs.Arguments.{each_head}
 use Rattle.ff_joins.specs.laws.JoinBreaks.{lost_by}
 use Rattle.ff_joins.specs.Joined.{Row, row_stream, joined_rows, first_start, sound_frame, side_to_side}
 use Rattle.ff_joins.specs.JoinOptions.{AreAlike, is_like, channels_in, with_channels, rate_of, bits_of, channels_of}
