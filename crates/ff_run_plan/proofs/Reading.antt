@@ -1,14 +1,12 @@
 -- What the sources of a plan's run have read.
-use Rattle.std.proofs.Common.{◌≡◌, inl, inr, ℕ, zero, suc, ◌+◌, ◌<◌, ◌≤◌, Bool, true, false, List, [], ◌∷◌, length, map, take, slice_get, slice_index_or, Option, Some, None, is_some, refl, sym, ap, ◌∙◌, subst, arith, add-one}
+use Rattle.std.proofs.Common.{◌≡◌, inl, inr, ℕ, zero, suc, ◌+◌, ◌<◌, ◌≤◌, Bool, true, false, List, [], ◌∷◌, length, take, slice_get, slice_index_or, Option, Some, None, is_some, refl, sym, ap, ◌∙◌, subst, arith, add-one}
 use Rattle.std.specs.Prelude.{IfSome}
 use Rattle.std.proofs.lemmas.Bool.{cases_lt}
-use Rattle.std.proofs.lemmas.List.{length-append, length-take-le}
+use Rattle.std.proofs.lemmas.List.{length-take-le}
 use Rattle.std.proofs.lemmas.Option.{slice_get_within, get_or_from_slice_get}
 use mathlib.Core.List.{IsPrefix}
 use Rattle.ff_frame.specs.declared.event.Event.{Event}
-use Rattle.ff_stream.specs.declared.item.Lane.{Lane}
-use Rattle.ff_stream.specs.Stream.{LiesBelow}
-use Rattle.ff_stream.specs.Ports.{stream_at, IsWhole}
+use Rattle.ff_stream.specs.Ports.{IsWhole}
 use Rattle.ff_words.specs.declared.job.Job.{Job}
 use Rattle.ff_stream.specs.declared.edges.edge.Edge.{Edge}
 use Rattle.ff_stream.specs.edges.Ports.{lanes_into, lanes_out_of}
@@ -16,10 +14,10 @@ use Rattle.ff_sched.specs.declared.routes.Routes.{Routes}
 use Rattle.ff_sched.specs.State.{State}
 use Rattle.ff_net.specs.laws.Laws.{Laws, reads_of}
 use Rattle.ff_net.specs.Nets.{Part, solve}
-use Rattle.ff_net.specs.Pasts.{Task, IsIn, cut_to}
-use Rattle.ff_net.specs.laws.Serial.{tried_by, tried_of}
+use Rattle.ff_net.specs.Pasts.{Task, Units, IsIn, count_of, due_by}
+use Rattle.ff_net.proofs.Flows.{none_is}
 use Rattle.ff_net.specs.laws.Views.{View}
-use Rattle.ff_net.specs.Ways.{Flow, AreValid}
+use Rattle.ff_net.specs.Ways.{Flow}
 use Rattle.ff_net_threads.specs.declared.network.run.NodeFault.{NodeFault}
 use Rattle.ff_net_threads.specs.network.Fits.{Ports, ports_by, ins_at, outs_at, part_at, parts_from, network}
 use Rattle.ff_net_threads.specs.laws.network.Networks.{AllStart, ports_of}
@@ -49,7 +47,7 @@ use Rattle.ff_run_plan.proofs.Grants.{no_more, front, first_rise, first_held, at
 use Rattle.ff_run_plan.proofs.Networks.{plan_net, plan_ins, plan_outs}
 use Rattle.ff_run_plan.proofs.Numbers.{there, same_some}
 use Rattle.ff_run_plan.proofs.Outcomes.{fine_only}
-use Rattle.ff_run_plan.proofs.Running.{part_lanes, have_ends}
+use Rattle.ff_run_plan.proofs.Running.{part_lanes}
 use Rattle.ff_run_plan.proofs.Telling.{tells_told}
 use Rattle.ff_run_plan.proofs.Told as told
 use Rattle.ff_run_plan.proofs.Trying.{unread, tried_is}
@@ -100,29 +98,20 @@ stands_in [] p lt = absurd (omega (arith, lt))
 stands_in (w ∷ ws) zero lt = inl refl
 stands_in (w ∷ ws) (suc p) lt = inr (stands_in ws p (omega (arith, lt)))
 
--- a stream below another has no more items
-no_longer : (r s : Flow) → LiesBelow r s → length r.items ≤ length s.items
-no_longer r s (inl same) = (let e = ap (λ (x : Flow). length x.items) same in omega (arith, e))
-no_longer r s (inr on) = (let all = ap length on.1.1 in let sum = length-append r.items on.1.0 in omega (arith, all, sum))
-
--- what is cut to what was read is cut to what was tried
-cut_same : (reads : List (List ℕ)) (o : Option ℕ) (n : ℕ) (means : List Flow → List Flow) → ((i : ℕ) → o ≡ Some i → length (reads_at reads i) ≡ n)
-    → ◌≡◌ {A = List Flow → List Flow} (λ ss. as_read reads o (means ss)) (λ ss. tried_by o n (means ss))
-cut_same reads None n means units = refl
-cut_same reads (Some i) n means units = ap (λ (k : ℕ). λ (ss : List Flow). map (cut_to k) (means ss)) (units i refl)
-
-same_means : (reads : List (List ℕ)) (o v : Option ℕ) (n : ℕ) (means : List Flow → List Flow) → v ≡ o → ((i : ℕ) → o ≡ Some i → length (reads_at reads i) ≡ n)
-    → ◌≡◌ {A = List Flow → List Flow} (λ ss. as_read reads o (means ss)) (λ ss. tried_by v n (means ss))
-same_means reads o v n means e units =
-    subst (λ (x : Option ℕ). ◌≡◌ {A = List Flow → List Flow} (λ ss. as_read reads o (means ss)) (λ ss. tried_by x n (means ss))) (sym e) (cut_same reads o n means units)
+-- what is due by the units that were read is due by those that were tried
+due_same : (reads : List (List ℕ)) (o : Option ℕ) (n : ℕ) (task : Task) → is_some task.source ≡ is_some o → ((i : ℕ) → o ≡ Some i → length (reads_at reads i) ≡ n)
+    → ◌≡◌ {A = List Flow → List Flow} (as_read reads o task) (λ ss. due_by task.source n (task.means ss))
+due_same reads None n task is units = ap (λ (s : Option Units). λ (ss : List Flow). due_by s n (task.means ss)) (sym (none_is task.source is))
+due_same reads (Some i) n task is units = ap (λ (k : ℕ). λ (ss : List Flow). due_by task.source k (task.means ss)) (units i refl)
 
 parts_read : {M : Type 0} (view : M → View) (ms : List M) (f g : ℕ → Part) (k : ℕ)
-    → ((j at : ℕ) (m : M) → at ≡ k + j → slice_get ms j ≡ Some m → g at ≡ record (f at) { means = λ ss. tried_of (view m) ((f at).means ss) })
+    → ((j at : ℕ) (m : M) → at ≡ k + j → slice_get ms j ≡ Some m → g at ≡ record (f at) { means = λ ss. due_by (f at).source (view m).tried ((f at).means ss) })
     → parts_from g k (length ms) ≡ read_parts view ms (parts_from f k (length ms))
 parts_read view [] f g k same = refl
 parts_read {M} view (m ∷ ms) f g k same =
     ap (λ (p : Part). p ∷ parts_from g (suc k) (length ms)) (same 0 k m (omega arith) refl)
-    ∙ ap (λ (ps : List Part). record (f k) { means = λ ss. tried_of (view m) ((f k).means ss) } ∷ ps) (parts_read view ms f g (suc k) (λ j at x e here. same (suc j) at x (omega (arith, e)) here))
+    ∙ ap (λ (ps : List Part). record (f k) { means = λ ss. due_by (f k).source (view m).tried ((f k).means ss) } ∷ ps)
+    (parts_read view ms f g (suc k) (λ j at x e here. same (suc j) at x (omega (arith, e)) here))
 
 module _ {H S K M : Type 0} (is : KindsOf H) (own : TellOfThemselves is) (left named : S → Option (List ℕ)) (failed : S → ℕ) (holds called : K → Option (List ℕ)) (faulted : K → ℕ)
     (view : M → View) (laws : (m : M) → Laws (view m)) (exits : (m : M) → TellsExit (view m)) (asked : Asked) (heads : List H) (edges : List Edge) (nodes : List PlanNode) (srcs : List S) (snks : List K) (claims : Bool)
@@ -148,6 +137,11 @@ module _ {H S K M : Type 0} (is : KindsOf H) (own : TellOfThemselves is) (left n
   same_kind : (j : ℕ) (e : M) (n : PlanNode) → j < length news → slice_get nodes j ≡ Some n → is_some (source_in n) ≡ is_some (view (slice_index_or news j e)).source
   same_kind =
       told.same_kind is own left named failed holds called faulted view laws exits asked heads edges nodes srcs snks claims olds news sp kp fault srcs' snks' routes state
+      events order fitting run back sound s bytes vouched tells snk_count
+
+  task_kind : (j : ℕ) (n : PlanNode) → j < length nodes → slice_get nodes j ≡ Some n → is_some (tasks j).source ≡ is_some (source_in n)
+  task_kind =
+      told.task_kind is own left named failed holds called faulted view laws exits asked heads edges nodes srcs snks claims olds news sp kp fault srcs' snks' routes state
       events order fitting run back sound s bytes vouched tells snk_count
 
   is_reader : (j i : ℕ) (e : M) → j < length news → (view (slice_index_or news j e)).source ≡ Some i → (i' : ℕ) × (source_at (slice_get nodes j) ≡ Some i')
@@ -226,37 +220,30 @@ module _ {H S K M : Type 0} (is : KindsOf H) (own : TellOfThemselves is) (left n
         ap length (reads_are view routes.sources nodes news events reads are i (below k i at) ∙ ap (λ (n : ℕ). take n (grants_of i events)) tried_units)
         ∙ length-take-le (view reader.0).tried (grants_of i events) few
 
-    -- at most one more than its stream has
-    few_units : length (reads_at reads i) ≤ length (stream_at ((tasks k).means []) 0).items + 1
+    -- at most one more than its task has units
+    few_units : length (reads_at reads i) ≤ count_of (tasks k).source + 1
     few_units =
         let lt = there_now k (slice_get_within nodes k here.0 here.1) in
         let all = logs.settled sound k reader.0 lt in
         let stood : (view reader.0).stands all.past = subst (λ (x : M). (view x).stands all.past) is_here all.fits in
-        let ends = have_ends is left named failed holds called faulted view asked heads edges nodes srcs snks olds news sp kp run.parts run.kept fitting k here.0 reader.0 here.1 reader.1 in
-        let none : (view reader.0).in_lanes ≡ [] = ends.source i is_source in
-        let valid : AreValid [] all.past.got = subst (λ (ls : List Lane). AreValid ls all.past.got) none ((laws reader.0).valid all.past stood) in
-        let empty : AreValid (view reader.0).in_lanes [] = subst (λ (ls : List Lane). AreValid ls []) (sym none) (λ p. refl) in
-        let below = (laws reader.0).monotone all.past stood all.past.got [] ((laws reader.0).valid all.past stood) empty (λ p. inl (valid p)) 0 in
-        let short = no_longer (stream_at (all.past.task.means all.past.got) 0) (stream_at (all.past.task.means []) 0) below in
-        let own_task = ap (λ (t : Task). length (stream_at (t.means []) 0).items) all.task_is in
         let src : (view reader.0).source ≡ Some i =
         ap (λ (x : M). (view x).source) (sym is_here) ∙ (source_is k reader.0 here.0 lt here.1 ∙ is_source) in
         let few = (exits reader.0).few all.past i stood src in
+        let own_task = ap (λ (t : Task). count_of t.source) all.task_is in
         let each = units in
-        omega (arith, short, own_task, few, each)
+        omega (arith, own_task, few, each)
 
   -- ---- the streams that come of these units alone
 
   -- of the part of a number
   means_same : (k : ℕ) (m : M) → slice_get news k ≡ Some m
-      → ◌≡◌ {A = List Flow → List Flow} (λ ss. as_read reads (source_at (slice_get nodes k)) ((tasks k).means ss)) (λ ss. tried_of (view m) ((tasks k).means ss))
+      → ◌≡◌ {A = List Flow → List Flow} (as_read reads (source_at (slice_get nodes k)) (tasks k)) (λ ss. due_by (tasks k).source (view m).tried ((tasks k).means ss))
   means_same k m here =
-      let lt = slice_get_within news k m here in
-      let within = node_there k lt in
+      let within = node_there k (slice_get_within news k m here) in
       let n = there nodes k within in
-      let src : (view m).source ≡ source_in n.0 = ap (λ (x : M). (view x).source) (sym (get_or_from_slice_get news k m m here)) ∙ source_is k m n.0 lt n.1 in
-      let at : source_at (slice_get nodes k) ≡ source_in n.0 = ap source_at n.1 in
-      same_means reads (source_at (slice_get nodes k)) (view m).source (view m).tried (tasks k).means (src ∙ sym at)
+      let kind : is_some (tasks k).source ≡ is_some (source_at (slice_get nodes k)) =
+      task_kind k n.0 within n.1 ∙ sym (ap (λ (o : Option PlanNode). is_some (source_at o)) n.1) in
+      due_same reads (source_at (slice_get nodes k)) (view m).tried (tasks k) kind
       (λ i is_i.
       let x = reader i k is_i in
       units i k is_i ∙ ap (λ (y : M). (view y).tried) (same_some (slice_get news k) x.0 m x.1 here))
@@ -266,7 +253,8 @@ module _ {H S K M : Type 0} (is : KindsOf H) (own : TellOfThemselves is) (left n
       parts_read view news (part_at tasks ports edges) (part_at (read_task is asked heads bytes nodes edges reads) ports edges) 0
       (λ j at m e here.
       let number : at ≡ j = omega (arith, e) in
-      let make : (List Flow → List Flow) → Part = λ means. record { means = means; in_lanes = ports.ins at; out_lanes = ports.outs at; ins = ins_at ports edges at; outs = outs_at ports edges at } in
+      let make : (List Flow → List Flow) → Part = λ means.
+      record { means = means; source = (tasks at).source; in_lanes = ports.ins at; out_lanes = ports.outs at; ins = ins_at ports edges at; outs = outs_at ports edges at } in
       ap make (means_same at m (ap (λ (k : ℕ). slice_get news k) number ∙ here)))
 
   module _ (o k p : ℕ) (at : slice_get nodes k ≡ Some (node.Mux o)) (lt : p < length (edges_into edges k)) where

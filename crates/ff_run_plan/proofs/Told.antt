@@ -232,17 +232,21 @@ module _ {H S K M : Type 0} (is : KindsOf H) (own : TellOfThemselves is) (left n
         ap (λ (t : Task). t.tells feeds) (gen_task_is i k gen fits) ∙ own.generator i fits.made feeds
   ]
 
-  -- a part is a source where its node is one
-  pub same_kind : (j : ℕ) (e : M) (n : PlanNode) → j < length news → slice_get nodes j ≡ Some n → is_some (source_in n) ≡ is_some (view (slice_index_or news j e)).source
-  same_kind j e n lt at =
-      let old = there olds j (old_there j (node_there j lt)) in
-      let now = logs.settled sound j e lt in
+  -- a task is that of a source where its node is one
+  pub task_kind : (j : ℕ) (n : PlanNode) → j < length nodes → slice_get nodes j ≡ Some n → is_some (tasks j).source ≡ is_some (source_in n)
+  task_kind j n lt at =
+      let old = there olds j (old_there j lt) in
       let part = run.parts.each j n old.0 at old.1 in
       let stands : (view old.0).stands (start (tasks j)) =
-      subst (λ (m : M). (view m).stands (start (tasks j))) (get_or_from_slice_get olds j old.0 old.0 old.1) (begun.1 j old.0 (old_there j (node_there j lt))) in
-      let was = (laws old.0).is_source (start (tasks j)) stands in
+      subst (λ (m : M). (view m).stands (start (tasks j))) (get_or_from_slice_get olds j old.0 old.0 old.1) (begun.1 j old.0 (old_there j lt)) in
+      (laws old.0).is_source (start (tasks j)) stands ∙ ap (λ (o : Option ℕ). is_some o) part.source_is
+
+  -- and so is its part
+  pub same_kind : (j : ℕ) (e : M) (n : PlanNode) → j < length news → slice_get nodes j ≡ Some n → is_some (source_in n) ≡ is_some (view (slice_index_or news j e)).source
+  same_kind j e n lt at =
+      let now = logs.settled sound j e lt in
       let now_is = (laws (slice_index_or news j e)).is_source now.past now.fits in
-      sym (ap (λ (o : Option ℕ). is_some o) part.source_is) ∙ (sym was ∙ (sym (ap (λ (t : Task). t.source) now.task_is) ∙ now_is))
+      sym (task_kind j n (node_there j lt) at) ∙ (sym (ap (λ (t : Task). is_some t.source) now.task_is) ∙ now_is)
 
   -- a part that is a source is that of a source
   pub is_reader : (j i : ℕ) (e : M) → j < length news → (view (slice_index_or news j e)).source ≡ Some i → (i' : ℕ) × (source_at (slice_get nodes j) ≡ Some i')

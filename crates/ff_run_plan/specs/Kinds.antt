@@ -87,7 +87,7 @@ pub record IsEndOf {E : Type 0} (named : E → Option (List ℕ)) (failed : E �
   pub name : named end ≡ v.device
   pub faults : failed end ≡ v.failures
 
--- all that a part has to tell that is a source is that it has exited, and it tried at most one unit more than its stream has items
+-- all that a part has to tell that is a source is that it has exited, and it tried at most one unit more than its task has
 pub record TellsExit (v : View) : Type 0 where
   pub exits : (past : Past) (number : ℕ) → v.stands past → v.source ≡ Some number → past.task.tells past.feeds ≡ Exited number ∷ []
   pub few : (past : Past) (number : ℕ) → v.stands past → v.source ≡ Some number → v.tried ≤ count_of past.task.source + 1

@@ -6,7 +6,7 @@ use Rattle.std.specs.declared.vec.Vec.{Vec}
 use mathlib.Core.List.{IsPrefix}
 use Rattle.ff_frame.specs.declared.event.Event.{Event}
 use Rattle.ff_frame.specs.declared.event.Event.TheVariants.{Grant, Sent, Finished, Best, Exited}
-use Rattle.ff_stream.specs.Ports.{stream_at, IsWhole}
+use Rattle.ff_stream.specs.Ports.{IsWhole}
 use Rattle.ff_words.specs.declared.job.Job.{Job}
 use Rattle.ff_stream.specs.declared.edges.edge.Edge.{Edge}
 use Rattle.ff_sched.specs.declared.routes.Routes.{Routes}
@@ -85,7 +85,7 @@ module _ {H : Type 0} (is : KindsOf H) (asked : Asked) (heads : List H) (bytes :
   abbrev pub read_solution : List (List ℕ) → ℕ → Flow
   read_solution reads = solve (network (read_task reads) (ports_by edges) edges (length nodes))
 
-  -- Each source has read at most one unit more than its stream has, the end, and the units that were read are enough: at each input of a Mux
+  -- Each source has read at most one unit more than its task has, the end, and the units that were read are enough: at each input of a Mux
   -- node they give the whole stream already.
   pub record AreEnough (reads : List (List ℕ)) : Type 0 where
     pub few : (i k : ℕ) → source_at (slice_get nodes k) ≡ Some i
