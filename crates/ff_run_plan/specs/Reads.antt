@@ -22,7 +22,6 @@ use Rattle.ff_net_threads.specs.laws.network.Networks.{AllStart, ports_of}
 use Rattle.ff_net_threads.specs.laws.network.Runs.{ReadsSuffice}
 use Rattle.ff_plan.specs.declared.planned.Plan.{Plan}
 use Rattle.ff_plan.specs.declared.planned.PlanNode.{PlanNode}
-use Rattle.ff_plan.specs.declared.planned.PlanNode.TheVariants as node
 use Rattle.ff_files.specs.declared.work.WorkEnd.{WorkEnd}
 use Rattle.ff_run_plan.specs.declared.fault.RunFault.{RunFault}
 use Rattle.ff_run_plan.specs.declared.reads.RunLog.{RunLog}
