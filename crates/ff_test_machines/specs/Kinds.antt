@@ -1,7 +1,8 @@
 -- Each kind of machine as the laws of machines see it, and these laws.
-use Rattle.std.specs.Prelude.{◌≡◌, ◌+◌, [], true, false, None, Some}
-use Rattle.std.proofs.Common.{arith}
+use Rattle.std.specs.Prelude.{◌≡◌, ◌+◌, [], true, false, Option, None, Some, is_some}
+use Rattle.std.proofs.Common.{ap, arith}
 use Rattle.ff_net.proofs.Flows.{is_none, no_units}
+use Rattle.ff_net.specs.Pasts.{Units}
 use Rattle.ff_net.specs.laws.Laws.{Laws}
 use Rattle.ff_net.specs.laws.Silence.{silent_front}
 use Rattle.ff_net.specs.laws.Views.{View}
@@ -13,7 +14,7 @@ use Rattle.ff_test_machines.specs.Lists.{fault_if, as_count}
 use Rattle.ff_test_machines.specs.Relays.{is_spent_relay}
 use Rattle.ff_test_machines.specs.Starts.{source_stands, relay_stands, join_stands}
 use Rattle.ff_test_machines.specs.Trials.{source_outs, relay_ins, relay_outs, join_ins, join_outs}
-use Rattle.ff_test_machines.specs.ListLaws.{lists_keeps, lists_monotone, lists_cause_stays, lists_calm, lists_given, lists_tried, lists_units, lists_unbroken, lists_caused, lists_ticket_used, lists_no_port, lists_is_source}
+use Rattle.ff_test_machines.specs.ListLaws.{lists_keeps, lists_monotone, lists_cause_stays, lists_calm, lists_given, lists_tried, lists_units, lists_below, lists_unbroken, lists_caused, lists_ticket_used, lists_no_port, lists_is_source}
 use Rattle.ff_test_machines.specs.ListLaws.{lists_told}
 use Rattle.ff_test_machines.specs.RelayLaws.{relays_no_fault, relays_valid, relays_keeps, relays_monotone, relays_cause_stays, relays_calm, relays_given, relays_unbroken, relays_spent_only, relays_closed_spent, relays_done_spent, relays_settles}
 use Rattle.ff_test_machines.specs.JoinLaws.{joins_valid, joins_keeps, joins_monotone, joins_cause_stays, joins_calm, joins_given, joins_unbroken, joins_spent_only, joins_closed_spent, joins_done_spent, joins_settles}

@@ -1,5 +1,5 @@
 -- The laws of the machine that gives a list.
-use Rattle.std.specs.Prelude.{◌≡◌, ◌≢◌, ℕ, zero, suc, ◌+◌, ◌<◌, ◌≤◌, Bool, true, false, cond, List, [], ◌∷◌, map, length, take, nat_le, Option, None, Some, refl}
+use Rattle.std.specs.Prelude.{◌≡◌, ◌≢◌, ℕ, zero, suc, ◌+◌, ◌<◌, ◌≤◌, Bool, true, false, cond, List, [], ◌∷◌, length, take, nat_le, Option, None, Some, refl}
 use Rattle.std.proofs.Common.{sym, subst, ap, inl, inr, ◌∙◌, arith}
 use Rattle.std.proofs.lemmas.Bool.Decides.{nat_tests}
 use mathlib.Core.List.{IsPrefix}
@@ -13,9 +13,9 @@ use Rattle.ff_net.specs.declared.fault.Fault.TheVariants.{Device}
 use Rattle.ff_net.specs.Ways.{Flow, AreValid}
 use Rattle.ff_frame.specs.declared.event.Event.{Event}
 use Rattle.ff_frame.specs.declared.event.Event.TheVariants.{Exited}
-use Rattle.ff_net.specs.Pasts.{Past, Feed, IsIn, due, cut_to}
+use Rattle.ff_net.specs.Pasts.{Past, Feed, IsIn, Units, units_of, due, due_by, cut_to}
 use Rattle.ff_net.specs.laws.Laws.{CauseStays, IsOfInputs, IsPending, AllAsked}
-use Rattle.ff_net.proofs.Flows.{take_whole}
+use Rattle.ff_net.proofs.Flows.{take_whole, AreUnits, units_below}
 use Rattle.ff_test_machines.specs.RelayLaws.{relays_no_fault, below_or}
 use Rattle.ff_test_machines.specs.Lists.{list_of, given_of, as_count, fault_if, exits, Exits, Lists}
 
@@ -77,10 +77,10 @@ module _ (lane : Lane) (items : List Item) (next : ℕ) (ended ticket failed : B
   lists_cause_stays = subst (λ (f : List Flow → Option Fault). CauseStays [] f) (sym s.cause) (λ rs ss c v w h e. absurd (relays_no_fault c e))
 
   pub lists_due : stream_at (due past) 0 ≡ cut_to (length past.allowed) (whole_stream items)
-  lists_due = rw (s.source, s.means) refl
+  lists_due = ap (λ (o : Option Units). stream_at (due_by o (length past.allowed) (past.task.means past.got)) 0) s.source
 
   due_beyond : (q : ℕ) → stream_at (due past) (suc q) ≡ nothing
-  due_beyond q = rw (s.source, s.means) refl
+  due_beyond q = ap (λ (o : Option Units). stream_at (due_by o (length past.allowed) (past.task.means past.got)) (suc q)) s.source
 
   -- what was given is due
   below_due : LiesBelow (given_of items next ended) (cut_to (length past.allowed) (whole_stream items))
@@ -111,9 +111,16 @@ module _ (lane : Lane) (items : List Item) (next : ℕ) (ended ticket failed : B
       pick false e = let same : next + 0 ≡ next = omega arith in inl (sym (ap (λ (k : ℕ). cut_to k (whole_stream items)) same ∙ cut_before next items s.in_range))
 
   -- what it gave are the units that it tried, or the end in place of one
-  pub lists_units : AllBelow past.gave (map (cut_to (next + as_count ended)) (past.task.means past.got))
-  lists_units zero = rw (s.gave, s.means) units_at
-  lists_units (suc q) = rw (s.beyond (suc q) (omega arith), s.means) (below_self nothing)
+  pub lists_units : AllBelow past.gave (due_by past.task.source (next + as_count ended) (past.task.means past.got))
+  lists_units zero = rw (s.gave, s.source) units_at
+  lists_units (suc q) = rw (s.beyond (suc q) (omega arith), s.source) (below_self nothing)
+
+  -- and its units are of what it means
+  pub lists_below : AreUnits past
+  lists_below units e k =
+      let same : units_of (whole_stream items) ≡ units = (let both : Some (units_of (whole_stream items)) ≡ Some units = sym s.source ∙ e in cc) in
+      subst (λ (u : Units). AllBelow (u.upto k) (past.task.means past.got)) same
+      (subst (λ (f : List Flow → List Flow). AllBelow ((units_of (whole_stream items)).upto k) (f past.got)) (sym s.means) (units_below (whole_stream items) k []))
 
   pub lists_unbroken : AllUnbroken past.gave
   lists_unbroken zero = subst IsUnbroken (sym s.gave) (mark_unbroken ended)

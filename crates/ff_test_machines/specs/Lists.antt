@@ -10,7 +10,7 @@ use Rattle.ff_net.specs.declared.fault.Fault.TheVariants.{Device}
 use Rattle.ff_net.specs.Ways.{Flow}
 use Rattle.ff_frame.specs.declared.event.Event.{Event}
 use Rattle.ff_frame.specs.declared.event.Event.TheVariants.{Exited}
-use Rattle.ff_net.specs.Pasts.{Past, Feed, IsIn}
+use Rattle.ff_net.specs.Pasts.{Past, Feed, IsIn, units_of}
 use Rattle.ff_test_machines.specs.Relays.{no_cause}
 
 abbrev pub list_of : List Item → List Flow → List Flow
@@ -31,7 +31,7 @@ fault_if true = Some Device
 pub record Lists (lane : Lane) (items : List Item) (next : ℕ) (ended ticket failed : Bool) (past : Past) : Type 0 where
   pub means : past.task.means ≡ list_of items
   pub cause : past.task.cause ≡ no_cause
-  pub source : past.task.source ≡ true
+  pub source : past.task.source ≡ Some (units_of (whole_stream items))
   pub got : (p : ℕ) → stream_at past.got p ≡ nothing
   pub valid : IsValid lane (whole_stream items)
   pub gave : stream_at past.gave 0 ≡ given_of items next ended

@@ -1,7 +1,8 @@
 -- What the machines are there for, and where they can be.
-use Rattle.std.specs.Prelude.{ℕ, List, true, false, None}
+use Rattle.std.specs.Prelude.{ℕ, List, false, None, Some}
 use Rattle.ff_stream.specs.declared.item.Item.{Item}
-use Rattle.ff_net.specs.Pasts.{Past, Task, no_events}
+use Rattle.ff_stream.specs.Stream.{whole_stream}
+use Rattle.ff_net.specs.Pasts.{Past, Task, no_events, units_of}
 use Rattle.ff_test_machines.specs.declared.join.Join.{Join}
 use Rattle.ff_test_machines.specs.declared.relay.Out.{Out}
 use Rattle.ff_test_machines.specs.declared.relay.Relay.{Relay}
@@ -12,7 +13,7 @@ use Rattle.ff_test_machines.specs.Relays.{Relays, relay, no_cause}
 
 -- to give these items, and the end, and to tell that this source has exited
 abbrev pub list_task : ℕ → List Item → Task
-list_task number items = record { means = list_of items; cause = no_cause; source = true; tells = exits number }
+list_task number items = record { means = list_of items; cause = no_cause; source = Some (units_of (whole_stream items)); tells = exits number }
 
 -- to repeat the first items, so many, on so many outputs
 abbrev pub relay_task : ℕ → ℕ → Task
