@@ -65,10 +65,10 @@ module _ (s : Flow) (n : ℕ) (ended ticket : Bool) (past : Past) (l : Sources s
   source_unbroken u (suc p) = subst (λ (r : Flow). IsUnbroken r) (sym (l.others p)) (λ b. cc)
 
   pub source_due : stream_at (due past) 0 ≡ cut_to (length past.allowed) s
-  source_due = rw (l.source, l.means) refl
+  source_due = rw l.source refl
 
   source_none : (p : ℕ) → stream_at (due past) (suc p) ≡ nothing
-  source_none p = rw (l.source, l.means) refl
+  source_none p = rw l.source refl
 
 -- after the end all was given
 pub source_over : (s : Flow) (n : ℕ) (ticket : Bool) (past : Past) → Sources s n true ticket past → stream_at past.gave 0 ≡ stream_at (due past) 0
