@@ -14,7 +14,7 @@ use Rattle.ff_stream.specs.Within.{within, passes_limits}
 use Rattle.ff_stream.specs.laws.WithinLaws.{within_valid}
 use Rattle.ff_filter.specs.Joins.{Ports}
 use Rattle.ff_filter.specs.Options.{is_sound, Checked}
-use Rattle.ff_joins.specs.Arguments.{Checked, each_head}
+use Rattle.ff_joins.specs.Arguments.{each_head}
 use Rattle.ff_joins.specs.JoinOptions.{rate_of, bits_of, channels_of, channels_in, is_like, with_channels, AreAlike}
 use Rattle.ff_joins.specs.laws.JoinShapes.{channels_to}
 use Rattle.ff_joins.specs.JoinView.{channels_at}
