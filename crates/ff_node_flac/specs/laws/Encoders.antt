@@ -48,7 +48,7 @@ pub record Encodes (head : StreamHead) (queue : Queue) (closed : Shut) (told ove
   pub format : IsFormatOf head (format_of_queue queue)
   pub means : past.task.means ≡ (λ ss. flac_coded (stream_at ss 0) ∷ [])
   pub cause : past.task.cause ≡ flac_cause
-  pub plain : past.task.source ≡ false
+  pub plain : past.task.source ≡ None
   pub silent : IsSilent past
   pub valid : AreValid (Frames head ∷ []) past.got
   pub closed_is : mark_of closed ≡ (stream_at past.got 0).mark
