@@ -64,7 +64,7 @@ impl<S: Source + Drop, C: Demuxable + Drop> Demux<S, C> {
     ghost use Rattle.std.specs.Prelude.{◌∷◌};
     ghost use Rattle.ff_frame.specs.declared.event.Event.TheVariants.{Exited};
     ghost use Rattle.ff_stream.specs.Ports.{stream_at};
-    ghost use Rattle.ff_net.specs.Pasts.{Past, start};
+    ghost use Rattle.ff_net.specs.Pasts.{Past, count_of, start};
     ghost use Rattle.ff_node_demux.specs.Demuxing.{demux_task};
     ghost use Rattle.ff_node_demux.specs.Exiting.{IsOver};
     ghost use Rattle.ff_node_demux.specs.laws.Demuxers.{demux_out_lanes, demux_source, demux_fault, demux_failures, demux_device, demux_reads, demux_stands, demux_has_read};
@@ -129,7 +129,7 @@ impl<S: Source + Drop, C: Demuxable + Drop> Demux<S, C> {
         ensures exits { (past : Past) (input : ℕ) → demux_stands S.left self past → demux_source self ≡ Some input
             → past.task.tells past.feeds ≡ Exited input ∷ [] }
         ensures over { (past : Past) → demux_stands S.left self past → past.told ≢ [] → IsOver (demux_fault self) past }
-        ensures few { (past : Past) → demux_stands S.left self past → demux_reads self ≤ length (stream_at (past.task.means past.got) 0).items + 1 }
+        ensures few { (past : Past) → demux_stands S.left self past → demux_reads self ≤ count_of past.task.source + 1 }
     {
         self.src
     }

@@ -1,5 +1,5 @@
 -- The laws of the part that gives an input's packets.
-use Rattle.std.specs.Prelude.{◌≡◌, ℕ, zero, suc, ◌+◌, ◌<◌, ◌≤◌, Bool, true, false, cond, List, [], ◌∷◌, ◌++◌, map, length, is_some, Option, None, Some, refl, drop}
+use Rattle.std.specs.Prelude.{◌≡◌, ℕ, zero, suc, ◌+◌, ◌<◌, ◌≤◌, Bool, true, false, cond, List, [], ◌∷◌, ◌++◌, length, is_some, Option, None, Some, refl, drop}
 use Rattle.std.proofs.Common.{sym, subst, ap, ◌∙◌, arith}
 use Rattle.ff_frame.specs.declared.head.StreamHead.{StreamHead}
 use Rattle.ff_stream.specs.declared.item.Lane.{Lane}
@@ -11,7 +11,7 @@ use Rattle.ff_net.proofs.Flows.{AreUnits}
 use Rattle.ff_net.specs.declared.fault.Fault.{Fault}
 use Rattle.ff_net.specs.declared.fault.Fault.TheVariants.{TooLong}
 use Rattle.ff_net.specs.laws.Laws.{IsOfInputs, CauseStays, IsPending, AllAsked}
-use Rattle.ff_net.specs.Pasts.{Past, due, cut_to, Units, count_of, due_by}
+use Rattle.ff_net.specs.Pasts.{Past, due, Units, count_of, due_by}
 use Rattle.ff_net.specs.Ways.{Flow, AreValid}
 use Rattle.ff_reader.specs.Cutters.{Cutter}
 use Rattle.ff_node_demux.specs.Demuxing.{mark_at, damage_at, items_of, break_of, demux_of, is_too_long, fault_in, passes_in_demux, DemuxStands}

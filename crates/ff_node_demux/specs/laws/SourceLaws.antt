@@ -9,7 +9,7 @@ use Rattle.ff_stream.specs.declared.item.Lane.{Lane}
 use Rattle.ff_stream.specs.Stream.{Mark, still_open, broken, LiesBelow, opened}
 use Rattle.ff_stream.specs.Items.{with_item}
 use Rattle.ff_stream.specs.Lanes.{IsValid}
-use Rattle.ff_stream.specs.Ports.{nothing, stream_at, AllBelow, AllUnbroken, IsMonotone, IsCalm, IsClosed, IsUnbroken}
+use Rattle.ff_stream.specs.Ports.{nothing, stream_at, AllBelow, AllUnbroken, IsMonotone, IsCalm, IsUnbroken}
 use Rattle.ff_stream.specs.laws.Order.{below_self, opened_below}
 use Rattle.ff_net.specs.Ways.{Flow, AreValid}
 use Rattle.ff_net.specs.Pasts.{Past, gave_item, due, cut_to, Units, units_of, count_of, due_by}
