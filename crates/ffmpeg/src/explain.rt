@@ -32,3 +32,4 @@ mod y4m;
 pub use fault::{Seen, explain, named_file};
 pub use input::FRONT;
 pub use level::{tells_faults, tells_progress};
+pub(crate) use line::CommandLine;

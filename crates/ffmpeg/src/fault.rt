@@ -1,37 +1,16 @@
 //! What is said of a fault on standard error, beside the line of the log.
 use crate::explain::{FRONT, Seen, explain, named_file, tells_faults};
+use crate::log::{LogWriter, is_log};
 use crate::words::WordsEnd;
 use ff_command::{Line, Report, Status};
 use ff_host_file::FileHost;
 use std::alloc::{AllocError, Global};
 use std::fs;
-use std::fs::Metadata;
-use std::io::{Eprint, IsTerminal, Read};
-use std::os::unix::fs::MetadataExt;
-
-// Whether two files are one.
-fn is_one(a: &Metadata, b: &Metadata) -> bool {
-    a.dev() == b.dev() && a.ino() == b.ino()
-}
-
-// Whether the log and standard error are one file or pipe, whose readers want the line of the log alone. At a terminal a person
-// reads both.
-fn is_log(rt: &HostRuntime) -> bool {
-    if rt.stderr().is_terminal() {
-        return false;
-    }
-    match (
-        fs::metadata(rt, "/dev/stdout"),
-        fs::metadata(rt, "/dev/stderr"),
-    ) {
-        (Ok(log), Ok(errors)) => is_one(&log, &errors),
-        _ => false,
-    }
-}
+use std::io::{Eprint, Read};
 
 // Says a line on standard error, where that is another file than the log.
-fn say(rt: &HostRuntime, line: &str) {
-    if !is_log(rt) {
+fn say(rt: &HostRuntime, log: &LogWriter, line: &str) {
+    if !is_log(rt, log) {
         let _ = rt.eprint(line);
     }
 }
@@ -93,7 +72,7 @@ fn line_of(
 }
 
 /// Says why the arguments behind these couldn't be handed in.
-pub fn tell_end(rt: &HostRuntime, alloc: Global, words: &[String], end: WordsEnd) {
+pub fn tell_end(rt: &HostRuntime, alloc: Global, log: &LogWriter, words: &[String], end: WordsEnd) {
     if !tells_faults(words) {
         return;
     }
@@ -102,10 +81,10 @@ pub fn tell_end(rt: &HostRuntime, alloc: Global, words: &[String], end: WordsEnd
             if let Ok(line) = format!(in alloc;
                 "ffmpeg: argument {word}, counted from 0, isn't UTF-8\n"
             ) {
-                say(rt, line.as_str());
+                say(rt, log, line.as_str());
             }
         }
-        WordsEnd::NoMemory => say(rt, "ffmpeg: memory ran out\n"),
+        WordsEnd::NoMemory => say(rt, log, "ffmpeg: memory ran out\n"),
     }
 }
 
@@ -113,6 +92,7 @@ pub fn tell_end(rt: &HostRuntime, alloc: Global, words: &[String], end: WordsEnd
 pub fn tell(
     rt: &HostRuntime,
     alloc: Global,
+    log: &LogWriter,
     words: &[String],
     host: &FileHost<HostRuntime>,
     report: &Report,
@@ -123,10 +103,10 @@ pub fn tell(
     if let Line::Failed = report.line
         && let Status::Fine = &report.status
     {
-        say(rt, "ffmpeg: standard output can't be written\n");
+        say(rt, log, "ffmpeg: standard output can't be written\n");
         return;
     }
     if let Ok(Some(line)) = line_of(rt, alloc, words, host, &report.status) {
-        say(rt, line.as_str());
+        say(rt, log, line.as_str());
     }
 }

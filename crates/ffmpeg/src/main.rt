@@ -1,9 +1,10 @@
-//! The program: it hands its arguments, the machine's files and standard output to the command, and ends with the number
+//! The program: it hands its arguments, the machine's files and the log to the command, and ends with the number
 //! of the report. The command itself is `ff_run::ffmpeg`, the files are those of `ff_host_file`.
 #![tactic(auto)]
 
 mod explain;
 mod fault;
+mod log;
 mod words;
 
 ghost use Rattle.std.specs.Prelude.{◌≢◌};
@@ -15,8 +16,8 @@ use ff_host::Sink;
 use ff_host_file::{FileHost, LogSink};
 use ff_run::ffmpeg;
 use ff_words::WordKind;
+use log::log_of;
 use std::alloc::Global;
-use std::io;
 use std::io::IsTerminal;
 use std::process::ExitCode;
 use words::{WordsEnd, read_words};
@@ -46,11 +47,13 @@ fn status_of(end: WordsEnd) -> Status
 
 fn main(rt: HostRuntime) -> ExitCode {
     let alloc = rt.alloc();
-    let mut log = LogSink::new(io::writer(&rt));
     let mut words = Vec::new(alloc);
-    if let Err(end) = read_words(&rt, alloc, &mut words) {
+    let read = read_words(&rt, alloc, &mut words);
+    let writer = log_of(&rt, alloc, words.as_slice());
+    let mut log = LogSink::new(writer);
+    if let Err(end) = read {
         let number = refuse(alloc, &mut log, &status_of(end));
-        tell_end(&rt, alloc, words.as_slice(), end);
+        tell_end(&rt, alloc, &writer, words.as_slice(), end);
         return ExitCode::from(number);
     }
     let Ok(files) = rt.clone() else {
@@ -61,6 +64,6 @@ fn main(rt: HostRuntime) -> ExitCode {
         host.show_progress();
     }
     let report = ffmpeg(&rt, alloc, &words, &mut host, &mut log);
-    tell(&rt, alloc, words.as_slice(), &host, &report);
+    tell(&rt, alloc, &writer, words.as_slice(), &host, &report);
     ExitCode::from(exit_number(&report))
 }

@@ -56,6 +56,14 @@ impl<'a> CommandLine<'a> {
         self.roles.get(place).copied()
     }
 
+    /// The name at a place, where it is that of an output that is a file.
+    pub(crate) fn output_at(&self, place: usize) -> Option<&'a str> {
+        if self.role(place) != Some(Role::Output) || self.goes_nowhere(place) {
+            return None;
+        }
+        Some(self.word(place))
+    }
+
     /// Whether files that are there are kept: the last of `-n` and `-y` counts.
     pub(crate) fn keeps_files(&self) -> bool {
         let mut keeps = false;
