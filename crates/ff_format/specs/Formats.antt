@@ -25,6 +25,7 @@ format_name format.Wav = codes "wav"
 format_name format.Au = codes "au"
 format_name format.Flac = codes "flac"
 format_name format.Y4m = codes "yuv4mpegpipe"
+format_name format.Avi = codes "avi"
 format_name format.U8 = codes "u8"
 format_name format.S8 = codes "s8"
 format_name format.S16le = codes "s16le"
@@ -49,33 +50,40 @@ is_read format.Wav = true
 is_read format.Au = true
 is_read format.Flac = true
 is_read format.Y4m = true
+is_read format.Avi = true
 is_read _ = false
+
+-- whether an output may have it
+abbrev pub is_written : FileFormat → Bool
+is_written format.Avi = false
+is_written _ = true
 
 -- each format with its name, how the names of its files end (empty where no ending tells it), and whether an input and an
 -- output may have it
 abbrev pub file_formats : List (List ℕ × List ℕ × FileFormat × Bool × Bool)
 file_formats =
-    (format_name format.Wav, codes ".wav", format.Wav, is_read format.Wav, true) ∷
-    (format_name format.Au, codes ".au", format.Au, is_read format.Au, true) ∷
-    (format_name format.Flac, codes ".flac", format.Flac, is_read format.Flac, true) ∷
-    (format_name format.Y4m, codes ".y4m", format.Y4m, is_read format.Y4m, true) ∷
-    (format_name format.U8, [], format.U8, is_read format.U8, true) ∷
-    (format_name format.S8, [], format.S8, is_read format.S8, true) ∷
-    (format_name format.S16le, [], format.S16le, is_read format.S16le, true) ∷
-    (format_name format.S16be, [], format.S16be, is_read format.S16be, true) ∷
-    (format_name format.S24le, [], format.S24le, is_read format.S24le, true) ∷
-    (format_name format.S24be, [], format.S24be, is_read format.S24be, true) ∷
-    (format_name format.S32le, [], format.S32le, is_read format.S32le, true) ∷
-    (format_name format.S32be, [], format.S32be, is_read format.S32be, true) ∷
-    (format_name format.RawVideo, [], format.RawVideo, is_read format.RawVideo, true) ∷
-    (format_name format.FrameHash, [], format.FrameHash, is_read format.FrameHash, true) ∷
-    (format_name format.FrameMd5, [], format.FrameMd5, is_read format.FrameMd5, true) ∷
-    (format_name format.FrameCrc, [], format.FrameCrc, is_read format.FrameCrc, true) ∷
-    (format_name format.Hash, [], format.Hash, is_read format.Hash, true) ∷
-    (format_name format.Md5, [], format.Md5, is_read format.Md5, true) ∷
-    (format_name format.StreamHash, [], format.StreamHash, is_read format.StreamHash, true) ∷
-    (format_name format.Crc, [], format.Crc, is_read format.Crc, true) ∷
-    (format_name format.Null, [], format.Null, is_read format.Null, true) ∷
+    (format_name format.Wav, codes ".wav", format.Wav, is_read format.Wav, is_written format.Wav) ∷
+    (format_name format.Au, codes ".au", format.Au, is_read format.Au, is_written format.Au) ∷
+    (format_name format.Flac, codes ".flac", format.Flac, is_read format.Flac, is_written format.Flac) ∷
+    (format_name format.Y4m, codes ".y4m", format.Y4m, is_read format.Y4m, is_written format.Y4m) ∷
+    (format_name format.Avi, [], format.Avi, is_read format.Avi, is_written format.Avi) ∷
+    (format_name format.U8, [], format.U8, is_read format.U8, is_written format.U8) ∷
+    (format_name format.S8, [], format.S8, is_read format.S8, is_written format.S8) ∷
+    (format_name format.S16le, [], format.S16le, is_read format.S16le, is_written format.S16le) ∷
+    (format_name format.S16be, [], format.S16be, is_read format.S16be, is_written format.S16be) ∷
+    (format_name format.S24le, [], format.S24le, is_read format.S24le, is_written format.S24le) ∷
+    (format_name format.S24be, [], format.S24be, is_read format.S24be, is_written format.S24be) ∷
+    (format_name format.S32le, [], format.S32le, is_read format.S32le, is_written format.S32le) ∷
+    (format_name format.S32be, [], format.S32be, is_read format.S32be, is_written format.S32be) ∷
+    (format_name format.RawVideo, [], format.RawVideo, is_read format.RawVideo, is_written format.RawVideo) ∷
+    (format_name format.FrameHash, [], format.FrameHash, is_read format.FrameHash, is_written format.FrameHash) ∷
+    (format_name format.FrameMd5, [], format.FrameMd5, is_read format.FrameMd5, is_written format.FrameMd5) ∷
+    (format_name format.FrameCrc, [], format.FrameCrc, is_read format.FrameCrc, is_written format.FrameCrc) ∷
+    (format_name format.Hash, [], format.Hash, is_read format.Hash, is_written format.Hash) ∷
+    (format_name format.Md5, [], format.Md5, is_read format.Md5, is_written format.Md5) ∷
+    (format_name format.StreamHash, [], format.StreamHash, is_read format.StreamHash, is_written format.StreamHash) ∷
+    (format_name format.Crc, [], format.Crc, is_read format.Crc, is_written format.Crc) ∷
+    (format_name format.Null, [], format.Null, is_read format.Null, is_written format.Null) ∷
     []
 
 -- the first line of this name
@@ -84,11 +92,12 @@ line_named [] word = None
 line_named (line ∷ list) word = if bytes_eq line.0 word then Some line else line_named list word
 
 -- each format's line is found by its name, which is short
-pub found : (f : FileFormat) → (ending : List ℕ) × (line_named file_formats (format_name f) ≡ Some (format_name f, ending, f, is_read f, true))
+pub found : (f : FileFormat) → (ending : List ℕ) × (line_named file_formats (format_name f) ≡ Some (format_name f, ending, f, is_read f, is_written f))
 found format.Wav = (codes ".wav", refl)
 found format.Au = (codes ".au", refl)
 found format.Flac = (codes ".flac", refl)
 found format.Y4m = (codes ".y4m", refl)
+found format.Avi = ([], refl)
 found format.U8 = ([], refl)
 found format.S8 = ([], refl)
 found format.S16le = ([], refl)
@@ -112,6 +121,7 @@ short_name format.Wav = omega arith
 short_name format.Au = omega arith
 short_name format.Flac = omega arith
 short_name format.Y4m = omega arith
+short_name format.Avi = omega arith
 short_name format.U8 = omega arith
 short_name format.S8 = omega arith
 short_name format.S16le = omega arith
@@ -148,6 +158,7 @@ taken_by format.Wav = record { sound = PcmIn LittleEndian false; pictures = fals
 taken_by format.Au = record { sound = PcmIn BigEndian true; pictures = false; codec = codec.PcmS16be; streams = 1 }
 taken_by format.Flac = record { sound = Flac; pictures = false; codec = codec.Flac; streams = 1 }
 taken_by format.Y4m = record { sound = Nothing; pictures = true; codec = codec.PcmS16le; streams = 1 }
+taken_by format.Avi = record { sound = Nothing; pictures = false; codec = codec.PcmS16le; streams = 0 }
 taken_by format.U8 = samples_alone codec.PcmU8
 taken_by format.S8 = samples_alone codec.PcmS8
 taken_by format.S16le = samples_alone codec.PcmS16le

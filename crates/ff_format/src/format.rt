@@ -15,6 +15,8 @@ pub enum FileFormat {
     Flac,
     /// YUV4MPEG2.
     Y4m,
+    /// AVI (AVI RIFF File Reference), for inputs alone.
+    Avi,
     /// Samples of one unsigned byte and nothing else, for outputs alone, as the seven that follow.
     U8,
     /// Samples of one signed byte.
@@ -53,11 +55,12 @@ pub enum FileFormat {
 
 /// The values of `-f`, each with how the names of such files end (empty where no ending tells). Beside them stands
 /// whether an input and an output may have it.
-pub static FORMATS: [(&'static str, &'static str, FileFormat, bool, bool); 21] = [
+pub static FORMATS: [(&'static str, &'static str, FileFormat, bool, bool); 22] = [
     ("wav", ".wav", FileFormat::Wav, true, true),
     ("au", ".au", FileFormat::Au, true, true),
     ("flac", ".flac", FileFormat::Flac, true, true),
     ("yuv4mpegpipe", ".y4m", FileFormat::Y4m, true, true),
+    ("avi", "", FileFormat::Avi, true, false),
     ("u8", "", FileFormat::U8, false, true),
     ("s8", "", FileFormat::S8, false, true),
     ("s16le", "", FileFormat::S16le, false, true),
@@ -240,6 +243,12 @@ impl FileFormat {
                 pictures: true,
                 codec: Codec::PcmS16le,
                 streams: 1,
+            },
+            FileFormat::Avi => Taken {
+                sound: SoundTaken::Nothing,
+                pictures: false,
+                codec: Codec::PcmS16le,
+                streams: 0,
             },
             FileFormat::FrameHash
             | FileFormat::FrameMd5

@@ -4,4 +4,5 @@ pub mod CrcFile
 pub mod DigestFiles
 pub mod NullFile
 pub mod RawFile
+pub mod Unwritten
 pub mod AnyWriters

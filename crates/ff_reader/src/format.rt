@@ -8,7 +8,7 @@ use crate::step::Step;
 /// A format whose head is read unit by unit: its grammar, and the code that reads one unit.
 pub trait HeadFormat {
     /// What a whole head says.
-    type Head: Copy;
+    type Head: Drop;
 
     /// What the units so far say.
     type State: Copy;

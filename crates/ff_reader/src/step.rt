@@ -2,8 +2,8 @@
 use crate::fault::HeadFault;
 
 /// What a unit does to the reading of a head: a chunk, a block of metadata, a box.
-#[derive(Clone, Copy)]
-pub enum Step<H, S> {
+#[derive(Drop)]
+pub enum Step<H: Drop, S: Copy> {
     /// More bytes are wanted.
     Wait,
     /// The head, or the fault for which there is none.

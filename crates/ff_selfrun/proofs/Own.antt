@@ -29,7 +29,7 @@ use Rattle.ff_words.specs.Values.{Reads}
 use Rattle.ff_words.specs.Words.{Entry, IsAnswer, written}
 use Rattle.ff_words.specs.laws.Writing.{pick_text}
 use Rattle.ff_words.proofs.Goes.{goes-start, goes-option, goes-input, goes-switch, goes-output}
-use Rattle.ff_format.specs.Formats.{is_read}
+use Rattle.ff_format.specs.Formats.{is_read, is_written}
 use Rattle.ff_words.proofs.Known.{line-complex, line-format, line-input, line-map, line-shortest, reads-complex, reads-format, reads-map}
 use Rattle.ff_words.proofs.Tokens.{ended}
 use Rattle.ff_words.proofs.Unique.{answer-one}
@@ -144,9 +144,9 @@ made =
     goes-option ws few (codes "-map") (codes "[v]") (drop 10 ws) r4 Output kind.Map (value.Map picture_map) g4 refl line-map refl (omega arith) (omega arith) refl refl (reads-map picture_map (label-v, refl)) in
     let r6 = optioned (entry g5.at Output value.Shortest) r5 in
     let g6 = goes-switch ws few (codes "-shortest") (drop 11 ws) r5 Output kind.Shortest value.Shortest g5 refl line-shortest refl refl (omega arith) refl in
-    let r7 = optioned (entry g6.at File (value.Format FrameHash (is_read FrameHash) true)) r6 in
+    let r7 = optioned (entry g6.at File (value.Format FrameHash (is_read FrameHash) (is_written FrameHash))) r6 in
     let g7 =
-    goes-option ws few (codes "-f") (codes "framehash") (drop 13 ws) r6 File kind.Format (value.Format FrameHash (is_read FrameHash) true) g6 refl line-format refl (omega arith) (omega arith) refl refl
+    goes-option ws few (codes "-f") (codes "framehash") (drop 13 ws) r6 File kind.Format (value.Format FrameHash (is_read FrameHash) (is_written FrameHash)) g6 refl line-format refl (omega arith) (omega arith) refl refl
     (reads-format FrameHash) in
     let r8 = with_output (codes "out") FrameHash r7 in
     let g8 = goes-output ws few (codes "out") [] r7 FrameHash g7 refl (λ e. sym e) (omega arith) (λ ending. refl) refl in

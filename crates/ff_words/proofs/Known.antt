@@ -24,7 +24,7 @@ use Rattle.ff_words.specs.declared.table.Named.{Named}
 use Rattle.ff_words.specs.declared.table.Rule.{Rule}
 use Rattle.ff_words.specs.declared.value.Micros.{Micros}
 use Rattle.ff_words.specs.declared.value.Value.TheVariants as value
-use Rattle.ff_format.specs.Formats.{file_formats, format_name, found, is_read, line_named}
+use Rattle.ff_format.specs.Formats.{file_formats, format_name, found, is_read, is_written, line_named}
 use Rattle.ff_words.specs.Table.{rule_in, option_named, format_in, format_named, named, audio_codec, video_codec}
 use Rattle.ff_words.specs.Values.{Reads, or_bad, format_value, codec_value, hash_value, rf64_value, pixels_value, size_value}
 use Rattle.ff_words.specs.Words.{is_dashed}
@@ -200,13 +200,13 @@ line-is [] word line e = cc
 line-is (l ∷ list) word line e = first-line l list word line (bytes_eq l.0 word) refl e (line-is list word line)
 
 abbrev named_as : FileFormat → Named
-named_as f = record { format = f; read = is_read f; written = true }
+named_as f = record { format = f; read = is_read f; written = is_written f }
 
 format-is : (f : FileFormat) → format_named (format_name f) ≡ Some (named_as f)
 unfolding format_named
-format-is f = line-is file_formats (format_name f) (format_name f, (found f).0, f, is_read f, true) (found f).1
+format-is f = line-is file_formats (format_name f) (format_name f, (found f).0, f, is_read f, is_written f) (found f).1
 
-pub reads-format : (f : FileFormat) → Reads kind.Format (format_name f) (Ok (value.Format f (is_read f) true))
+pub reads-format : (f : FileFormat) → Reads kind.Format (format_name f) (Ok (value.Format f (is_read f) (is_written f)))
 reads-format f = sym (ap (λ o. or_bad (format_value o)) (format-is f))
 
 audio-is : (c : Codec) → IsSoundCodec c → audio_codec (codec_name c) ≡ Some c

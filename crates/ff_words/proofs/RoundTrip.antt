@@ -36,7 +36,7 @@ use Rattle.ff_words.specs.declared.value.Value.TheVariants as value
 use Rattle.ff_words.specs.laws.Reading.{pending, reader, place_unless, end_wrong}
 use Rattle.ff_words.specs.declared.error.Fault.{Fault}
 use Rattle.ff_words.specs.Words.{IsAnswer, or_else, cut_of, start_of, length_of, ends_early, fault, bad_at, lacks_input, same_name}
-use Rattle.ff_format.specs.Formats.{format_name, is_read, short_name}
+use Rattle.ff_format.specs.Formats.{format_name, is_read, is_written, short_name}
 use Rattle.ff_words.specs.Options.{hash_name, rf64_name, pixels_name}
 use Rattle.ff_words.specs.declared.job.Asked.{Asked}
 use Rattle.ff_words.specs.declared.job.Size.{Size}
@@ -103,6 +103,10 @@ held b u e w =
       rf64 = w.rf64;
     }
 
+-- before an input the place of a format that no output has is of no matter
+abbrev held_in : Option ℕ → Option ℕ → Own → Pending
+held_in n e w = record (held None None e w) { unwritable = n }
+
 abbrev in_hand : Reader → Pending → Reader
 in_hand r p = record r { pending = p }
 
@@ -112,13 +116,13 @@ Out ws rest r w = (b : Option ℕ) × (u : Option ℕ) × (e : Option ℕ) × Go
 
 -- before an input only those that no end has
 abbrev In : List Text → List Text → Reader → Own → Type 0
-In ws rest r w = (e : Option ℕ) × Goes ws rest (in_hand r (held None None e w))
+In ws rest r w = (n e : Option ℕ) × Goes ws rest (in_hand r (held_in n e w))
 
 out-split : (ws : List Text) (r : Reader) (w : Own) (x y rest : List Text) → Out ws ((x ++ y) ++ rest) r w → Out ws (x ++ (y ++ rest)) r w
 out-split ws r w x y rest h = (h.0, h.1, h.2, goes-by ws ((x ++ y) ++ rest) (x ++ (y ++ rest)) (in_hand r (held h.0 h.1 h.2 w)) (append_assoc x y rest) h.3)
 
 in-split : (ws : List Text) (r : Reader) (w : Own) (x y rest : List Text) → In ws ((x ++ y) ++ rest) r w → In ws (x ++ (y ++ rest)) r w
-in-split ws r w x y rest h = (h.0, goes-by ws ((x ++ y) ++ rest) (x ++ (y ++ rest)) (in_hand r (held None None h.0 w)) (append_assoc x y rest) h.1)
+in-split ws r w x y rest h = (h.0, h.1, goes-by ws ((x ++ y) ++ rest) (x ++ (y ++ rest)) (in_hand r (held_in h.0 h.1 w)) (append_assoc x y rest) h.2)
 
 codec-short : (c : Codec) → IsFineText (codec_name c)
 codec-short codec.RawVideo = omega arith
@@ -418,14 +422,15 @@ rf64-read ws few y rest r w Never h = h
 rf64-read ws few y rest r w Auto h = rf64-said ws few (y ++ rest) r (record w { rf64 = None }) Auto h
 rf64-read ws few y rest r w Always h = rf64-said ws few (y ++ rest) r (record w { rf64 = None }) Always h
 
-format-read : (ws : List Text) (few : length ws ≤ 1024) (y rest : List Text) (r : Reader) (w : Own) (o : FileFormat)
+format-read : (ws : List Text) (few : length ws ≤ 1024) (y rest : List Text) (r : Reader) (w : Own) (o : FileFormat) → is_written o ≡ true
     → Out ws ((format_words o ++ y) ++ rest) r w → Out ws (y ++ rest) r (record w { format = Some o })
-format-read ws few y rest r w o h = (
+format-read ws few y rest r w o fine h = (
   or_else h.0 None,
   place_unless (is_read o) h.3.at,
   or_else h.2 (Some h.3.at),
-  goes-option ws few (codes "-f") (format_name o) (y ++ rest) (in_hand r (held h.0 h.1 h.2 w)) File kind.Format (value.Format o (is_read o) true) h.3 refl line-format refl (omega arith) (format-short o) refl refl
-      (reads-format o),
+  subst (λ b. Goes ws (y ++ rest) (in_hand r (record (held (or_else h.0 None) (place_unless (is_read o) h.3.at) (or_else h.2 (Some h.3.at)) (record w { format = Some o })) { unwritable = place_unless b h.3.at }))) fine
+      (goes-option ws few (codes "-f") (format_name o) (y ++ rest) (in_hand r (held h.0 h.1 h.2 w)) File kind.Format (value.Format o (is_read o) (is_written o)) h.3 refl line-format refl (omega arith) (format-short o) refl refl
+      (reads-format o)),
 )
 
 -- ---- an output
@@ -470,7 +475,7 @@ output-options ws few rest r o fine g =
     let h11 : Out ws (y11 ++ rest) r (own o.maps o.audio o.video o.vf o.af o.no_audio o.no_video s l o.frames o.asked o.shortest None None None) = shortest-read ws few y11 rest r (own o.maps o.audio o.video o.vf o.af o.no_audio o.no_video s l o.frames o.asked false None None None) o.shortest ha in
     let h12 : Out ws (y12 ++ rest) r (own o.maps o.audio o.video o.vf o.af o.no_audio o.no_video s l o.frames o.asked o.shortest (Some o.hash) None None) = hash-read ws few y12 rest r (own o.maps o.audio o.video o.vf o.af o.no_audio o.no_video s l o.frames o.asked o.shortest None None None) o.hash h11 in
     let h13 : Out ws (y13 ++ rest) r (own o.maps o.audio o.video o.vf o.af o.no_audio o.no_video s l o.frames o.asked o.shortest (Some o.hash) (mode_in o.rf64) None) = rf64-read ws few y13 rest r (own o.maps o.audio o.video o.vf o.af o.no_audio o.no_video s l o.frames o.asked o.shortest (Some o.hash) None None) o.rf64 h12 in
-    format-read ws few y14 rest r (own o.maps o.audio o.video o.vf o.af o.no_audio o.no_video s l o.frames o.asked o.shortest (Some o.hash) (mode_in o.rf64) None) o.format h13
+    format-read ws few y14 rest r (own o.maps o.audio o.video o.vf o.af o.no_audio o.no_video s l o.frames o.asked o.shortest (Some o.hash) (mode_in o.rf64) None) o.format fine.format h13
 
 -- without an end no cut ends early
 never_early : (start : ℕ) (length : Option Micros) → ends_early start length None ≡ None
@@ -517,17 +522,19 @@ in-format : (ws : List Text) (few : length ws ≤ 1024) (y rest : List Text) (r 
     → In ws ((where_some format_words o ++ y) ++ rest) r (record w { format = None }) → In ws (y ++ rest) r (record w { format = o })
 in-format ws few y rest r w None fine h = h
 in-format ws few y rest r w (Some f) fine h = (
-  or_else h.0 (Some h.1.at),
-  subst (λ b. Goes ws (y ++ rest) (in_hand r (held None (place_unless b h.1.at) (or_else h.0 (Some h.1.at)) (record w { format = Some f })))) (fine)
-      (goes-option ws few (codes "-f") (format_name f) (y ++ rest) (in_hand r (held None None h.0 (record w { format = None }))) File kind.Format (value.Format f (is_read f) true) h.1 refl line-format refl (omega arith)
+  place_unless (is_written f) h.2.at,
+  or_else h.1 (Some h.2.at),
+  subst (λ b. Goes ws (y ++ rest) (in_hand r (record (held_in (place_unless (is_written f) h.2.at) (or_else h.1 (Some h.2.at)) (record w { format = Some f })) { unreadable = place_unless b h.2.at }))) fine
+      (goes-option ws few (codes "-f") (format_name f) (y ++ rest) (in_hand r (held_in h.0 h.1 (record w { format = None }))) File kind.Format (value.Format f (is_read f) (is_written f)) h.2 refl line-format refl (omega arith)
       (format-short f) refl refl (reads-format f)),
 )
 
 in-start : (ws : List Text) (few : length ws ≤ 1024) (y rest : List Text) (r : Reader) (w : Own) (m : Micros)
     → In ws ((start_words m.us ++ y) ++ rest) r w → In ws (y ++ rest) r (record w { start = Some m })
 in-start ws few y rest r w m h = (
-  or_else h.0 (Some h.1.at),
-  goes-option ws few (codes "-ss") (micros_text m.us) (y ++ rest) (in_hand r (held None None h.0 w)) File kind.Start (value.Start m) h.1 refl line-start refl (omega arith) (micros-short m.us m.bound)
+  h.0,
+  or_else h.1 (Some h.2.at),
+  goes-option ws few (codes "-ss") (micros_text m.us) (y ++ rest) (in_hand r (held_in h.0 h.1 w)) File kind.Start (value.Start m) h.2 refl line-start refl (omega arith) (micros-short m.us m.bound)
       refl refl (reads-start m),
 )
 
@@ -536,8 +543,9 @@ in-length : (ws : List Text) (few : length ws ≤ 1024) (y rest : List Text) (r 
 unfolding micros_in
 in-length ws few y rest r w None k h = h
 in-length ws few y rest r w (Some n) k h = (
-  or_else h.0 (Some h.1.at),
-  goes-option ws few (codes "-t") (micros_text n) (y ++ rest) (in_hand r (held None None h.0 (record w { length = None }))) File kind.Length (value.Length (record { us = n; bound = k n refl })) h.1 refl line-length refl (omega arith)
+  h.0,
+  or_else h.1 (Some h.2.at),
+  goes-option ws few (codes "-t") (micros_text n) (y ++ rest) (in_hand r (held_in h.0 h.1 (record w { length = None }))) File kind.Length (value.Length (record { us = n; bound = k n refl })) h.2 refl line-length refl (omega arith)
       (micros-short n (k n refl)) refl refl (reads-length (record { us = n; bound = k n refl })),
 )
 
@@ -558,13 +566,13 @@ input-read ws few rest r i fine room g =
     let s : Option Micros = Some (start_in i.cut) in
     let l : Option Micros = micros_in i.cut.length i.cut.length_bound in
     let w0 : Own = own [] None None None None false false None None None none_asked false None None None in
-    let h1 : In ws (y1 ++ rest) r (own [] None None None None false false None None None none_asked false None None i.format) = in-format ws few y1 rest r w0 i.format fine.format (None, g) in
+    let h1 : In ws (y1 ++ rest) r (own [] None None None None false false None None None none_asked false None None i.format) = in-format ws few y1 rest r w0 i.format fine.format (None, None, g) in
     let h2 : In ws (y2 ++ rest) r (own [] None None None None false false s None None none_asked false None None i.format) = in-start ws few y2 rest r (own [] None None None None false false None None None none_asked false None None i.format) (start_in i.cut) h1 in
     let h3 : In ws (y3 ++ rest) r (own [] None None None None false false s l None none_asked false None None i.format) = in-length ws few y3 rest r (own [] None None None None false false s None None none_asked false None None i.format) i.cut.length i.cut.length_bound h2 in
-    let old : Reader = in_hand r (held None None h3.0 (own [] None None None None false false s l None none_asked false None None i.format)) in
+    let old : Reader = in_hand r (held_in h3.0 h3.1 (own [] None None None None false false s l None none_asked false None None i.format)) in
     let full : nat_le 16 (length r.inputs) ≡ false = lt-leb 16 (length r.inputs) room in
     subst (λ x. Goes ws rest (record r { inputs = r.inputs ++ x ∷ []; pending = pending [] })) (input-same i (cut_of s l None) (cut-same i.cut))
-    (goes-input ws few (codes "-i") i.name rest old h3.1 refl line-input (omega arith) fine.name (in_room (nat_le 16 (length r.inputs)) (h3.1.at + 1) (ends_early i.cut.start l None) full (never_early i.cut.start l)))
+    (goes-input ws few (codes "-i") i.name rest old h3.2 refl line-input (omega arith) fine.name (in_room (nat_le 16 (length r.inputs)) (h3.2.at + 1) (ends_early i.cut.start l None) full (never_early i.cut.start l)))
 
 inputs-read : (ws : List Text) (few : length ws ≤ 1024) (rest : List Text) (is : List InputJob) (r : Reader) → AllByRecursion IsFineInput is → length r.inputs + length is ≤ 16
     → Goes ws (flat_map input_words is ++ rest) (in_hand r (pending [])) → Goes ws rest (record r { inputs = r.inputs ++ is; pending = pending [] })

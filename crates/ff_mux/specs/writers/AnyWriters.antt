@@ -18,6 +18,7 @@ use Rattle.ff_mux.specs.writers.DigestFiles.{streams_format, streams_layout, str
 use Rattle.ff_mux.specs.writers.FlacFile.{flac_format, flac_inside, flac_layout, flac_writes}
 use Rattle.ff_mux.specs.writers.NullFile.{null_format, null_writes}
 use Rattle.ff_mux.specs.writers.RawFile.{raw_format, raw_layout, raw_writes}
+use Rattle.ff_mux.specs.writers.Unwritten.{unwritten_format, avi_writes}
 use Rattle.ff_mux.specs.writers.HashFile.{hash_format, hash_layout, hash_writes, md5_writes}
 use Rattle.ff_mux.specs.laws.writers.Writers.{flac_head, hash_kind, hash_heads, crc_heads, joined_kind, HasJoined, HasSummed, streams_kind, streams_heads, HasStreams}
 use Rattle.ff_au.specs.Header as au
@@ -32,6 +33,7 @@ format_of format.Wav = wav_format
 format_of format.Au = au_format
 format_of format.Flac = flac_format
 format_of format.Y4m = y4m_format
+format_of format.Avi = unwritten_format
 format_of format.U8 = raw_format
 format_of format.S8 = raw_format
 format_of format.S16le = raw_format
@@ -64,6 +66,7 @@ writes_taken format.Wav = wav_writes
 writes_taken format.Au = au_writes
 writes_taken format.Flac = flac_writes
 writes_taken format.Y4m = y4m_writes
+writes_taken format.Avi = avi_writes
 writes_taken format.U8 = raw_writes (taken_by format.U8) refl
 writes_taken format.S8 = raw_writes (taken_by format.S8) refl
 writes_taken format.S16le = raw_writes (taken_by format.S16le) refl

@@ -58,6 +58,8 @@ pub fn writer_of(
         FileFormat::Au => Ok(AnyWriter::Au(AuPut::new(alloc, &heads[0]))),
         FileFormat::Flac => Ok(AnyWriter::Flac(FlacWriter::new(alloc, heads[0]))),
         FileFormat::Y4m => Ok(AnyWriter::Y4m(Y4mWriter::new(alloc, heads[0]))),
+        // No output has it.
+        FileFormat::Avi => unreachable!(),
         FileFormat::U8
         | FileFormat::S8
         | FileFormat::S16le

@@ -27,7 +27,7 @@ use Rattle.ff_words.specs.declared.job.Command.{Command}
 use Rattle.ff_words.specs.declared.job.Command.TheVariants as asked
 use Rattle.ff_words.specs.declared.job.Solo.{Solo}
 use Rattle.ff_words.specs.declared.job.Solo.TheVariants.{Help, Version, SelfRun}
-use Rattle.ff_format.specs.Formats.{format_name, is_read, has_file}
+use Rattle.ff_format.specs.Formats.{format_name, is_read, is_written, has_file}
 use Rattle.ff_words.specs.Options.{hash_name, rf64_name, pixels_name}
 use Rattle.ff_words.specs.Words.{is_dashed, is_lone, lacks_input, same_name, none_asked}
 use Rattle.ff_words.specs.declared.job.Asked.{Asked}
@@ -248,6 +248,7 @@ pub record IsFineOutput (o : OutputJob) : Type 0 where
   pub some_name : 0 < length o.name
   pub plain_name : is_dashed o.name ≡ false
   pub lone_name : is_lone o.name ≡ true → has_file o.format ≡ false
+  pub format : is_written o.format ≡ true
   pub few_maps : length o.maps ≤ 16
   pub maps : AllByRecursion IsFineMap o.maps
   pub audio : WhereSome IsSoundCodec o.audio
@@ -261,8 +262,8 @@ pub record IsFineOutput (o : OutputJob) : Type 0 where
 abbrev pub IsPlainOutput : OutputJob → Type 0
 IsPlainOutput o = (o.rf64 ≡ Never) × (o.frames ≡ None) × (o.asked ≡ none_asked)
 
--- Each number is in its range, each name and text is short enough, the names of outputs are names of outputs, there are at most
--- sixteen of what there may be sixteen of, an output, and an input or a graph that makes a stream. No written name stands twice.
+-- Each number is in its range, each name and text is short enough, the names of outputs are names of outputs, each format can be read or
+-- written, there are at most sixteen of what there may be sixteen of, an output, and an input or a graph that makes a stream. No written name stands twice.
 pub record IsFineJob (j : Job) : Type 0 where
   pub some_queue : 1 ≤ j.queue
   pub short_queue : j.queue ≤ 1024
