@@ -15,6 +15,8 @@ use Rattle.ff_format.specs.declared.format.FileFormat.{FileFormat}
 use Rattle.ff_format.specs.declared.format.FileFormat.TheVariants as format
 use Rattle.ff_y4m.specs.declared.head.Y4mHead.{Y4mHead}
 use Rattle.ff_au.specs.laws.HeadLaws as au_laws
+use Rattle.ff_avi.specs.laws.HeadLaws as avi_laws
+use Rattle.ff_avi.specs.laws.Heads as avi
 use Rattle.ff_au.specs.Heads as au
 use Rattle.ff_pcm.specs.declared.body.head.PcmHead.{PcmHead}
 use Rattle.ff_wav.specs.laws.HeadLaws as wav_laws
@@ -65,8 +67,10 @@ found_not make (Err (Unsupported p)) n e = let same : p ≡ 0 = cc in n (ap (λ 
 
 flac_own : (bs these : List ℕ) → bs ≡ these → flac.head these ≢ Err (Unsupported 0) → head_in format.Flac bs ≢ Err (Unsupported 0)
 flac_own bs these e own =
-    found_not Other (as_found Other (as_found First (flac.head bs))) (found_not Other (as_found First (flac.head bs)) (found_not First (flac.head bs)
-    (subst (λ xs. flac.head xs ≢ Err (Unsupported 0)) (sym e) own)))
+    let here : flac.head bs ≢ Err (Unsupported 0) = subst (λ xs. flac.head xs ≢ Err (Unsupported 0)) (sym e) own in
+    let one = found_not First (flac.head bs) here in
+    let two = found_not Other (as_found First (flac.head bs)) one in
+    found_not First (as_found Other (as_found Other (as_found First (flac.head bs)))) (found_not Other (as_found Other (as_found First (flac.head bs))) two)
 
 -- ---- of YUV4MPEG2: a line that is empty, and one that has begun
 
@@ -100,7 +104,7 @@ empty_line =
 
 line_head : (ws bs : List ℕ) (p : ℕ) → y4m.head ws ≡ Err (Damaged p) → length bs ≡ length (map Some ws) → agrees (map Some ws) bs ≡ true
     → head_in format.Y4m bs ≡ Err (Damaged p)
-line_head ws bs p e l a = ap (λ xs. head_in format.Y4m xs) (are_these ws bs l a) ∙ ap (λ (found : Found Y4mHead). as_found Other (as_found First found)) e
+line_head ws bs p e l a = ap (λ xs. head_in format.Y4m xs) (are_these ws bs l a) ∙ ap (λ (found : Found Y4mHead). as_found First (as_found Other (as_found First found))) e
 
 -- ---- each word
 
@@ -111,7 +115,7 @@ riff_word = record {
   more = [];
   more_bytes = All-nil (λ b. b < 256);
   own = λ bs l a. alone format.Wav bs (not_other (head_in format.Wav bs) (length bs)
-      (ap (as_found First) (wav_forms.head_riff bs (wav_forms.riff_told bs (omega (arith, l)) a) ∙ damaged_behind wav.riff_grammar wav_laws.riff_lawful bs l a)));
+      (ap (λ (found : Found PcmHead). as_found First (as_found First found)) (wav_forms.head_riff bs (wav_forms.riff_told bs (omega (arith, l)) a) ∙ damaged_behind wav.riff_grammar wav_laws.riff_lawful bs l a)));
 }
 
 rf64_word : IsFirstWord head_in (record { word = wav.rf64_magic; format = format.Wav })
@@ -121,7 +125,7 @@ rf64_word = record {
   more = [];
   more_bytes = All-nil (λ b. b < 256);
   own = λ bs l a. alone format.Wav bs (not_other (head_in format.Wav bs) (length bs)
-      (ap (as_found First) (wav_forms.head_rf64 bs (wav_forms.magic_told bs a) ∙ damaged_behind wav.rf64_grammar wav_laws.rf64_lawful bs l a)));
+      (ap (λ (found : Found PcmHead). as_found First (as_found First found)) (wav_forms.head_rf64 bs (wav_forms.magic_told bs a) ∙ damaged_behind wav.rf64_grammar wav_laws.rf64_lawful bs l a)));
 }
 
 line_word : IsFirstWord head_in (record { word = map Some (y4m.magic ++ space ∷ []); format = format.Y4m })
@@ -167,13 +171,23 @@ au_word = record {
   more = [];
   more_bytes = All-nil (λ b. b < 256);
   own = λ bs l a. alone format.Au bs (not_other (head_in format.Au bs) (length bs)
-      (ap (λ (found : Found PcmHead). as_found Other (as_found Other (as_found Other found))) (damaged_behind au.grammar au_laws.is_lawful bs l a)));
+      (ap (λ (found : Found PcmHead). as_found First (as_found Other (as_found Other (as_found Other found)))) (damaged_behind au.grammar au_laws.is_lawful bs l a)));
+}
+
+avi_word : IsFirstWord head_in (record { word = avi.magic; format = format.Avi })
+avi_word = record {
+  bytes = avi_laws.is_lawful.bytes;
+  few = avi_laws.is_lawful.few;
+  more = [];
+  more_bytes = All-nil (λ b. b < 256);
+  own = λ bs l a. alone format.Avi bs (not_other (head_in format.Avi bs) (length bs) (ap (as_found Other) (damaged_behind avi.grammar avi_laws.is_lawful bs l a)));
 }
 
 pub all_words : All (IsFirstWord head_in) first_words
 all_words =
     let Owes = IsFirstWord head_in in
-    let au_words = record { word = au.magic; format = format.Au } ∷ [] in
+    let avi_words = record { word = avi.magic; format = format.Avi } ∷ [] in
+    let au_words = record { word = au.magic; format = format.Au } ∷ avi_words in
     let tag_words = record { word = flac_tags.tag_magic; format = format.Flac } ∷ au_words in
     let flac_words = record { word = flac_tags.magic; format = format.Flac } ∷ tag_words in
     let empty_lines = record { word = map Some (y4m.magic ++ line_feed ∷ []); format = format.Y4m } ∷ flac_words in
@@ -185,7 +199,8 @@ all_words =
     (All-cons Owes (record { word = map Some (y4m.magic ++ line_feed ∷ []); format = format.Y4m }) flac_words empty_line_word
     (All-cons Owes (record { word = flac_tags.magic; format = format.Flac }) tag_words flac_word
     (All-cons Owes (record { word = flac_tags.tag_magic; format = format.Flac }) au_words tag_word
-    (All-cons Owes (record { word = au.magic; format = format.Au }) [] au_word (All-nil Owes)))))))
+    (All-cons Owes (record { word = au.magic; format = format.Au }) avi_words au_word
+    (All-cons Owes (record { word = avi.magic; format = format.Avi }) [] avi_word (All-nil Owes))))))))
 
 -- and each two words differ
 pub words_apart : are_apart first_words ≡ true

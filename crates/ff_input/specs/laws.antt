@@ -1,4 +1,5 @@
 pub mod FlacShapes
+pub mod HeadStreams
 pub mod Owed
 pub mod PcmShapes
 pub mod Places

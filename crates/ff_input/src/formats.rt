@@ -9,6 +9,7 @@ use crate::head_reader::HeadReader;
 use crate::one_of::OneOf;
 use crate::walk::InputWalk;
 use ff_au::{Au, AuCut, AuHead, AuWalk};
+use ff_avi::{Avi, AviHead, AviWalk};
 use ff_flac_dec::{Flac, FlacCut, FlacHead, FlacWalk, TaggedWalk};
 use ff_format::FileFormat;
 use ff_frame::HeadEnd;
@@ -16,15 +17,20 @@ use ff_reader::{HeadFormat, HeadWalk};
 use ff_wav::{BothForms, Rf64Wave, RiffWave, WavCut, WavHead, WavWalk};
 use ff_y4m::{Y4mCut, Y4mHead, read_head};
 
-/// The head of an input: what comes before its packets, in the format that it has. WAV (RIFF WAVE, EBU Tech 3306), YUV4MPEG2
-/// (yuv4mpeg(5)), FLAC (RFC 9639), AU.
-pub type InputHead = OneOf<WavHead, OneOf<Y4mHead, OneOf<FlacHead, AuHead>>>;
+/// The head of an input of one stream: WAV (RIFF WAVE, EBU Tech 3306), YUV4MPEG2 (yuv4mpeg(5)), FLAC (RFC 9639), AU.
+pub type SingleHead = OneOf<WavHead, OneOf<Y4mHead, OneOf<FlacHead, AuHead>>>;
+
+/// How far the head of an input of one stream was read.
+pub type SingleWalk = OneOf<WavWalk, OneOf<Y4mWalk, OneOf<FlacWalk, AuWalk>>>;
+
+/// The packets of an input of one stream, from pieces of any size.
+pub type SingleCut = OneOf<WavCut, OneOf<Y4mCut, OneOf<FlacCut, AuCut>>>;
+
+/// The head of an input: what comes before its packets, in the format that it has. It has one stream, or is that of an AVI.
+pub type InputHead = OneOf<SingleHead, AviHead>;
 
 /// How far the head of an input was read, in the format that it has.
-pub type AnyWalk = OneOf<WavWalk, OneOf<Y4mWalk, OneOf<FlacWalk, AuWalk>>>;
-
-/// The packets of an input in any format that is read, from pieces of any size.
-pub type AnyCut = OneOf<WavCut, OneOf<Y4mCut, OneOf<FlacCut, AuCut>>>;
+pub type AnyWalk = OneOf<SingleWalk, AviWalk>;
 
 /// `YUV4MPEG2` and a space.
 const LINE: [Option<u8>; 10] = [
@@ -65,7 +71,8 @@ pub(crate) fn told_by_words(bytes: &[u8]) -> FirstWord
     let flac = told_by_word(FileFormat::Flac, Flac::name(), bytes);
     let tagged = told_by_word(FileFormat::Flac, Flac::tag_name(), bytes);
     let au = told_by_word(FileFormat::Au, Au::magic(), bytes);
-    riff.or(rf64.or(line.or(empty_line.or(flac.or(tagged.or(au.or(FirstWord::Other)))))))
+    let avi = told_by_word(FileFormat::Avi, Avi::magic(), bytes);
+    riff.or(rf64.or(line.or(empty_line.or(flac.or(tagged.or(au.or(avi.or(FirstWord::Other))))))))
 }
 
 /// Before anything was read of an input in this format.
@@ -73,12 +80,15 @@ pub(crate) fn start_of(format: FileFormat) -> InputWalk
     ensures { Reached result (Some format) [] }
 {
     match format {
-        FileFormat::Wav => InputWalk::In(OneOf::First(WavWalk::new())),
-        FileFormat::Y4m => InputWalk::In(OneOf::Other(OneOf::First(Y4mWalk))),
-        FileFormat::Flac => InputWalk::In(OneOf::Other(OneOf::Other(OneOf::First(
+        FileFormat::Wav => InputWalk::In(OneOf::First(OneOf::First(WavWalk::new()))),
+        FileFormat::Y4m => InputWalk::In(OneOf::First(OneOf::Other(OneOf::First(Y4mWalk)))),
+        FileFormat::Flac => InputWalk::In(OneOf::First(OneOf::Other(OneOf::Other(OneOf::First(
             FlacWalk::new(),
-        )))),
-        FileFormat::Au => InputWalk::In(OneOf::Other(OneOf::Other(OneOf::Other(AuWalk::new())))),
+        ))))),
+        FileFormat::Au => InputWalk::In(OneOf::First(OneOf::Other(OneOf::Other(OneOf::Other(
+            AuWalk::new(),
+        ))))),
+        FileFormat::Avi => InputWalk::In(OneOf::Other(AviWalk::new())),
         _ => InputWalk::Other,
     }
 }

@@ -21,16 +21,21 @@ pub returns-in-Au : goal.returns-in-Au
 unfolding input_head
 returns-in-Au c = rw c.in-Au.is (λ more. refl, ([], [], refl, (lit≤ tt, c.new-in-Au.ensures)))
 
+pub returns-in-Avi : goal.returns-in-Avi
+unfolding input_head
+returns-in-Avi c = rw c.in-Avi.is (λ more. refl, ([], [], refl, (lit≤ tt, c.new-in-Avi.ensures)))
+
 -- a format that isn't read
-not_read : (f : FileFormat) → (f ≡ format.Wav → ⊥) → (f ≡ format.Y4m → ⊥) → (f ≡ format.Flac → ⊥) → (f ≡ format.Au → ⊥) → (bs : List ℕ)
+not_read : (f : FileFormat) → (f ≡ format.Wav → ⊥) → (f ≡ format.Y4m → ⊥) → (f ≡ format.Flac → ⊥) → (f ≡ format.Au → ⊥) → (f ≡ format.Avi → ⊥) → (bs : List ℕ)
     → head_in f bs ≡ Err (Unsupported 0)
-not_read format.Wav wav y4m flac au bs = absurd (wav refl)
-not_read format.Y4m wav y4m flac au bs = absurd (y4m refl)
-not_read format.Flac wav y4m flac au bs = absurd (flac refl)
-not_read format.Au wav y4m flac au bs = absurd (au refl)
-not_read other wav y4m flac au bs = refl
+not_read format.Wav wav y4m flac au avi bs = absurd (wav refl)
+not_read format.Y4m wav y4m flac au avi bs = absurd (y4m refl)
+not_read format.Flac wav y4m flac au avi bs = absurd (flac refl)
+not_read format.Au wav y4m flac au avi bs = absurd (au refl)
+not_read format.Avi wav y4m flac au avi bs = absurd (avi refl)
+not_read other wav y4m flac au avi bs = refl
 
 pub returns-in_default : goal.returns-in_default
 unfolding input_head
 returns-in_default c = λ more.
-    not_read c.args.format c.in_default.not-Wav c.in_default.not-Y4m c.in_default.not-Flac c.in_default.not-Au more
+    not_read c.args.format c.in_default.not-Wav c.in_default.not-Y4m c.in_default.not-Flac c.in_default.not-Au c.in_default.not-Avi more
