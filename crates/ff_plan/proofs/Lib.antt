@@ -1,4 +1,5 @@
 pub mod ByRows
+pub mod Decoded
 pub mod EndFits
 pub mod Frames
 pub mod GraphFits

@@ -31,11 +31,12 @@ use Rattle.ff_plan_layout.specs.declared.layout.Passed.{Passed}
 use Rattle.ff_plan_layout.specs.declared.layout.Laid.{Laid}
 use Rattle.ff_plan_layout.specs.Layout.{IsAmong, Layout, same_ref, placed, origins, shows, streams, is_shown, used, read, is_used, used_inputs, IsLaid}
 use Rattle.ff_plan_layout.specs.Sources.{source_streams}
-use Rattle.ff_plan.specs.Nodes.{before_decs, before_graphs, demux_at, dec_at, graph_at, origin_at, demux_wire, pad_wire, pad_wires, shortest_wire, enc_wire, mux_wire, wires_of, plan_of}
+use Rattle.ff_plan.specs.Nodes.{before_decs, before_graphs, demux_at, dec_at, graph_at, origin_at, demux_wire, pad_wire, pad_wires, shortest_wire, enc_wire, mux_wire, nodes_of, wires_of, plan_of}
 use Rattle.ff_plan.specs.laws.StartFits.{FitsCutter, FitsStart, StartsFit, FitsGen, FitsDec}
 use Rattle.ff_plan.specs.Wires.{Wire, enters_node, leaves_node, edges_of}
 use Rattle.ff_plan_layout.proofs.Among.{never, all_joined, all_map, all_flat, was_among, among_either, among_map, among_flat, of_flat}
 use Rattle.ff_plan_layout.proofs.Counts.{total_same, tally_any, tally_joined, tally_none, tally_among, tally_filter_few, tally_map, tally_flat}
+use Rattle.ff_plan.proofs.Decoded.{decoded_are}
 use Rattle.ff_plan.proofs.EndFits.{IsAt, In_demuxes, In_starts, In_graphs, In_shortests, In_encs, In_muxes, is_at, five, lanes_some}
 use Rattle.ff_plan_layout.proofs.Graphed.{Walked, walked, walked_laid, inside_of, of_map}
 use Rattle.ff_plan.proofs.GraphFits.{get_either, get_right, only_one, in_comes, by_rows}
@@ -173,11 +174,12 @@ module _ (l : Layout) (laid : IsLaid l) where
         let long = tally_length own (read l) in
         omega (arith, t, long)
 
-    pub cutter_fits : FitsCutter l.heads (edges_of (wires_of l)) k i
+    pub cutter_fits : FitsCutter l.heads (nodes_of l) (edges_of (wires_of l)) k i
     cutter_fits = record {
       shown = λ s. list_any (shows s.at) (origins l) && (s.at.input == i);
       of_input = λ s e. is_same s.at.input i (both_right (list_any (shows s.at) (origins l)) (s.at.input == i) e);
       ins = into_is k (wires_of l) ∙ none_in;
+      decoded = decoded_are i l ∙ ap (λ (ss : List Stream). map (λ (s : Stream). s.at.stream) ss) (filter_twice own (λ (s : Stream). list_any (shows s.at) (origins l)) (all_streams l.heads));
       some = subst (λ (ls : List Lane). 1 ≤ length ls) (sym outs_are) (let n = own_some in let long = map_length (λ (s : Stream). Packets s.head) (filter own (read l)) in omega (arith, n, long));
       outs = outs_are ∙ ap (λ (ss : List Stream). map (λ (s : Stream). Packets s.head) ss) (filter_twice own (λ (s : Stream). list_any (shows s.at) (origins l)) (all_streams l.heads));
     }
@@ -441,7 +443,7 @@ module _ (rules : Rules) (are : AreRules rules) (job : Job) (heads : List (List 
     ]
 
   abbrev Fit : ℕ → PlanNode → Type 0
-  Fit k d = FitsStart heads whole.made (edges_of (wires_of whole)) k d
+  Fit k d = FitsStart heads whole.made (nodes_of whole) (edges_of (wires_of whole)) k d
 
   module _ (k r : ℕ) (s : Stream) (place_ : k ≡ before_decs whole + r) (at : slice_get (used whole) r ≡ Some s) where
     there : IsAmong s (streams whole)

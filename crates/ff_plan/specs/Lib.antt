@@ -1,3 +1,4 @@
+pub mod Decoded
 pub mod Nodes
 pub mod Numbers
 pub mod Planned

@@ -13,7 +13,7 @@ pub enum HeadFault {
     Unsupported { offset: u64 },
 }
 
-fn answer_of<H: Drop>(found: Result<H, HeadFault>) -> Result<H, HeadEnd>
+fn answer_of<H>(found: Result<H, HeadFault>) -> Result<H, HeadEnd>
     ensures { result ≡ answered found }
 {
     match found {
@@ -23,7 +23,7 @@ fn answer_of<H: Drop>(found: Result<H, HeadFault>) -> Result<H, HeadEnd>
     }
 }
 
-fn found_early<H: Drop>(few: usize, bytes: &[u8]) -> Result<H, HeadFault>
+fn found_early<H>(few: usize, bytes: &[u8]) -> Result<H, HeadFault>
     ensures { result ≡ early few bytes.now }
 {
     if bytes.len() < few {
@@ -36,7 +36,7 @@ fn found_early<H: Drop>(few: usize, bytes: &[u8]) -> Result<H, HeadFault>
 
 /// The answer of what the first bytes decide. Where they decide nothing, more are wanted. A whole input then ends too
 /// early, before its format is named in so few bytes or after them.
-pub fn answer_to<H: Drop>(
+pub fn answer_to<H>(
     found: Option<Result<H, HeadFault>>,
     few: usize,
     bytes: &[u8],
