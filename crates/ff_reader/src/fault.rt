@@ -34,9 +34,8 @@ fn found_early<H>(few: usize, bytes: &[u8]) -> Result<H, HeadFault>
     })
 }
 
-/// The answer of what the first bytes decide. Where they decide nothing, more are wanted. A whole input then ends too
-/// early, before its format is named in so few bytes or after them.
-pub fn answer_to<H>(
+// The answer of what the first bytes decide, of any head.
+pub(crate) fn answer_in<H>(
     found: Option<Result<H, HeadFault>>,
     few: usize,
     bytes: &[u8],
@@ -49,4 +48,18 @@ pub fn answer_to<H>(
         None if whole => answer_of(found_early(few, bytes)),
         None => Err(HeadEnd::NotYet),
     }
+}
+
+/// The answer of what the first bytes decide. Where they decide nothing, more are wanted. A whole input then ends too
+/// early, before its format is named in so few bytes or after them.
+// (Of a head that is Copy: the checker doesn't carry the parts of another one's type into a caller's crate.)
+pub fn answer_to<H: Copy>(
+    found: Option<Result<H, HeadFault>>,
+    few: usize,
+    bytes: &[u8],
+    whole: bool,
+) -> Result<H, HeadEnd>
+    ensures { result ≡ answered_or found (if whole then answered (early few bytes.now) else Err HeadEnd.NotYet) }
+{
+    answer_in(found, few, bytes, whole)
 }

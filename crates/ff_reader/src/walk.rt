@@ -3,7 +3,7 @@ ghost use Rattle.std.specs.Prelude.{◌≡◌, ◌≤◌, ◌^◌, ◌↔◌, Li
 ghost use Rattle.ff_reader.specs.Heads.{answered, IsOpen};
 ghost use Rattle.ff_reader.specs.Walks.{agrees, walked, reading, head_limit, head_by, answer_by, Reached, IsReached};
 
-use crate::fault::{HeadFault, answer_to};
+use crate::fault::{HeadFault, answer_in};
 use crate::format::HeadFormat;
 use crate::step::Step;
 use ff_frame::HeadEnd;
@@ -101,7 +101,7 @@ impl<F: HeadFormat> HeadWalk<F> {
             → (length bytes.now ≤ head_limit) × Reached F.grammar self.new.at self.new.state bytes.now }
     {
         let found = decide(self, bytes);
-        answer_to(found, F::magic().len(), bytes, whole)
+        answer_in(found, F::magic().len(), bytes, whole)
     }
 }
 
