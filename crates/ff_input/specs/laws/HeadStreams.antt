@@ -16,7 +16,7 @@ avi_stream (Video tb format width height sar_num sar_den) h = inr (inr (h.column
 avi_streams : (first : StreamHead) (second : Option StreamHead) → avi.IsStream first → IfSome second avi.IsStream
     → AllByRecursion IsInputStream (avi.streams_with first second)
 avi_streams first None one other = (avi_stream first one, tt)
-avi_streams first (Some second) one other = (avi_stream first one, avi_stream second other, tt)
+avi_streams first (Some second) one other = (avi_stream first one, (avi_stream second other, tt))
 
 pub head_streams : (head : InputHead) → IsHead head → AllByRecursion IsInputStream (streams_in head)
 head_streams (First head) h = (single_owes.streams head h, tt)
