@@ -534,11 +534,11 @@ def of_concat():
     rows.append(steps("the first segment isn't shifted", "concat", [GREY] * 2, by_port([(films[1], WHOLE), (films[0], WHOLE)])))
     seconds = GREY._replace(base=SECONDS)
     long = [picture(seconds, 0, 1_000_000_000, 1)]
-    # An item that waits and passes a limit closes the output once it is given: what is spent before that isn't looked at.
-    rows.append(steps("a second segment past the last second", "concat", [seconds] * 2, by_port([(long, WHOLE), (long, WHOLE)]), before=False))
+    # An item that waits and passes a limit closes the output, also before it is given.
+    rows.append(steps("a second segment past the last second", "concat", [seconds] * 2, by_port([(long, WHOLE), (long, WHOLE)])))
     half = [picture(seconds, 0, 500_000_000, 1)]
     rows.append(steps("two segments up to the last second", "concat", [seconds] * 2, by_port([(half, WHOLE), (half, WHOLE)])))
-    rows.append(steps("a third segment past the last second", "concat=3", [seconds] * 3, by_port([(half, WHOLE), (half, WHOLE), (half, BROKEN)]), before=False))
+    rows.append(steps("a third segment past the last second", "concat=3", [seconds] * 3, by_port([(half, WHOLE), (half, WHOLE), (half, BROKEN)])))
     return rows
 
 

@@ -120,10 +120,9 @@ class Row:
         self.lines.append("spent " + "".join("1" if over or s.mark != OPEN else "0" for s in self.fed))
         return self
 
-    def look(self, before=True):
+    def look(self):
         """All that is due on each output that is wanted, and which inputs are spent behind it, and before it."""
-        if before:
-            self.spent()
+        self.spent()
         wanted = [q for q in range(len(self.outs)) if not self.stopped[q]]
         due = [q for q in wanted if self.due(q)[1]]
         for q in due:
@@ -138,13 +137,13 @@ class Row:
         return "\n".join(self.lines) + "\n"
 
 
-def steps(title, text, heads, order, before=True):
+def steps(title, text, heads, order):
     """A row that looks at all outputs behind each step (port, item)."""
     row = Row(title, text, heads)
     if row.function:
-        row.look(before)
+        row.look()
         for port, item in order:
-            row.feed(port, item).look(before)
+            row.feed(port, item).look()
     return row
 
 

@@ -20,7 +20,8 @@ use Rattle.ff_concat.specs.Tails.{Tail, together, latest}
 use Rattle.ff_concat.specs.Concats.{begin_in, in_order, later}
 use Rattle.ff_concat.specs.laws.ConcatLaws.{cut_off}
 use Rattle.ff_concat.specs.laws.TrackLaws.{made_keeps}
-use Rattle.ff_concat.specs.laws.Tracks.{after_at, tails, queue_at, own, output_of, still_made, still_gives}
+use Rattle.ff_concat.specs.laws.Tracks.{after_at, tails, own, output_of, still_made, still_gives}
+use Rattle.ff_concat.specs.laws.Queues.{queue_at}
 use Rattle.ff_concat.specs.laws.Standing.{bare, StandsAs, IsPassed}
 use Rattle.ff_concat.specs.laws.Moves.{IsUnchanged, Told, Taken, Gave, Waits, GoesOn}
 use Rattle.ff_concat.proofs.Losing.{behind_silent}
@@ -28,7 +29,7 @@ use Rattle.ff_concat.proofs.Same.{gives_eq, unchanged_gives}
 use Rattle.ff_concat.proofs.Steps.{item_next, zeros_next, bare_is}
 
 -- an output that isn't over makes what it gives
-open_gives : (tick_list : List ℕ) (q : ℕ) (t : Track) (rs : List Reach) (ext : Ports) → t.ended ≡ false
+pub open_gives : (tick_list : List ℕ) (q : ℕ) (t : Track) (rs : List Reach) (ext : Ports) → t.ended ≡ false
     → still_gives tick_list q t rs ext ≡ still_made tick_list q t.head t.tick t.backlogs.items t.before t.current t.begin t.end rs ext
 open_gives tick_list q t rs ext e =
     ap (λ (b : Bool). cond b nothing (still_made tick_list q t.head t.tick t.backlogs.items t.before t.current t.begin t.end rs ext)) e

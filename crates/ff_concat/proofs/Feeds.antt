@@ -20,7 +20,8 @@ use Rattle.ff_concat.specs.declared.track.Track.{Track}
 use Rattle.ff_concat.specs.laws.ConcatLaws.{data_before}
 use Rattle.ff_concat.specs.laws.TrackLaws.{gives-quiet}
 use Rattle.ff_concat.specs.ConcatOptions.{repeated}
-use Rattle.ff_concat.specs.laws.Tracks.{after_at, end_at, tail_on, tails, queue_at, own, gives_at, ended_at, stopped_at, view_of}
+use Rattle.ff_concat.specs.laws.Tracks.{after_at, end_at, tail_on, tails, own, gives_at, ended_at, stopped_at, view_of}
+use Rattle.ff_concat.specs.laws.Queues.{queue_at}
 use Rattle.ff_concat.specs.laws.Moves.{IsAlike, Kept}
 use Rattle.ff_concat.proofs.Lookups.{after_set, after_other, end_set, end_other, gives_read, gives_set, gives_other, gives_same, ended_read, ended_set, ended_other, stopped_read, stopped_set, stopped_other, lanes_set}
 use Rattle.ff_concat.proofs.Same.{alike_gives}

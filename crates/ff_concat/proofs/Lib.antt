@@ -4,6 +4,8 @@ pub mod GoingOn
 pub mod Breaking
 pub mod Begins
 pub mod Configuring
+pub mod CutSteps
+pub mod Limiting
 pub mod Draws
 pub mod Feeds
 pub mod Lanes
@@ -22,10 +24,12 @@ pub mod SameHeads
 pub mod SegmentShapes
 pub mod Segments
 pub mod Shapes
+pub mod Shifting
 pub mod SilenceShapes
 pub mod Standings
 pub mod Startings
 pub mod Steps
+pub mod Tolds
 pub mod Turns
 pub mod Unbroken
 pub mod Wholes

@@ -6,7 +6,8 @@ use Rattle.ff_filter.specs.Joins.{Ports}
 use Rattle.ff_concat.specs.declared.backlog.Backlog.{Backlog}
 use Rattle.ff_concat.specs.declared.reach.Reach.{Reach}
 use Rattle.ff_concat.specs.declared.track.Track.{Track}
-use Rattle.ff_concat.specs.laws.Tracks.{after_at, end_at, queue_at, gives_at, still_gives, ended_at, stopped_at, lanes_of}
+use Rattle.ff_concat.specs.laws.Tracks.{after_at, end_at, gives_at, still_gives, ended_at, stopped_at, lanes_of}
+use Rattle.ff_concat.specs.laws.Queues.{queue_at, least_at}
 
 pub after_read : (xs : List Reach) (i : ℕ) (x : Reach) → i < length xs → x ≡ get_or xs i x → after_at xs i ≡ x.after
 after_read [] i x lt e = absurd (omega arith)
@@ -41,6 +42,23 @@ end_other (y ∷ xs) zero zero x n = absurd (n refl)
 end_other (y ∷ xs) zero (suc j) x n = refl
 end_other (y ∷ xs) (suc i) zero x n = refl
 end_other (y ∷ xs) (suc i) (suc j) x n = end_other xs i j x (λ e. n (ap suc e))
+
+pub least_read : (xs : List Backlog) (i : ℕ) (x : Backlog) → i < length xs → x ≡ get_or xs i x → least_at xs i ≡ x.least
+least_read [] i x lt e = absurd (omega arith)
+least_read (y ∷ xs) zero x lt e = ap (λ (z : Backlog). z.least) (sym e)
+least_read (y ∷ xs) (suc i) x lt e = least_read xs i x (omega arith) e
+
+pub least_set : (xs : List Backlog) (i : ℕ) (x : Backlog) → i < length xs → least_at (set xs i x) i ≡ x.least
+least_set [] i x lt = absurd (omega arith)
+least_set (y ∷ xs) zero x lt = refl
+least_set (y ∷ xs) (suc i) x lt = least_set xs i x (omega arith)
+
+pub least_other : (xs : List Backlog) (i j : ℕ) (x : Backlog) → j ≢ i → least_at (set xs i x) j ≡ least_at xs j
+least_other [] i j x n = refl
+least_other (y ∷ xs) zero zero x n = absurd (n refl)
+least_other (y ∷ xs) zero (suc j) x n = refl
+least_other (y ∷ xs) (suc i) zero x n = refl
+least_other (y ∷ xs) (suc i) (suc j) x n = least_other xs i j x (λ e. n (ap suc e))
 
 pub queue_read : (xs : List Backlog) (i : ℕ) (x : Backlog) → i < length xs → x ≡ get_or xs i x → queue_at xs i ≡ x.queue.items
 queue_read [] i x lt e = absurd (omega arith)
@@ -102,11 +120,6 @@ pub end_get : (xs : List Reach) (i : ℕ) (d : Reach) → i < length xs → end_
 end_get [] i d lt = absurd (omega arith)
 end_get (y ∷ xs) zero d lt = refl
 end_get (y ∷ xs) (suc i) d lt = end_get xs i d (omega arith)
-
-pub queue_get : (xs : List Backlog) (i : ℕ) (d : Backlog) → i < length xs → queue_at xs i ≡ (get_or xs i d).queue.items
-queue_get [] i d lt = absurd (omega arith)
-queue_get (y ∷ xs) zero d lt = refl
-queue_get (y ∷ xs) (suc i) d lt = queue_get xs i d (omega arith)
 
 module _ (tick_list : List ℕ) (q : ℕ) (rs : List Reach) (ext : Ports) where
   pub gives_read : (ts : List Track) (i : ℕ) (t : Track) → i < length ts → t ≡ get_or ts i t → gives_at tick_list q ts i rs ext ≡ still_gives tick_list q t rs ext

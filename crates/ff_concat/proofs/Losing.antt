@@ -18,7 +18,8 @@ use Rattle.ff_concat.specs.laws.ConcatLaws.{data_before}
 use Rattle.ff_concat.specs.declared.track.Track.{Track}
 use Rattle.ff_filter.specs.Options.{is_video}
 use Rattle.std.specs.Prelude.{◌&&◌}
-use Rattle.ff_concat.specs.laws.Tracks.{after_at, tails, queue_at, own, closed_from}
+use Rattle.ff_concat.specs.laws.Tracks.{after_at, tails, own, closed_from}
+use Rattle.ff_concat.specs.laws.Queues.{queue_at}
 use Rattle.ff_concat.specs.laws.Standing.{lost_from}
 
 pub queue_open : (bs : List Backlog) (k : ℕ) → none_closes (queue_at bs k) ≡ true
@@ -84,7 +85,7 @@ module _ (bs : List Backlog) (rs : List Reach) (w q k : ℕ) (there : k < length
 before_mark : (x : Item) (s : Flow) → closes x ≡ false → (before x s).mark ≡ s.mark
 before_mark x s c = ap (λ (t : Flow). t.mark) (data_before x s c)
 
-later_open : (x : Item) (xs : List Item) → none_closes (x ∷ xs) ≡ true → none_closes xs ≡ true
+pub later_open : (x : Item) (xs : List Item) → none_closes (x ∷ xs) ≡ true → none_closes xs ≡ true
 later_open (Audio f) xs e = e
 later_open (Video f) xs e = e
 later_open (Packet p) xs e = e
@@ -93,7 +94,7 @@ later_open End xs e = cc
 later_open Broken xs e = cc
 
 -- behind what waits a stream stands as its input does
-waiting_mark : (xs : List Item) (a : After) → none_closes xs ≡ true → (waiting xs a nothing).mark ≡ mark_after a
+pub waiting_mark : (xs : List Item) (a : After) → none_closes xs ≡ true → (waiting xs a nothing).mark ≡ mark_after a
 waiting_mark [] a e = ap (λ (t : Flow). t.mark) (behind_silent a)
 waiting_mark (x ∷ xs) a e = before_mark x (before_all xs (behind a nothing)) (first_open x xs e) ∙ waiting_mark xs a (later_open x xs e)
 

@@ -1,5 +1,5 @@
 -- The machine to which nothing came.
-use Rattle.std.proofs.Common.{◌≡◌, ℕ, zero, suc, ◌+◌, ◌-◌, ◌*◌, false, List, [], ◌∷◌, ◌++◌, length, refl, ap, sym, ◌∙◌, subst, arith}
+use Rattle.std.proofs.Common.{◌≡◌, ℕ, zero, suc, ◌+◌, ◌-◌, ◌*◌, ◌<◌, ◌≤◌, ◌^◌, false, List, [], ◌∷◌, ◌++◌, length, refl, ap, sym, ◌∙◌, subst, arith}
 use Rattle.std.proofs.lemmas.List.{length-append}
 use Rattle.ff_frame.specs.declared.head.StreamHead.{StreamHead}
 use Rattle.ff_frame.specs.Heads.{base_of_head}
@@ -17,7 +17,8 @@ use Rattle.ff_concat.specs.declared.track.Track.{Track}
 use Rattle.ff_concat.specs.Tails.{Tail, tail_of}
 use Rattle.ff_concat.specs.Concats.{in_order}
 use Rattle.ff_concat.specs.ConcatOptions.{whole_at, start_view, repeated}
-use Rattle.ff_concat.specs.laws.Tracks.{queue_at, end_at, after_at, tail_on, tails, own, output_of, still_gives, gives_at, ended_at, stopped_at, view_of}
+use Rattle.ff_concat.specs.laws.Tracks.{end_at, after_at, tail_on, tails, own, output_of, still_gives, gives_at, ended_at, stopped_at, view_of}
+use Rattle.ff_concat.specs.laws.Queues.{queue_at, least_at}
 use Rattle.ff_concat.specs.laws.Fresh.{AreEmpty, AreNew, IsFresh}
 use Rattle.ff_concat.proofs.Same.{gives_eq}
 
@@ -39,10 +40,18 @@ after_more [] r e h (suc p) = refl
 after_more (s ∷ rs) r e h zero = h zero
 after_more (s ∷ rs) r e h (suc p) = after_more rs r e (λ j. h (suc j)) p
 
-pub empty_more : (n : ℕ) (bs cs : List Backlog) (b : Backlog) → b.queue.items ≡ [] → AreEmpty n bs → cs ≡ bs ++ b ∷ [] → AreEmpty (n + 1) cs
-empty_more n bs cs b e h is = subst (λ (ds : List Backlog). AreEmpty (n + 1) ds) (sym is) (record {
+far_more : (bs : List Backlog) (b : Backlog) → 2 ^ 127 ≤ b.least → ((k : ℕ) → k < length bs → 2 ^ 127 ≤ least_at bs k)
+    → (k : ℕ) → k < length (bs ++ b ∷ []) → 2 ^ 127 ≤ least_at (bs ++ b ∷ []) k
+far_more [] b e h zero lt = e
+far_more [] b e h (suc k) lt = absurd (omega (arith, lt))
+far_more (c ∷ bs) b e h zero lt = h zero (omega arith)
+far_more (c ∷ bs) b e h (suc k) lt = far_more bs b e (λ j l. h (suc j) (omega (arith, l))) k (omega (arith, lt))
+
+pub empty_more : (n : ℕ) (bs cs : List Backlog) (b : Backlog) → b.queue.items ≡ [] → 2 ^ 127 ≤ b.least → AreEmpty n bs → cs ≡ bs ++ b ∷ [] → AreEmpty (n + 1) cs
+empty_more n bs cs b e f h is = subst (λ (ds : List Backlog). AreEmpty (n + 1) ds) (sym is) (record {
   count = let l = length-append bs (b ∷ []) in let c = h.count in omega (arith, l, c);
   empty = queue_more bs b e h.empty;
+  far = far_more bs b f h.far;
 })
 
 pub new_more : (n : ℕ) (rs ss : List Reach) (r : Reach) → r.end ≡ 0 → r.after ≡ More → AreNew n rs → ss ≡ rs ++ r ∷ [] → AreNew (n + 1) ss

@@ -1,12 +1,15 @@
 pub mod Breaks
 pub mod Closing
 pub mod ConcatLaws
+pub mod Cuts
 pub mod Examples
 pub mod Fed
 pub mod FollowingLaws
 pub mod Fresh
+pub mod Late
 pub mod Moves
 pub mod OneKind
+pub mod Queues
 pub mod Standing
 pub mod StartLaws
 pub mod TrackLaws

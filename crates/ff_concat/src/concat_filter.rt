@@ -42,7 +42,7 @@ impl Filter for Concat {
     }
 
     fn spent(&self, port: usize) -> bool {
-        self.reaches[port].after.is_over() | self.is_done()
+        self.is_spent(port)
     }
 
     fn lacks(&self, port: usize) -> bool {

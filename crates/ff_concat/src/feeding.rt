@@ -1,8 +1,9 @@
 //! How `concat` is fed, pulled and stopped.
-ghost use Rattle.std.specs.Prelude.{◌≡◌, ◌<◌, ◌%◌, ◌||◌, length, false, true, Ok, Some, None, OnOk, OnErr, IfErr};
+ghost use Rattle.std.specs.Prelude.{◌≡◌, ◌↔◌, IsTrue, ◌<◌, ◌%◌, ◌||◌, length, false, true, Ok, Some, None, OnOk, OnErr, IfErr};
 ghost use Rattle.ff_stream.specs.declared.item.Item.{Item as AnItem};
 ghost use Rattle.ff_filter.specs.Made.{is_over, closing};
-ghost use Rattle.ff_filter.specs.Views.{closes, Fed, Same, Gave, Waits, Stopped};
+ghost use Rattle.ff_filter.specs.Views.{closes, Fed, Same, Gave, Waits, Stopped, IsSpent};
+ghost use Rattle.ff_concat.specs.laws.TrackLaws.{concat_spent};
 ghost use Rattle.ff_concat.specs.laws.Tracks.{after_at, stopped_at, ended_at, each_done, concat_view};
 
 use crate::concat::Concat;
@@ -104,16 +105,25 @@ impl Concat {
     }
 
     // Whether nothing more is to come of each output.
-    pub(crate) fn is_done(&self) -> bool
-        ensures { result ≡ each_done (length self.now.ticks.items) 0 self.now.tracks.items self.now.reaches.items }
+    fn is_done(&self) -> bool
+        ensures { result ≡ each_done self.now.ticks.items 0 self.now.tracks.items self.now.reaches.items }
     {
-        let width = self.ticks.len();
         'outputs: for q in 0..self.tracks.len() {
-            if !self.tracks[q].is_over(self.reaches.as_slice(), width, q) {
+            if !self.tracks[q].is_over(self.ticks.as_slice(), self.reaches.as_slice(), q) {
                 return false;
             }
         }
         true
+    }
+
+    /// Whether nothing more of an input can matter. That is exactly where it has closed, or where each output isn't
+    /// wanted or is closed by what was fed.
+    pub fn is_spent(&self, port: usize) -> bool
+        requires { port < length self.now.reaches.items }
+        ensures exact { IsTrue result ↔ IsSpent (concat_view self.now) port }
+        ensures is { result ≡ concat_spent self.now port }
+    {
+        self.reaches[port].after.is_over() | (0 < self.tracks.len() && self.is_done())
     }
 
     // Whether an output makes its next items of an input.

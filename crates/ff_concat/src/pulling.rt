@@ -74,6 +74,10 @@ impl Track {
         ensures gives { (x : AnItem) → result ≡ Some x → Gave self.old self.new ticks.now number reaches.now x }
         ensures waits { result ≡ None → Waits self.old self.new ticks.now number reaches.now }
     {
+        if self.is_next_late() {
+            self.ended = true;
+            return Some(Item::Broken);
+        }
         match self.take_next() {
             Some(item) => {
                 let item = later(item, self.by);

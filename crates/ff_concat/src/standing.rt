@@ -2,7 +2,7 @@
 ghost use Rattle.std.specs.Prelude.{◌&&◌, ◌≡◌, ◌<◌, ◌+◌, ◌*◌, length, true, false, []};
 ghost use Rattle.ff_filter.specs.Options.{is_video};
 ghost use Rattle.ff_concat.specs.Silences.{filled};
-ghost use Rattle.ff_concat.specs.laws.Tracks.{closed_from, is_done};
+ghost use Rattle.ff_concat.specs.laws.Tracks.{closed_from};
 ghost use Rattle.ff_concat.specs.laws.Standing.{lost_from, StandsAs, IsPassed};
 
 use crate::backlog::Backlog;
@@ -121,8 +121,8 @@ impl Track {
         }
     }
 
-    // Whether what came so far closes the output, but for the limits.
-    fn is_closed(&self, reaches: &[Reach], width: usize, number: usize) -> bool
+    /// Whether what came so far closes the output, but for the limits.
+    pub(crate) fn is_closed(&self, reaches: &[Reach], width: usize, number: usize) -> bool
         requires inputs { length reaches.now ≡ length self.now.backlogs.items * width }
         requires stream { number < width }
         ensures { result ≡ closed_from self.now reaches.now width number self.now.current }
@@ -139,15 +139,5 @@ impl Track {
             }
         }
         true
-    }
-
-    /// Whether nothing more is to come of the output: it isn't wanted, or was closed, or what came so far closes it.
-    pub(crate) fn is_over(&self, reaches: &[Reach], width: usize, number: usize) -> bool
-        requires inputs { length reaches.now ≡ length self.now.backlogs.items * width }
-        requires stream { number < width }
-        ensures { result ≡ is_done self.now reaches.now width number }
-    {
-        let closed = self.is_closed(reaches, width, number);
-        self.stopped | (self.ended | closed)
     }
 }

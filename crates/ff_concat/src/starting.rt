@@ -61,8 +61,8 @@ fn track_of(
     })
 }
 
-// The numerator of the time base of a stream of this head.
-fn numerator(head: &StreamHead) -> u128
+/// The numerator of the time base of a stream of this head.
+pub(crate) fn numerator(head: &StreamHead) -> u128
     ensures is { result ≡ (base_of_head head.now).num }
     ensures some { 0 < result }
     ensures small { result < 2 ^ 31 }
@@ -70,8 +70,8 @@ fn numerator(head: &StreamHead) -> u128
     time_base(head).num() as u128
 }
 
-// The denominator.
-fn denominator(head: &StreamHead) -> u128
+/// The denominator.
+pub(crate) fn denominator(head: &StreamHead) -> u128
     ensures is { result ≡ (base_of_head head.now).den }
     ensures some { 0 < result }
     ensures small { result < 2 ^ 31 }

@@ -1,6 +1,7 @@
 //! One output of `concat`: what waits of each segment, and how far it has come.
 ghost use Rattle.std.specs.Prelude.{◌≡◌, ◌<◌, ◌≤◌, ◌^◌, length};
 ghost use Rattle.ff_concat.specs.Concats.{begin_in};
+ghost use Rattle.ff_concat.specs.laws.Queues.{AreTold};
 
 use crate::backlog::Backlog;
 use ff_frame::StreamHead;
@@ -32,4 +33,5 @@ pub struct Track {
     pub ghost some: { 0 < tick },
     pub ghost small: { tick < 2 ^ 62 },
     pub ghost shift: { by ≡ begin_in tick begin },
+    pub ghost told: { AreTold head current by stopped ended backlogs.items },
 }

@@ -17,7 +17,6 @@ use Rattle.ff_concat.specs.laws.FollowingLaws.{followed_keeps, then_keeps, then_
 use Rattle.ff_concat.specs.Silences.{filled}
 use Rattle.ff_concat.specs.Tails.{Tail, both, together, latest}
 use Rattle.ff_concat.specs.Concats.{moved, later, begin_in, Output, is_lost_at, is_lost, let_through, in_order}
-use Rattle.ff_concat.specs.laws.Closing.{closes_at, is_closed}
 
 -- a stream that breaks off before its first item
 abbrev pub cut_off : Flow
@@ -308,25 +307,3 @@ module _ (tick_list : List ℕ) (out : Output) where
       (is_lost-same w n (k + 1) rs ss ts (λ j le. h j (omega (arith, le))))
       ∙ ap (λ (x : Flow). led_by (filled out.head end c) (followed (map_stream (later c) (ss k)) (let_through (together w p ts) (is_video out.head && ls) x)))
       (in_order-same n (k + 1) (time + latest tick_list w p ts) (c + (ts (p + out.number)).end) rs ss ts (λ j le. h j (omega (arith, le)))))
-
-  closed_by : (ys : List Item) (m n : Mark) (lost behind : Bool) (next : Flow) → closes_at m n lost behind ≡ true → (behind ≡ true → IsClosed next)
-      → IsClosed (followed_at ys m (let_through n lost next))
-  closed_by ys still_open n lost behind next e h = cc
-  closed_by ys broken n lost behind next e h = λ f. cc
-  closed_by ys whole broken lost behind next e h = λ f. cc
-  closed_by ys whole still_open true behind next e h = λ f. cc
-  closed_by ys whole still_open false behind next e h = cc
-  closed_by ys whole whole lost behind next e h = h e
-
-  -- an output that has closed
-  pub in_order-over : (n k time end : ℕ) (own : ℕ → Flow) (ts : ℕ → Tail) → is_closed (length tick_list) (is_video out.head) n k own ts ≡ true
-      → IsClosed (in_order tick_list out n k time end own ts)
-  in_order-over zero k time end own ts e = λ f. cc
-  in_order-over (suc n) k time end own ts e =
-      let w = length tick_list in
-      let p = k * w in
-      let c = begin_in out.tick time in
-      let lost = is_video out.head && is_lost w n (k + 1) own ts in
-      let next = in_order tick_list out n (k + 1) (time + latest tick_list w p ts) (c + (ts (p + out.number)).end) own ts in
-      closed_by (map (later c) (own k).items) (own k).mark (together w p ts) lost (is_closed w (is_video out.head) n (k + 1) own ts) next e
-      (λ f. in_order-over n (k + 1) (time + latest tick_list w p ts) (c + (ts (p + out.number)).end) own ts f)

@@ -1,16 +1,18 @@
 -- The machine to which nothing came.
-use Rattle.std.specs.Prelude.{◌≡◌, ℕ, false, [], List, length}
+use Rattle.std.specs.Prelude.{◌≡◌, ℕ, ◌<◌, ◌≤◌, ◌^◌, false, [], List, length}
 use Rattle.ff_frame.specs.declared.head.StreamHead.{StreamHead}
 use Rattle.ff_filter.specs.declared.after.After.TheVariants.{More}
 use Rattle.ff_concat.specs.declared.backlog.Backlog.{Backlog}
 use Rattle.ff_concat.specs.declared.reach.Reach.{Reach}
 use Rattle.ff_concat.specs.declared.track.Track.{Track}
-use Rattle.ff_concat.specs.laws.Tracks.{queue_at, end_at, after_at}
+use Rattle.ff_concat.specs.laws.Tracks.{end_at, after_at}
+use Rattle.ff_concat.specs.laws.Queues.{queue_at, least_at}
 
 -- so many segments of which nothing waits
 pub record AreEmpty (n : ℕ) (bs : List Backlog) : Type 0 where
   pub count : length bs ≡ n
   pub empty : (k : ℕ) → queue_at bs k ≡ []
+  pub far : (k : ℕ) → k < length bs → 2 ^ 127 ≤ least_at bs k
 
 -- so many inputs to which nothing came
 pub record AreNew (n : ℕ) (rs : List Reach) : Type 0 where

@@ -9,7 +9,8 @@ use Rattle.ff_filter.specs.laws.Limits.{limited}
 use Rattle.ff_filter.specs.Views.{closes}
 use Rattle.ff_concat.specs.declared.reach.Reach.{Reach}
 use Rattle.ff_concat.specs.declared.track.Track.{Track}
-use Rattle.ff_concat.specs.laws.Tracks.{queue_at, still_gives}
+use Rattle.ff_concat.specs.laws.Tracks.{still_gives}
+use Rattle.ff_concat.specs.laws.Queues.{queue_at}
 
 -- the same is given as before, and it is wanted as before
 pub record GoesOn (old new : Track) (tick_list : List ℕ) (q : ℕ) (rs : List Reach) : Type 0 where

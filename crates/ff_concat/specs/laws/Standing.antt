@@ -14,7 +14,8 @@ use Rattle.ff_concat.specs.Following.{followed_at}
 use Rattle.ff_concat.specs.Silences.{filled}
 use Rattle.ff_concat.specs.Tails.{together}
 use Rattle.ff_concat.specs.Concats.{is_lost, let_through}
-use Rattle.ff_concat.specs.laws.Tracks.{after_at, tails, queue_at, own}
+use Rattle.ff_concat.specs.laws.Tracks.{after_at, tails, own}
+use Rattle.ff_concat.specs.laws.Queues.{queue_at}
 
 -- of segments from k on nothing can come, as far as is known
 abbrev pub lost_from : List Backlog → List Reach → ℕ → ℕ → ℕ → Bool

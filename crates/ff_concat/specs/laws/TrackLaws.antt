@@ -10,14 +10,14 @@ use Rattle.ff_stream.specs.declared.item.Item.{Item}
 use Rattle.ff_stream.specs.declared.item.Item.TheVariants.{End, Broken}
 use Rattle.ff_stream.specs.declared.item.Lane.{Lane}
 use Rattle.ff_stream.specs.declared.item.Lane.TheVariants.{Frames}
-use Rattle.ff_stream.specs.Stream.{Mark, still_open, whole, broken, LiesBelow, opened, opened_mark}
+use Rattle.ff_stream.specs.Stream.{Mark, still_open, whole, broken, LiesBelow, opened, opened_mark, has_closed}
 use Rattle.ff_stream.specs.Ports.{nothing, IsClosed}
 use Rattle.ff_stream.specs.laws.Order.{below_self, below_trans, nothing_below}
 use Rattle.ff_stream.specs.Within.{passes_limits}
 use Rattle.ff_filter.specs.declared.after.After.{After}
 use Rattle.ff_filter.specs.declared.after.After.TheVariants.{More, Whole, Broke}
 use Rattle.ff_filter.specs.Joins.{Flow, Ports, silence, one, before_all, before_all-keeps, before_all-opened, before_all-closed, Grows, HidesBreaks}
-use Rattle.ff_filter.specs.Views.{Settles, IsSpent, AllDone}
+use Rattle.ff_filter.specs.Views.{Settles, IsOver, IsSpent, AllDone}
 use Rattle.ff_filter.specs.Made.{behind, is_over, waiting}
 use Rattle.ff_filter.specs.laws.Runs.{no_more, run_below, run_calm, run_settles}
 use Rattle.ff_filter.specs.laws.Limits.{limit_step, limited}
@@ -28,9 +28,11 @@ use Rattle.ff_concat.specs.declared.concat.Concat.{Concat}
 use Rattle.ff_concat.specs.Tails.{Tail, both, together}
 use Rattle.ff_concat.specs.Concats.{in_order}
 use Rattle.ff_concat.specs.ConcatOptions.{repeated}
-use Rattle.ff_concat.specs.laws.ConcatLaws.{TailBelow, KeepsWhole, in_order-keeps, in_order-calm, in_order-closed, in_order-over}
-use Rattle.ff_concat.specs.laws.Tracks.{after_at, end_at, tail_on, tails, queue_at, own, output_of, still_made}
-use Rattle.ff_concat.specs.laws.Tracks.{gives_at, ended_at, stopped_at, lanes_of, concat_view, closed_from, is_done, each_done}
+use Rattle.ff_concat.specs.laws.ConcatLaws.{TailBelow, KeepsWhole, in_order-keeps, in_order-calm, in_order-closed}
+use Rattle.ff_concat.specs.laws.Cuts.{limited_closes, in_order-closes}
+use Rattle.ff_concat.specs.laws.Tracks.{after_at, end_at, tail_on, tails, own, output_of, still_made}
+use Rattle.ff_concat.specs.laws.Queues.{queue_at}
+use Rattle.ff_concat.specs.laws.Tracks.{gives_at, ended_at, stopped_at, lanes_of, concat_view, still_gives, closed_from, cut_from, is_done, each_done}
 
 pub waiting_keeps : (queue : List Item) (after : After) (r s : Flow) → LiesBelow r s → LiesBelow (waiting queue after r) (waiting queue after s)
 waiting_keeps queue More r s h = before_all-keeps queue r s h
@@ -193,50 +195,80 @@ lanes-length (t ∷ ts) = let e = lanes-length ts in omega (arith, e)
 
 -- nothing more of input p can matter: it has closed, or there are outputs, and nothing more is to come of each
 abbrev pub concat_spent : Concat → ℕ → Bool
-concat_spent m p = is_over (after_at m.reaches.items p) || (nat_lt 0 (length m.tracks.items) && each_done (length m.ticks.items) 0 m.tracks.items m.reaches.items)
+concat_spent m p = is_over (after_at m.reaches.items p) || (nat_lt 0 (length m.tracks.items) && each_done m.ticks.items 0 m.tracks.items m.reaches.items)
 
-made_over : (tick_list : List ℕ) (q : ℕ) (t : Track) (rs : List Reach) → closed_from t rs (length tick_list) q t.current ≡ true
-    → IsClosed (still_made tick_list q t.head t.tick t.backlogs.items t.before t.current t.begin t.end rs silence)
-made_over tick_list q t rs e =
+closed_is : (m : Mark) → has_closed m ≡ true → m ≢ still_open
+closed_is still_open e = cc
+closed_is whole e = λ o. cc
+closed_is broken e = λ o. cc
+
+is_closed : (m : Mark) → m ≢ still_open → has_closed m ≡ true
+is_closed still_open c = absurd (c refl)
+is_closed whole c = refl
+is_closed broken c = refl
+
+-- what came so far closes an output that goes on, exactly
+abbrev over_of : List ℕ → ℕ → Track → List Reach → Bool
+over_of tick_list q t rs = cut_from tick_list q t rs t.before t.current t.begin t.end || closed_from t rs (length tick_list) q t.current
+
+made_closes : (tick_list : List ℕ) (q : ℕ) (t : Track) (rs : List Reach)
+    → has_closed (still_made tick_list q t.head t.tick t.backlogs.items t.before t.current t.begin t.end rs silence).mark ≡ over_of tick_list q t rs
+made_closes tick_list q t rs =
     let bs = t.backlogs.items in
     let out = output_of t.head t.tick q in
     let n = length bs - t.current in
-    run_settles (limit_step (passes_limits (Frames t.head))) no_more t.before
+    limited_closes (passes_limits (Frames t.head)) t.before
     (in_order tick_list out n t.current t.begin t.end (own bs rs (length tick_list) q silence) (tails rs silence))
-    (in_order-over tick_list out n t.current t.begin t.end (own bs rs (length tick_list) q silence) (tails rs silence) e)
+    ∙ ap (λ (b : Bool). cut_from tick_list q t rs t.before t.current t.begin t.end || b)
+    (in_order-closes tick_list out n t.current t.begin t.end (own bs rs (length tick_list) q silence) (tails rs silence))
 
 over_if : (d o : Bool) (s : Flow) → (d || o) ≡ true → (o ≡ true → IsClosed s) → (d ≡ true) ⊎ IsClosed (cond d nothing s)
 over_if true o s e h = inl refl
 over_if false o s e h = inr (h e)
 
+if_over : (d o : Bool) (s : Flow) → (IsClosed s → o ≡ true) → (d ≡ true) ⊎ IsClosed (cond d nothing s) → (d || o) ≡ true
+if_over true o s h c = refl
+if_over false o s h (inl e) = cc
+if_over false o s h (inr c) = h c
+
 -- an output that is wanted is over, where nothing more is to come of each
-over_at : (tick_list : List ℕ) (q first : ℕ) (ts : List Track) (i : ℕ) (rs : List Reach) → i < length ts → q ≡ first + i → each_done (length tick_list) first ts rs ≡ true
+over_at : (tick_list : List ℕ) (q first : ℕ) (ts : List Track) (i : ℕ) (rs : List Reach) → i < length ts → q ≡ first + i → each_done tick_list first ts rs ≡ true
     → stopped_at ts i ≡ false → (ended_at ts i ≡ true) ⊎ IsClosed (gives_at tick_list q ts i rs silence)
 over_at tick_list q first [] i rs lt f e s = absurd (omega arith)
 over_at tick_list q first (t ∷ ts) zero rs lt f e s =
-    let w = length tick_list in
     let here : q ≡ first = omega (arith, f) in
-    let done = and_parts (is_done t rs w first) (each_done w (first + 1) ts rs) e in
-    over_if t.ended (closed_from t rs w q t.current) (still_made tick_list q t.head t.tick t.backlogs.items t.before t.current t.begin t.end rs silence)
-    (subst (λ (k : ℕ). (t.ended || closed_from t rs w k t.current) ≡ true) (sym here) (wanted t.stopped (t.ended || closed_from t rs w first t.current) s done.0))
-    (λ c. made_over tick_list q t rs c)
+    let done = and_parts (is_done tick_list t rs first) (each_done tick_list (first + 1) ts rs) e in
+    let made = still_made tick_list q t.head t.tick t.backlogs.items t.before t.current t.begin t.end rs silence in
+    over_if t.ended (over_of tick_list q t rs) made
+    (subst (λ (k : ℕ). (t.ended || over_of tick_list k t rs) ≡ true) (sym here) (wanted t.stopped (t.ended || over_of tick_list first t rs) s done.0))
+    (λ c. closed_is made.mark (made_closes tick_list q t rs ∙ c))
   where
     wanted : (a b : Bool) → a ≡ false → (a || b) ≡ true → b ≡ true
     wanted true b z y = cc
     wanted false b z y = y
 over_at tick_list q first (t ∷ ts) (suc i) rs lt f e s =
     over_at tick_list q (first + 1) ts i rs (omega (arith, lt)) (omega (arith, f))
-    (and_parts (is_done t rs (length tick_list) first) (each_done (length tick_list) (first + 1) ts rs) e).1 s
+    (and_parts (is_done tick_list t rs first) (each_done tick_list (first + 1) ts rs) e).1 s
 
-all_done : (w first : ℕ) (ts : List Track) (rs : List Reach) → ((q : ℕ) → q < length ts → (ended_at ts q ≡ true) ⊎ (stopped_at ts q ≡ true))
-    → each_done w first ts rs ≡ true
-all_done w first [] rs h = refl
-all_done w first (t ∷ ts) rs h = and_from (is_done t rs w first) (each_done w (first + 1) ts rs)
-    (elim (h zero (omega arith)) as (λ _. is_done t rs w first ≡ true) [
-      | inl e ↦ or_right t.stopped (t.ended || closed_from t rs w first t.current) (or_left t.ended (closed_from t rs w first t.current) e)
-      | inr e ↦ or_left t.stopped (t.ended || closed_from t rs w first t.current) e
-    ])
-    (all_done w (first + 1) ts rs (λ q lt. h (suc q) (omega (arith, lt))))
+-- nothing more is to come of each output, where that is so of each that is wanted
+all_over : (tick_list : List ℕ) (first : ℕ) (ts : List Track) (rs : List Reach)
+    → ((i : ℕ) → i < length ts → stopped_at ts i ≡ false → (ended_at ts i ≡ true) ⊎ IsClosed (gives_at tick_list (first + i) ts i rs silence))
+    → each_done tick_list first ts rs ≡ true
+all_over tick_list first [] rs h = refl
+all_over tick_list first (t ∷ ts) rs h = and_from (is_done tick_list t rs first) (each_done tick_list (first + 1) ts rs) (here t.stopped refl)
+    (all_over tick_list (first + 1) ts rs (λ i lt on. subst (λ (k : ℕ). (ended_at ts i ≡ true) ⊎ IsClosed (gives_at tick_list k ts i rs silence))
+    (let e : first + suc i ≡ first + 1 + i = omega arith in e) (h (suc i) (omega (arith, lt)) on)))
+  where
+    made : Flow
+    made = still_made tick_list first t.head t.tick t.backlogs.items t.before t.current t.begin t.end rs silence
+
+    at : t.stopped ≡ false → (t.ended ≡ true) ⊎ IsClosed (still_gives tick_list first t rs silence)
+    at on = subst (λ (k : ℕ). (t.ended ≡ true) ⊎ IsClosed (still_gives tick_list k t rs silence)) (let e : first + 0 ≡ first = omega arith in e) (h zero (omega arith) on)
+
+    here : (b : Bool) → t.stopped ≡ b → is_done tick_list t rs first ≡ true
+    here true e = or_left t.stopped (t.ended || over_of tick_list first t rs) e
+    here false e = or_right t.stopped (t.ended || over_of tick_list first t rs)
+        (if_over t.ended (over_of tick_list first t rs) made (λ c. sym (made_closes tick_list first t rs) ∙ is_closed made.mark c) (at e))
 
 module _ (m : Concat) where
   outputs_there : (q : ℕ) → q < length m.tracks.items → q < length m.ticks.items
@@ -266,7 +298,7 @@ module _ (m : Concat) where
 
   pub concat-spent_only : (p : ℕ) → concat_spent m p ≡ true → IsSpent (concat_view m) p
   concat-spent_only p e =
-      let each = each_done (length m.ticks.items) 0 m.tracks.items m.reaches.items in
+      let each = each_done m.ticks.items 0 m.tracks.items m.reaches.items in
       elim (or_cases (is_over (after_at m.reaches.items p)) (nat_lt 0 (length m.tracks.items) && each) e) as (λ _. IsSpent (concat_view m) p) [
         | inl s ↦ inl s
         | inr d ↦ (
@@ -277,15 +309,29 @@ module _ (m : Concat) where
             )
       ]
 
-  pub concat-shut_spent : (p : ℕ) → is_over (after_at m.reaches.items p) ≡ true → concat_spent m p ≡ true
-  concat-shut_spent p e = or_left (is_over (after_at m.reaches.items p))
-      (nat_lt 0 (length m.tracks.items) && each_done (length m.ticks.items) 0 m.tracks.items m.reaches.items) e
-
-  pub concat-done_spent : (p : ℕ) → 0 < length (concat_view m).outs → AllDone (concat_view m) → concat_spent m p ≡ true
-  concat-done_spent p z d =
-      let each = each_done (length m.ticks.items) 0 m.tracks.items m.reaches.items in
+  -- spent exactly where nothing more can matter
+  pub concat-spent_if : (p : ℕ) → IsSpent (concat_view m) p → concat_spent m p ≡ true
+  concat-spent_if p (inl s) = or_left (is_over (after_at m.reaches.items p))
+      (nat_lt 0 (length m.tracks.items) && each_done m.ticks.items 0 m.tracks.items m.reaches.items) s
+  concat-spent_if p (inr o) =
+      let each = each_done m.ticks.items 0 m.tracks.items m.reaches.items in
       let l = outs in
+      let z = o.0 in
       let lt : 0 < length m.tracks.items = omega (arith, l, z) in
       or_right (is_over (after_at m.reaches.items p)) (nat_lt 0 (length m.tracks.items) && each)
       (and_from (nat_lt 0 (length m.tracks.items)) each (let k : nat_lt 0 (length m.tracks.items) ≡ true = grind (arith, nat_tests) in k)
-      (all_done (length m.ticks.items) 0 m.tracks.items m.reaches.items (λ q less. d q (omega (arith, less, l)))))
+      (all_over m.ticks.items 0 m.tracks.items m.reaches.items
+      (λ i less on. subst (λ (k : ℕ). (ended_at m.tracks.items i ≡ true) ⊎ IsClosed (gives_at m.ticks.items k m.tracks.items i m.reaches.items silence))
+      (let e : i ≡ 0 + i = omega arith in e) (o.1 i (omega (arith, less, l)) on))))
+
+  pub concat-shut_spent : (p : ℕ) → is_over (after_at m.reaches.items p) ≡ true → concat_spent m p ≡ true
+  concat-shut_spent p e = concat-spent_if p (inl e)
+
+  pub concat-done_spent : (p : ℕ) → 0 < length (concat_view m).outs → AllDone (concat_view m) → concat_spent m p ≡ true
+  concat-done_spent p z d = concat-spent_if p (inr (
+    z,
+    λ q lt on. elim (d q lt) as (λ _. IsOver (concat_view m) q) [
+      | inl e ↦ inl e
+      | inr e ↦ (let clash : true ≡ false = sym e ∙ on in cc)
+    ],
+  ))

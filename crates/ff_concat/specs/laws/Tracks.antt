@@ -1,12 +1,11 @@
 -- How the machine of segments one after another is seen.
 use Rattle.std.specs.Prelude.{ℕ, zero, suc, ◌+◌, ◌-◌, ◌*◌, Bool, true, false, ◌||◌, ◌&&◌, List, [], ◌∷◌, cond, length, map}
 use Rattle.ff_frame.specs.declared.head.StreamHead.{StreamHead}
-use Rattle.ff_stream.specs.declared.item.Item.{Item}
 use Rattle.ff_stream.specs.declared.item.Lane.{Lane}
 use Rattle.ff_stream.specs.declared.item.Lane.TheVariants.{Frames}
 use Rattle.ff_stream.specs.Stream.{whole, broken}
 use Rattle.ff_stream.specs.Ports.{nothing}
-use Rattle.ff_stream.specs.Within.{passes_limits}
+use Rattle.ff_stream.specs.Within.{some_pass, passes_limits}
 use Rattle.ff_filter.specs.declared.after.After.{After}
 use Rattle.ff_filter.specs.declared.after.After.TheVariants.{More, Whole, Broke}
 use Rattle.ff_filter.specs.Joins.{Flow, Ports, silence}
@@ -22,6 +21,7 @@ use Rattle.ff_concat.specs.Tails.{Tail, last_end}
 use Rattle.ff_concat.specs.Concats.{Output, in_order}
 use Rattle.ff_concat.specs.ConcatOptions.{repeated}
 use Rattle.ff_concat.specs.laws.Closing.{is_closed}
+use Rattle.ff_concat.specs.laws.Queues.{queue_at}
 
 -- where the items of input p end so far, and how it stands
 abbrev pub end_at : List Reach → ℕ → ℕ
@@ -42,12 +42,6 @@ tail_on e Broke t = record { end = e; mark = broken }
 
 abbrev pub tails : List Reach → Ports → ℕ → Tail
 tails rs ext p = tail_on (end_at rs p) (after_at rs p) (ext p)
-
--- the items that wait of segment k
-abbrev pub queue_at : List Backlog → ℕ → List Item
-queue_at [] k = []
-queue_at (b ∷ bs) zero = b.queue.items
-queue_at (b ∷ bs) (suc k) = queue_at bs k
 
 -- of segments of w streams, what waits of that of number q, and what comes behind it
 abbrev pub own : List Backlog → List Reach → ℕ → ℕ → Ports → ℕ → Flow
@@ -86,14 +80,22 @@ stopped_at (t ∷ ts) (suc q) = stopped_at ts q
 abbrev pub closed_from : Track → List Reach → ℕ → ℕ → ℕ → Bool
 closed_from t rs w q k = is_closed w (is_video t.head) (length t.backlogs.items - k) k (own t.backlogs.items rs w q silence) (tails rs silence)
 
+-- From segment k on, which begins at `time`, one of the items that came or of the zeros between them passes a limit. So many
+-- were given before, up to `end`.
+abbrev pub cut_from : List ℕ → ℕ → Track → List Reach → ℕ → ℕ → ℕ → ℕ → Bool
+cut_from tick_list q t rs before k time end = some_pass (passes_limits (Frames t.head)) before
+    (in_order tick_list (output_of t.head t.tick q) (length t.backlogs.items - k) k time end
+    (own t.backlogs.items rs (length tick_list) q silence) (tails rs silence)).items
+
 -- nothing more is to come of output q: it isn't wanted, or was closed, or what came so far closes it
-abbrev pub is_done : Track → List Reach → ℕ → ℕ → Bool
-is_done t rs w q = t.stopped || (t.ended || closed_from t rs w q t.current)
+abbrev pub is_done : List ℕ → Track → List Reach → ℕ → Bool
+is_done tick_list t rs q =
+    t.stopped || (t.ended || (cut_from tick_list q t rs t.before t.current t.begin t.end || closed_from t rs (length tick_list) q t.current))
 
 -- the same of each of these outputs, the first of which is output q
-abbrev pub each_done : ℕ → ℕ → List Track → List Reach → Bool
-each_done w q [] rs = true
-each_done w q (t ∷ ts) rs = is_done t rs w q && each_done w (q + 1) ts rs
+abbrev pub each_done : List ℕ → ℕ → List Track → List Reach → Bool
+each_done tick_list q [] rs = true
+each_done tick_list q (t ∷ ts) rs = is_done tick_list t rs q && each_done tick_list (q + 1) ts rs
 
 abbrev pub lanes_of : List Track → List Lane
 lanes_of ts = map (λ (t : Track). Frames t.head) ts

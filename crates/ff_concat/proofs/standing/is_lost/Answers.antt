@@ -1,6 +1,6 @@
 use Rattle.std.proofs.Common.{◌≡◌, ◌<◌, ◌+◌, ◌*◌, [], length, true, false, inl, inr, sym, ◌∙◌, arith}
 use Rattle.ff_filter.specs.declared.after.After.TheVariants.{More, Whole, Broke}
-use Rattle.ff_concat.specs.laws.Tracks.{queue_at}
+use Rattle.ff_concat.specs.laws.Queues.{queue_at}
 use Rattle.ff_concat.proofs.Lookups.{queue_read, after_get}
 use Rattle.ff_concat.proofs.Losing.{lost_not, lost_bare, lost_on, lost_break}
 use Rattle.ff_concat.proofs.standing.is_lost.Goals as goal

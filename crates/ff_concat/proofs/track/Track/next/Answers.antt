@@ -10,8 +10,14 @@ use Rattle.ff_concat.specs.laws.Tracks.{own, tails, output_of}
 use Rattle.ff_concat.specs.laws.Standing.{StandsAs}
 use Rattle.ff_concat.specs.laws.Moves.{Gave, Told, Waits}
 use Rattle.ff_concat.proofs.Same.{unchanged_goes_on, alike_by, alike_filled, alike_inside}
+use Rattle.ff_concat.proofs.CutSteps.{late_gave}
 use Rattle.ff_concat.proofs.Draws.{told_gave, item_made, broke_gave, more_waits, passed_back}
 use Rattle.ff_concat.proofs.track.Track.next.Goals as goal
+
+pub returns-then-is_next_late-clause-gives : goal.returns-then-is_next_late-clause-gives
+returns-then-is_next_late-clause-gives c x e =
+    late_gave c.args.ticks.now c.args.number c.args.self.now _ c.args.reaches.now c.requires.open c.requires.there c.requires.no_zeros
+    (sym c.is_next_late.ensures ∙ c.if-is_next_late.true) refl refl refl refl x (cc (e))
 
 pub returns-in-Some-clause-gives : goal.returns-in-Some-clause-gives
 returns-in-Some-clause-gives c x e =

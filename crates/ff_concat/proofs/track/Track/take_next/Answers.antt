@@ -1,10 +1,26 @@
-use Rattle.std.proofs.Common.{◌≡◌, ◌∙◌, [], ◌∷◌, List, set, refl, ap, sym, inl, inr, subst, ℕ}
+use Rattle.std.proofs.Common.{◌≡◌, ◌∙◌, [], ◌∷◌, List, set, refl, ap, sym, inl, inr, subst, ℕ, arith}
 use Rattle.std.proofs.lemmas.Bool.{cases_eq}
 use Rattle.std.proofs.lemmas.List.{length-set}
 use Rattle.ff_stream.specs.declared.item.Item.{Item}
-use Rattle.ff_concat.specs.laws.Tracks.{queue_at}
+use Rattle.ff_concat.specs.laws.Queues.{queue_at}
 use Rattle.ff_concat.proofs.Lookups.{queue_read, queue_set, queue_other}
+use Rattle.ff_concat.proofs.Tolds.{told_pop}
 use Rattle.ff_concat.proofs.track.Track.take_next.Goals as goal
+
+pub invariant_of-self : goal.invariant_of-self
+invariant_of-self c =
+    let t = c.args.self.now in
+    let bs = t.backlogs.items in
+    let l = t.there in
+    let e = length-set bs t.current c.pop.new.self in
+    record {
+      there = omega (arith, l, e);
+      some = t.some;
+      small = t.small;
+      shift = t.shift;
+      told = told_pop t.head t.current t.by t.stopped t.ended bs c.index_mut.result.now c.pop.new.self c.pop.result c.index_mut.ensures.value
+          c.requires.there t.told c.requires.in_time c.pop.ensures.some c.pop.ensures.none c.pop.ensures.least;
+    }
 
 pub returns-in-Some-clause-some : goal.returns-in-Some-clause-some
 returns-in-Some-clause-some c =
