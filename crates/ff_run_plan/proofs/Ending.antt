@@ -45,22 +45,22 @@ empty_parts left holds srcs snks text file bytes told = λ j d lt. inl ([], text
 module _ {H S K M : Type 0} (is : KindsOf H) (left named : S → Option (List ℕ)) (failed : S → ℕ) (holds called : K → Option (List ℕ)) (faulted : K → ℕ) (view : M → View)
     (job : Job) (plan : Plan) (heads : List H) (srcs : List S) (snks : List K) (claims : Bool) (end : WorkEnd RunFault) (srcs' : List S) (snks' : List K)
     (for : IsPlanFor is job heads plan) (src_count : length srcs ≡ length heads) (snk_count : length snks ≡ length job.outputs) (claimed : claims ≡ tell_all left holds srcs snks)
-    (done : IsDone is left named failed holds called faulted view (asked_of job plan.texts plan.made) heads plan.edges plan.nodes srcs snks claims end srcs' snks') where
+    (done : IsDone is left named failed holds called faulted view (asked_of job plan.texts plan.made plan.nodes) heads plan.edges plan.nodes srcs snks claims end srcs' snks') where
   order : AreOrdered (length srcs) (length snks) plan.nodes
   order =
       subst (λ (n : ℕ). AreOrdered n (length snks) plan.nodes) (sym src_count) (subst (λ (n : ℕ). AreOrdered (length heads) n plan.nodes) (sym snk_count) for.ordered)
 
   abbrev Says : WorkEnd RunFault → Type 0
-  Says = outcome.Says is left named failed holds called faulted view (asked_of job plan.texts plan.made) heads plan.edges plan.nodes srcs snks claims done.olds done.news done.src_places done.snk_places done.fault srcs' snks' order done.run done.back
+  Says = outcome.Says is left named failed holds called faulted view (asked_of job plan.texts plan.made plan.nodes) heads plan.edges plan.nodes srcs snks claims done.olds done.news done.src_places done.snk_places done.fault srcs' snks' order done.run done.back
 
   said : Says end
   said = subst Says (sym done.end_is)
-      (outcome.says is left named failed holds called faulted view (asked_of job plan.texts plan.made) heads plan.edges plan.nodes srcs snks claims done.olds done.news done.src_places done.snk_places done.fault srcs' snks' order done.run done.back)
+      (outcome.says is left named failed holds called faulted view (asked_of job plan.texts plan.made plan.nodes) heads plan.edges plan.nodes srcs snks claims done.olds done.news done.src_places done.snk_places done.fault srcs' snks' order done.run done.back)
 
   vouched : (bytes : List (List ℕ)) → AreTold left holds srcs snks bytes → claims ≡ true
   vouched bytes told = claimed ∙ tells_told left holds srcs snks bytes told
 
-  muxes : (bytes : List (List ℕ)) (o : ℕ) → o < length snks → slice_get plan.nodes (mux_node is (asked_of job plan.texts plan.made) heads bytes plan.nodes plan.edges o) ≡ Some (node.Mux o)
+  muxes : (bytes : List (List ℕ)) (o : ℕ) → o < length snks → slice_get plan.nodes (mux_node is (asked_of job plan.texts plan.made plan.nodes) heads bytes plan.nodes plan.edges o) ≡ Some (node.Mux o)
   muxes bytes o lt = for.muxes o (subst (λ (n : ℕ). o < n) snk_count lt)
 
   ends_say : (e : WorkEnd RunFault) → Says e → EndsWork (means is job) failed faulted srcs snks srcs' snks' heads (AreTold left holds srcs snks) e
@@ -95,27 +95,29 @@ module _ {H S K M : Type 0} (is : KindsOf H) (left named : S → Option (List �
   all_sinks = sinks_say end said
 
   pub keeps_sources : KeepEnds named srcs srcs'
-  keeps_sources = outcome.keeps_sources is left named failed holds called faulted view (asked_of job plan.texts plan.made) heads plan.edges plan.nodes srcs snks claims done.olds done.news done.src_places done.snk_places done.fault srcs' snks' order done.run done.back
+  keeps_sources = outcome.keeps_sources is left named failed holds called faulted view (asked_of job plan.texts plan.made plan.nodes) heads plan.edges plan.nodes srcs snks claims done.olds done.news done.src_places done.snk_places done.fault srcs' snks' order done.run done.back
 
   pub keeps_sinks : KeepEnds called snks snks'
-  keeps_sinks = outcome.keeps_sinks is left named failed holds called faulted view (asked_of job plan.texts plan.made) heads plan.edges plan.nodes srcs snks claims done.olds done.news done.src_places done.snk_places done.fault srcs' snks' order done.run done.back
+  keeps_sinks = outcome.keeps_sinks is left named failed holds called faulted view (asked_of job plan.texts plan.made plan.nodes) heads plan.edges plan.nodes srcs snks claims done.olds done.news done.src_places done.snk_places done.fault srcs' snks' order done.run done.back
 
   pub all_files : end ≡ work_end.Fine → (bytes : List (List ℕ)) → AreTold left holds srcs snks bytes → HoldFiles holds ((means is job).file heads bytes) snks'
   all_files fine bytes told =
       subst (λ (p : Planned Plan). HoldFiles holds (λ o. file_of is job p heads bytes o) snks') (sym for.made)
-      (outcome.holds_file is left named failed holds called faulted view (asked_of job plan.texts plan.made) heads plan.edges plan.nodes srcs snks claims done.olds done.news done.src_places done.snk_places done.fault srcs' snks' order done.run done.back
+      (outcome.holds_file is left named failed holds called faulted view (asked_of job plan.texts plan.made plan.nodes) heads plan.edges plan.nodes srcs snks claims done.olds done.news done.src_places done.snk_places done.fault srcs' snks' order done.run done.back
       bytes (vouched bytes told) told for.fitting (muxes bytes) (outcome.fine_only (length heads) plan.nodes done.fault (sym done.end_is ∙ fine)))
 
   pub all_parts : ((out : OutputJob) (coded : List StreamHead) (held : Option (List ℕ)) (rs ss : List Flow) → AllBelow (map opened rs) ss → HoldsPart held (is.text out coded rs) (is.file out coded rs) → HoldsPart held (is.text out coded ss) (is.file out coded ss))
       → (bytes : List (List ℕ)) → AreTold left holds srcs snks bytes → HoldParts holds ((means is job).text heads bytes) ((means is job).file heads bytes) snks'
   all_parts holds_on bytes told =
       subst (λ (p : Planned Plan). HoldParts holds (λ o. text_of is job p heads bytes o) (λ o. file_of is job p heads bytes o) snks') (sym for.made)
-      (outcome.holds_part is left named failed holds called faulted view (asked_of job plan.texts plan.made) heads plan.edges plan.nodes srcs snks claims done.olds done.news done.src_places done.snk_places done.fault srcs' snks' order done.run done.back
+      (outcome.holds_part is left named failed holds called faulted view (asked_of job plan.texts plan.made plan.nodes) heads plan.edges plan.nodes srcs snks claims done.olds done.news done.src_places done.snk_places done.fault srcs' snks' order done.run done.back
       bytes (vouched bytes told) told for.fitting (muxes bytes) holds_on)
 
 -- by the parts of the plan and of the job
-pub asked_same : (job : Job) (texts texts' : List GraphText) (made made' : List Made) → texts ≡ texts' → made ≡ made' → asked_of job texts made ≡ asked_of job texts' made'
-asked_same job texts texts' made made' t m = ap (λ (x : List GraphText). asked_of job x made) t ∙ ap (asked_of job texts') m
+pub asked_same : (job : Job) (texts texts' : List GraphText) (made made' : List Made) (nodes nodes' : List PlanNode) → texts ≡ texts' → made ≡ made' → nodes ≡ nodes'
+    → asked_of job texts made nodes ≡ asked_of job texts' made' nodes'
+asked_same job texts texts' made made' nodes nodes' t m n =
+    ap (λ (x : List GraphText). asked_of job x made nodes) t ∙ (ap (λ (x : List Made). asked_of job texts' x nodes) m ∙ ap (asked_of job texts' made') n)
 
 pub done_for : {H S K M : Type 0} (is : KindsOf H) (left named : S → Option (List ℕ)) (failed : S → ℕ) (holds called : K → Option (List ℕ)) (faulted : K → ℕ) (view : M → View)
     (asked asked' : Asked) (heads : List H) (edges edges' : List Edge) (nodes nodes' : List PlanNode) (srcs : List S) (snks : List K) (claims : Bool) (end : WorkEnd RunFault) (srcs' : List S) (snks' : List K)

@@ -109,11 +109,11 @@ none_kept kind own apart (e ∷ es) all =
 module _ {H : Type 0} (is : KindsOf H) (own : TellOfThemselves is) (asked : Asked) (heads : List H) (bytes : List (List ℕ))
     (nodes : List PlanNode) (edges : List Edge) (feeds : List Feed) where
   -- of a kind that no event of an output is of, and no exit but of one input
-  demux_none : (kind : Event → Bool) (i : ℕ) → kind (Exited i) ≡ false → (head : Option H) (text : List ℕ)
-      → filter kind ((demux_by is i head text).tells feeds) ≡ []
-  demux_none kind i apart None text = refl
-  demux_none kind i apart (Some head) text =
-      ap (filter kind) (own.demuxer i head text feeds) ∙ ap (λ (b : Bool). cond b (Exited i ∷ []) []) apart
+  demux_none : (kind : Event → Bool) (i : ℕ) → kind (Exited i) ≡ false → (head : Option H) (used text : List ℕ)
+      → filter kind ((demux_by is i head used text).tells feeds) ≡ []
+  demux_none kind i apart None used text = refl
+  demux_none kind i apart (Some head) used text =
+      ap (filter kind) (own.demuxer i head used text feeds) ∙ ap (λ (b : Bool). cond b (Exited i ∷ []) []) apart
 
   gen_none : (kind : Event → Bool) (i : ℕ) → kind (Exited i) ≡ false → (made : Option Made) → filter kind ((gen_by is i made).tells feeds) ≡ []
   gen_none kind i apart None = refl
@@ -148,7 +148,7 @@ module _ {H : Type 0} (is : KindsOf H) (own : TellOfThemselves is) (asked : Aske
   none_of_stream : (t j : ℕ) (n : Option PlanNode) → ((o : ℕ) → n ≡ Some (node.Mux o) → IsOutside t (first_at asked nodes edges j) (length (heads_on (lanes_into edges j))))
       → filter (is_of_stream t) ((task_by is asked heads bytes nodes edges n j).tells feeds) ≡ []
   none_of_stream t j None other = refl
-  none_of_stream t j (Some (node.Demux i)) other = demux_none (is_of_stream t) i refl (slice_get heads i) (slice_index_or bytes i [])
+  none_of_stream t j (Some (node.Demux i)) other = demux_none (is_of_stream t) i refl (slice_get heads i) (asked.used i) (slice_index_or bytes i [])
   none_of_stream t j (Some (node.Gen i)) other = gen_none (is_of_stream t) i refl (asked.made i)
   none_of_stream t j (Some (node.Dec at)) other = dec_none (is_of_stream t) (first_head (lanes_into edges j)) (asked.cut at.input) (length (lanes_out_of edges j))
   none_of_stream t j (Some (node.Graph g)) other = graph_none (is_of_stream t) g (asked.text g) (heads_on (lanes_into edges j)) (cuts_at asked nodes edges j) (λ i. refl)
@@ -163,7 +163,7 @@ module _ {H : Type 0} (is : KindsOf H) (own : TellOfThemselves is) (asked : Aske
       → filter (is_exit_of i) ((task_by is asked heads bytes nodes edges n j).tells feeds) ≡ []
   none_of_source i j None other = refl
   none_of_source i j (Some (node.Demux p)) other =
-      demux_none (is_exit_of i) p (other_number p i p (λ e. other (ap (λ (m : ℕ). Some m) e)) (itself p p refl)) (slice_get heads p) (slice_index_or bytes p [])
+      demux_none (is_exit_of i) p (other_number p i p (λ e. other (ap (λ (m : ℕ). Some m) e)) (itself p p refl)) (slice_get heads p) (asked.used p) (slice_index_or bytes p [])
   none_of_source i j (Some (node.Gen p)) other =
       gen_none (is_exit_of i) p (other_number p i p (λ e. other (ap (λ (m : ℕ). Some m) e)) (itself p p refl)) (asked.made p)
   none_of_source i j (Some (node.Dec at)) other = dec_none (is_exit_of i) (first_head (lanes_into edges j)) (asked.cut at.input) (length (lanes_out_of edges j))
@@ -176,7 +176,7 @@ module _ {H : Type 0} (is : KindsOf H) (own : TellOfThemselves is) (asked : Aske
   -- nor of the best input of a graph
   none_of_best : (g j : ℕ) (n : Option PlanNode) → n ≢ Some (node.Graph g) → filter (is_best_of g) ((task_by is asked heads bytes nodes edges n j).tells feeds) ≡ []
   none_of_best g j None other = refl
-  none_of_best g j (Some (node.Demux p)) other = demux_none (is_best_of g) p refl (slice_get heads p) (slice_index_or bytes p [])
+  none_of_best g j (Some (node.Demux p)) other = demux_none (is_best_of g) p refl (slice_get heads p) (asked.used p) (slice_index_or bytes p [])
   none_of_best g j (Some (node.Gen p)) other = gen_none (is_best_of g) p refl (asked.made p)
   none_of_best g j (Some (node.Dec at)) other = dec_none (is_best_of g) (first_head (lanes_into edges j)) (asked.cut at.input) (length (lanes_out_of edges j))
   none_of_best g j (Some (node.Graph h)) other =

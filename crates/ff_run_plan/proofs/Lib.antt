@@ -23,3 +23,4 @@ pub mod Tally
 pub mod Told
 pub mod Telling
 pub mod Trying
+pub mod Used

@@ -13,7 +13,7 @@ use Rattle.ff_net.specs.Pasts.{start}
 use Rattle.ff_net.specs.laws.Views.{View}
 use Rattle.ff_plan.specs.declared.planned.PlanNode.TheVariants as node
 use Rattle.ff_run_plan.specs.Asked.{Asked}
-use Rattle.ff_run_plan.specs.Kinds.{KindsOf, IsNew}
+use Rattle.ff_run_plan.specs.Kinds.{KindsOf, IsNew, used_heads}
 use Rattle.ff_run_plan.specs.Tasks.{heads_on, demux_by, gen_by, graph_by, shortest_by, mux_by}
 use Rattle.ff_run_plan.specs.Parts.{FitsDemux, FitsGen, FitsGraph, FitsShortest, FitsMux, IsPart}
 use Rattle.ff_run_plan.proofs.Numbers.{same_some}
@@ -25,13 +25,14 @@ if_both P Q R (Some x) p q f = f x p q
 
 module _ {H S K : Type 0} (is : KindsOf H) (left named : S → Option (List ℕ)) (failed : S → ℕ) (holds called : K → Option (List ℕ)) (faulted : K → ℕ)
     (asked : Asked) (heads : List H) (srcs : List S) (snks : List K) (first : ℕ) (cuts : List OutputCut) (ins outs : List Lane) (v : View) where
-  pub demux_part : (i : ℕ) (fits : FitsDemux is heads ins outs i) (src : S) → slice_get srcs i ≡ Some src → IsNew (Some i) ins outs (named src) (failed src) v
-      → ((head : H) → slice_get heads i ≡ Some head → (bytes : List ℕ) → left src ≡ Some bytes → v.stands (start (is.demux_task i head bytes)))
+  pub demux_part : (i : ℕ) (fits : FitsDemux is asked heads ins outs i) (src : S) → slice_get srcs i ≡ Some src
+      → IsNew (Some i) [] (map (λ (h : StreamHead). Packets h) (used_heads (is.streams fits.head) (asked.used i))) (named src) (failed src) v
+      → ((head : H) → slice_get heads i ≡ Some head → (bytes : List ℕ) → left src ≡ Some bytes → v.stands (start (is.demux_task i head (asked.used i) bytes)))
       → IsPart is left named failed holds called faulted asked heads srcs snks first cuts ins outs (node.Demux i) v
   demux_part i fits src at new starts = record {
     source_is = new.source_is;
-    in_lanes = new.in_lanes;
-    out_lanes = new.out_lanes;
+    in_lanes = new.in_lanes ∙ sym fits.ins_are;
+    out_lanes = new.out_lanes ∙ sym fits.outs_are;
     sound = new.sound;
     source = λ j s e there.
         let same : i ≡ j = cc in
@@ -40,7 +41,7 @@ module _ {H S K : Type 0} (is : KindsOf H) (left named : S → Option (List ℕ)
     sink = λ o s e. absurd cc;
     starts = λ bytes told.
         let tells : left src ≡ Some (slice_index_or bytes i []) = ap left (sym (get_or_from_slice_get srcs i src src at)) ∙ told.left_is i src (slice_get_within srcs i src at) in
-        subst (λ (h : Option H). v.stands (start (demux_by is i h (slice_index_or bytes i [])))) (sym fits.there) (starts fits.head fits.there (slice_index_or bytes i []) tells);
+        subst (λ (h : Option H). v.stands (start (demux_by is i h (asked.used i) (slice_index_or bytes i [])))) (sym fits.there) (starts fits.head fits.there (slice_index_or bytes i []) tells);
   }
 
   pub gen_part : (i : ℕ) (fits : FitsGen is asked ins outs i) → IsNew (Some i) [] (Frames (head_of fits.made) ∷ []) None 0 v → v.stands (start (is.gen_task i fits.made))

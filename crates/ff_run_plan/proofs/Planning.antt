@@ -1,6 +1,6 @@
 -- What a plan's nodes and edges are to the kinds of part.
-use Rattle.std.proofs.Common.{◌≡◌, ℕ, zero, suc, ◌+◌, ◌-◌, ◌<◌, ◌≤◌, Bool, true, false, List, [], ◌∷◌, length, map, replicate, slice_get, slice_index_or, unwrap_or, Option, Some, None, refl, sym, ap, ◌∙◌, subst, arith}
-use Rattle.std.specs.Prelude.{cond, ◌++◌, IfSome}
+use Rattle.std.proofs.Common.{◌≡◌, ℕ, zero, suc, ◌-◌, ◌<◌, ◌≤◌, true, List, [], ◌∷◌, length, map, replicate, slice_get, slice_index_or, Option, Some, None, refl, sym, ap, ◌∙◌, subst, arith}
+use Rattle.std.specs.Prelude.{◌++◌, IfSome}
 use Rattle.std.specs.List.{All, AllByRecursion, cons_option, filter, filter_map, flat_map}
 use Rattle.std.proofs.lemmas.Option.{slice_get_within, get_or_from_slice_get}
 use Rattle.std.proofs.lemmas.List.{length-map, length-replicate}
@@ -25,6 +25,7 @@ use Rattle.ff_plan_layout.specs.declared.layout.GraphText.{GraphText}
 use Rattle.ff_plan.specs.declared.planned.Plan.{Plan}
 use Rattle.ff_plan.specs.declared.planned.PlanNode.{PlanNode}
 use Rattle.ff_plan.specs.declared.planned.PlanNode.TheVariants as node
+use Rattle.ff_plan.specs.Decoded.{decoded_of}
 use Rattle.ff_plan.specs.laws.EndFits as ends
 use Rattle.ff_plan.specs.laws.GraphFits as graphs
 use Rattle.ff_plan.specs.Numbers.{streams_between}
@@ -32,10 +33,11 @@ use Rattle.ff_plan.specs.laws.StartFits as starts
 use Rattle.ff_plan_layout.specs.Streams.{most_streams, packed_as, takes_head}
 use Rattle.ff_plan.specs.laws.Taken.{AllFrames, HasFrames, OutputsFit}
 use Rattle.ff_run_plan.specs.Asked.{Asked, asked_of, text_there}
-use Rattle.ff_run_plan.specs.Kinds.{KindsOf, GraphsAreHad, SourcesAreHad}
+use Rattle.ff_run_plan.specs.Kinds.{KindsOf, AreUsed, used_heads, GraphsAreHad, SourcesAreHad}
 use Rattle.ff_run_plan.specs.Parts.{IsFitting, AreOrdered, HaveNumbers}
 use Rattle.ff_run_plan.proofs.Rows.{all_at}
 use Rattle.ff_run_plan.proofs.StreamNumbers.{one_past}
+use Rattle.ff_run_plan.proofs.Used.{are_shown, row_of, stream_of}
 
 -- ---- lists
 
@@ -99,64 +101,11 @@ sources_all is had graphs =
     let P : Made → Type 0 = λ m. is.CanMake m × is.IsFrames (head_of m) in
     made_from P (flat_map is.rules.open_ins graphs) (pads_all is.rules (λ i. IfSome (made_at_pad i) P) had graphs)
 
--- ---- the one stream of an input
-
-module _ {H : Type 0} (stream : H → StreamHead) where
-  abbrev pub singles : List H → List (List StreamHead)
-  singles hs = map (λ h. stream h ∷ []) hs
-
-  in_one : (h : H) (n : ℕ) (head : StreamHead) → slice_get (stream h ∷ []) n ≡ Some head → stream h ≡ head
-  in_one h zero head e = (let same : Some (stream h) ≡ Some head = e in cc)
-  in_one h (suc n) head e = absurd cc
-
-  one_stream : (hs : List H) (i n : ℕ) (head : StreamHead) → slice_get (unwrap_or (slice_get (singles hs) i) []) n ≡ Some head → (h : H) × (slice_get hs i ≡ Some h) × (stream h ≡ head)
-  one_stream [] i n head e = absurd cc
-  one_stream (h ∷ hs) zero n head e = (h, refl, in_one h n head e)
-  one_stream (h ∷ hs) (suc i) n head e = one_stream hs i n head e
-
-  abbrev one : ℕ → H → Stream
-  one i h = record { at = record { input = i; stream = 0 }; head = stream h }
-
-  -- the streams from an input on that are shown, by whether its one is
-  shown_step : (shown : Stream → Bool) (a : ℕ) (h : H) (hs : List H) (b : Bool) → shown (one a h) ≡ b
-      → filter shown (streams_from a (singles (h ∷ hs))) ≡ cond b (one a h ∷ filter shown (streams_from (a + 1) (singles hs))) (filter shown (streams_from (a + 1) (singles hs)))
-  shown_step shown a h hs b e = ap (λ (c : Bool). cond c (one a h ∷ filter shown (streams_from (a + 1) (singles hs))) (filter shown (streams_from (a + 1) (singles hs)))) e
-
-  -- none is of inputs from a later one on
-  none_later : (shown : Stream → Bool) (i : ℕ) → ((s : Stream) → shown s ≡ true → s.at.input ≡ i) → (a : ℕ) (hs : List H) → i < a → filter shown (streams_from a (singles hs)) ≡ []
-  none_later shown i own a [] lt = refl
-  none_later shown i own a (h ∷ hs) lt = skip (shown (one a h)) refl (none_later shown i own (a + 1) hs (omega (arith, lt))) where
-    skip : (b : Bool) → shown (one a h) ≡ b → filter shown (streams_from (a + 1) (singles hs)) ≡ [] → filter shown (streams_from a (singles (h ∷ hs))) ≡ []
-    skip true e none = absurd (let same = own (one a h) e in omega (arith, lt, same))
-    skip false e none = shown_step shown a h hs false e ∙ none
-
-  -- the one stream of one of some inputs, the first of which has this number, is all that is shown
-  abbrev IsShown : (Stream → Bool) → ℕ → ℕ → List H → Type 0
-  IsShown shown i a hs = (j : ℕ) × (h : H) × (i ≡ a + j) × (slice_get hs j ≡ Some h) × (filter shown (streams_from a (singles hs)) ≡ one i h ∷ [])
-
-  one_shown : (shown : Stream → Bool) (i : ℕ) → ((s : Stream) → shown s ≡ true → s.at.input ≡ i) → (a : ℕ) (hs : List H) → 1 ≤ length (filter shown (streams_from a (singles hs))) → IsShown shown i a hs
-  one_shown shown i own a [] some = absurd (omega (arith, some))
-  one_shown shown i own a (h ∷ hs) some = by (shown (one a h)) refl (λ later. one_shown shown i own (a + 1) hs later) where
-    by : (b : Bool) → shown (one a h) ≡ b → (1 ≤ length (filter shown (streams_from (a + 1) (singles hs))) → IsShown shown i (a + 1) hs) → IsShown shown i a (h ∷ hs)
-    by true e later =
-        let same : a ≡ i = own (one a h) e in (
-          0,
-          h,
-          omega (arith, same),
-          refl,
-          shown_step shown a h hs true e ∙ (ap (λ (xs : List Stream). one a h ∷ xs) (none_later shown i own (a + 1) hs (omega (arith, same)))
-              ∙ ap (λ (n : ℕ). one n h ∷ []) same),
-        )
-    by false e later =
-        let more = later (subst (λ (xs : List Stream). 1 ≤ length xs) (shown_step shown a h hs false e) some) in
-        let j_is = more.2 in
-        (suc more.0, more.1, omega (arith, j_is), more.3, shown_step shown a h hs false e ∙ more.4)
-
 -- ---- the lanes at the ports of a node
 
 module _ {H : Type 0} (is : KindsOf H) (job : Job) (heads : List H) (plan : Plan) (sound : All is.IsHead heads) (frames : AllFrames is.IsFrames plan.edges) where
   abbrev pub asked : Asked
-  asked = asked_of job plan.texts plan.made
+  asked = asked_of job plan.texts plan.made plan.nodes
 
   abbrev pub Fits : ℕ → PlanNode → Type 0
   Fits k n = IsFitting is asked heads (lanes_into plan.edges k) (lanes_out_of plan.edges k) n
@@ -164,38 +113,46 @@ module _ {H : Type 0} (is : KindsOf H) (job : Job) (heads : List H) (plan : Plan
   pub sound_at : (i : ℕ) (h : H) → slice_get heads i ≡ Some h → is.IsHead h
   sound_at i h at = subst is.IsHead (get_or_from_slice_get heads i h h at) (sound i h (slice_get_within heads i h at))
 
-  pub demux_fits : (k i : ℕ) → 1 ≤ length (lanes_out_of plan.edges k) → starts.FitsCutter (singles is.stream heads) plan.edges k i → Fits k (node.Demux i)
-  demux_fits k i used f =
-      let many : length (lanes_out_of plan.edges k) ≡ length (filter f.shown (streams_from 0 (singles is.stream heads))) =
-      ap (λ (ls : List Lane). length ls) f.outs ∙ length-map (filter f.shown (streams_from 0 (singles is.stream heads))) (λ (s : Stream). Packets s.head) in
-      let one = one_shown is.stream f.shown i f.of_input 0 heads (omega (arith, used, many)) in
-      let j_is = one.2 in
-      let is_i : one.0 ≡ i = omega (arith, j_is) in
-      let there : slice_get heads i ≡ Some one.1 = subst (λ (j : ℕ). slice_get heads j ≡ Some one.1) is_i one.3 in record {
-        head = one.1;
-        there = there;
-        sound = sound_at i one.1 there;
+  abbrev rows : List (List StreamHead)
+  rows = map is.streams heads
+
+  pub demux_fits : (k i : ℕ) → 1 ≤ length (lanes_out_of plan.edges k) → starts.FitsCutter rows plan.nodes plan.edges k i → Fits k (node.Demux i)
+  demux_fits k i some f =
+      let shown = filter f.shown (streams_from 0 rows) in
+      let many : length (lanes_out_of plan.edges k) ≡ length shown = ap (λ (ls : List Lane). length ls) f.outs ∙ length-map shown (λ (s : Stream). Packets s.head) in
+      let own = are_shown rows i f.shown f.of_input (omega (arith, some, many)) in
+      let h = row_of is.streams heads i own.row own.at in
+      let used : decoded_of plan.nodes i ≡ map (λ (s : Stream). s.at.stream) shown = f.decoded in
+      let lanes : map (λ (s : Stream). Packets s.head) shown ≡ map (λ (x : StreamHead). Packets x) (used_heads (is.streams h.0) (decoded_of plan.nodes i)) =
+      two_maps (λ (s : Stream). s.head) (λ (x : StreamHead). Packets x) shown
+      ∙ ap (λ (hs : List StreamHead). map (λ (x : StreamHead). Packets x) hs)
+      (sym own.heads ∙ (ap (λ (xs : List StreamHead). used_heads xs (map (λ (s : Stream). s.at.stream) shown)) (sym h.2) ∙ ap (λ (ns : List ℕ). used_heads (is.streams h.0) ns) (sym used))) in
+      record {
+        head = h.0;
+        there = h.1;
+        sound = sound_at i h.0 h.1;
         ins_are = f.ins;
-        outs_are = f.outs ∙ ap (λ (ss : List Stream). map (λ (s : Stream). Packets s.head) ss) one.4;
+        used = subst (λ (ns : List ℕ). AreUsed (is.streams h.0) ns) (sym used) (subst (λ (xs : List StreamHead). AreUsed xs (map (λ (s : Stream). s.at.stream) shown)) (sym h.2) own.used);
+        outs_are = f.outs ∙ lanes;
       }
 
-  pub gen_fits : (length (singles is.stream heads) ≡ length job.inputs) → AllByRecursion (λ m. is.CanMake m × is.IsFrames (head_of m)) plan.made
-      → (k i : ℕ) → starts.FitsGen (length (singles is.stream heads)) plan.made plan.edges k i → Fits k (node.Gen i)
+  pub gen_fits : (length rows ≡ length job.inputs) → AllByRecursion (λ m. is.CanMake m × is.IsFrames (head_of m)) plan.made
+      → (k i : ℕ) → starts.FitsGen (length rows) plan.made plan.edges k i → Fits k (node.Gen i)
   gen_fits many makes k i f = record {
     made = f.source;
     there = ap (λ (n : ℕ). slice_get plan.made (i - n)) (sym many) ∙ f.is;
-    can = (all_at (λ m. is.CanMake m × is.IsFrames (head_of m)) plan.made (i - length (singles is.stream heads)) f.source makes f.is).0;
+    can = (all_at (λ m. is.CanMake m × is.IsFrames (head_of m)) plan.made (i - length rows) f.source makes f.is).0;
     ins_are = f.ins;
     outs_are = f.outs;
   }
 
-  pub dec_fits : ((h : H) → is.IsHead h → is.CanDecode (is.stream h)) → (k : ℕ) (at : StreamRef) → starts.FitsDec (singles is.stream heads) plan.edges k at → Fits k (node.Dec at)
+  pub dec_fits : ((h : H) → is.IsHead h → AllByRecursion is.CanDecode (is.streams h)) → (k : ℕ) (at : StreamRef) → starts.FitsDec rows plan.edges k at → Fits k (node.Dec at)
   dec_fits decodes k at f =
-      let h = one_stream is.stream heads at.input at.stream f.head f.is in
+      let h = stream_of is.streams heads at.input at.stream f.head f.is in
       let many : length (lanes_out_of plan.edges k) ≡ f.uses = ap length f.outs ∙ length-replicate f.uses (Frames f.head) in
       let used = f.used in record {
         head = f.head;
-        can = subst is.CanDecode h.2 (decodes h.0 (sound_at at.input h.0 h.1));
+        can = all_at is.CanDecode (is.streams h.0) at.stream f.head (decodes h.0 (sound_at at.input h.0 h.1)) h.2;
         some = omega (arith, many, used);
         ins_are = f.ins;
         outs_are = f.outs ∙ ap (λ (n : ℕ). replicate n (Frames f.head)) (sym many);

@@ -49,8 +49,8 @@ FramesAreKept rules P = (job : Job) (heads : List (List StreamHead)) (p : Plan) 
 
 -- what the kinds of node owe, and plans
 pub record AreLawful {H : Type 0} (is : KindsOf H) : Type 0 where
-  pub decodes : (h : H) → is.IsHead h → is.CanDecode (is.stream h)
-  pub frames : (h : H) → is.IsHead h → is.IsFrames (is.stream h)
+  pub decodes : (h : H) → is.IsHead h → AllByRecursion is.CanDecode (is.streams h)
+  pub frames : (h : H) → is.IsHead h → AllByRecursion is.IsFrames (is.streams h)
   pub plans : PlansAreSound is.rules
   pub carries : FramesAreKept is.rules is.IsFrames
   pub sources : (job : Job) (heads : List (List StreamHead)) (p : Plan) → planned is.rules job heads ≡ Ok p → p.made ≡ sources_of is.rules job.graphs
@@ -63,10 +63,10 @@ pub record AreLawful {H : Type 0} (is : KindsOf H) : Type 0 where
 
 module _ {H : Type 0} (is : KindsOf H) (job : Job) (heads : List H) (accepted : IsAccepted is job heads) where
   abbrev pub streams : List (List StreamHead)
-  streams = map (λ h. is.stream h ∷ []) heads
+  streams = map is.streams heads
 
   many : length streams ≡ length heads
-  many = length-map heads (λ h. is.stream h ∷ [])
+  many = length-map heads is.streams
 
   -- there is no refusal where there is a plan, and the refusal of one is the plan's
   pub none_refused : (lists : List (List StreamHead)) (plan : Plan) → lists ≡ streams → planned is.rules job lists ≡ Ok plan → refusal_of is job (plan_for is job heads) ≡ None
@@ -81,9 +81,9 @@ module _ {H : Type 0} (is : KindsOf H) (job : Job) (heads : List H) (accepted : 
   all_second P Q (m ∷ ms) all = (all.0.1, all_second P Q ms all.1)
 
   -- what is true of the heads of frames is true of the heads of inputs
-  all_frames : ((h : H) → is.IsHead h → is.IsFrames (is.stream h)) → (hs : List H) → All is.IsHead hs → AllByRecursion (λ xs. AllByRecursion is.IsFrames xs) (map (λ h. is.stream h ∷ []) hs)
+  all_frames : ((h : H) → is.IsHead h → AllByRecursion is.IsFrames (is.streams h)) → (hs : List H) → All is.IsHead hs → AllByRecursion (λ xs. AllByRecursion is.IsFrames xs) (map is.streams hs)
   all_frames own [] all = tt
-  all_frames own (h ∷ hs) all = ((own h (all 0 h (omega arith)), tt), all_frames own hs (λ i d lt. all (suc i) d (omega (arith, lt))))
+  all_frames own (h ∷ hs) all = (own h (all 0 h (omega arith)), all_frames own hs (λ i d lt. all (suc i) d (omega (arith, lt))))
 
   module _ (laws : AreLawful is) (plan : Plan) (made : planned is.rules job streams ≡ Ok plan) (within : IsWithinLimits job streams) where
     sound : IsSoundPlan is.rules job streams plan
@@ -115,9 +115,9 @@ module _ {H : Type 0} (is : KindsOf H) (job : Job) (heads : List H) (accepted : 
         ]
 
     -- the plan's nodes fit the kinds of part
-    are_fitting : HasRows (length heads) (length job.outputs) plan.nodes → GraphsFit is.rules job plan → StartsFit streams plan → AreFitting is (asked_of job plan.texts plan.made) heads plan.edges plan.nodes
+    are_fitting : HasRows (length heads) (length job.outputs) plan.nodes → GraphsFit is.rules job plan → StartsFit streams plan → AreFitting is (asked_of job plan.texts plan.made plan.nodes) heads plan.edges plan.nodes
     are_fitting rows graphs starts k n at = by n at (starts k n at) (sound.outputs.ends.fit k n at) where
-      by : (n : PlanNode) → slice_get plan.nodes k ≡ Some n → FitsStart streams plan.made plan.edges k n → FitsEnd job.outputs sound.outputs.ends.heads plan.edges k n
+      by : (n : PlanNode) → slice_get plan.nodes k ≡ Some n → FitsStart streams plan.made plan.nodes plan.edges k n → FitsEnd job.outputs sound.outputs.ends.heads plan.edges k n
           → fits.Fits is job heads plan accepted.sound frames k n
       by (node.Demux i) at start end = fits.demux_fits is job heads plan accepted.sound frames k i (sound.used k i at) start
       by (node.Gen i) at start end = fits.gen_fits is job heads plan accepted.sound frames (many ∙ accepted.count) makes k i start
@@ -144,7 +144,7 @@ module _ {H : Type 0} (is : KindsOf H) (job : Job) (heads : List H) (accepted : 
           below = below here starts;
           fits = own_lanes_fit (length plan.nodes) plan.edges fed (λ k lt. sound.ins k) (λ k lt. sound.outs k);
           fitting = are_fitting here graphs starts;
-          numbers = fits.have_numbers (length heads) (asked_of job plan.texts plan.made) plan.edges plan.nodes order sound.few;
+          numbers = fits.have_numbers (length heads) (asked_of job plan.texts plan.made plan.nodes) plan.edges plan.nodes order sound.few;
           ordered = order;
           muxes = muxes_there (length heads) (length job.outputs) plan.nodes here;
         }

@@ -303,17 +303,17 @@ module _ {H S K M : Type 0} (is : KindsOf H) (own : TellOfThemselves is) (left n
 module _ {H S K M : Type 0} (is : KindsOf H) (own : TellOfThemselves is) (left named : S → Option (List ℕ)) (failed : S → ℕ) (holds called : K → Option (List ℕ)) (faulted : K → ℕ)
     (view : M → View) (laws : (m : M) → Laws (view m)) (exits : (m : M) → TellsExit (view m)) (job : Job) (plan : Plan) (heads : List H) (srcs : List S) (snks : List K) (end : WorkEnd RunFault) (srcs' : List S) (snks' : List K)
     (log : RunLog) (for : IsPlanFor is job heads plan) (src_count : length srcs ≡ length heads) (snk_count : length snks ≡ length job.outputs)
-    (h : IsLogOf is left named failed holds called faulted view (asked_of job plan.texts plan.made) heads plan.edges plan.nodes srcs snks (tell_all left holds srcs snks) plan.routes (state_before plan) end srcs' snks' log)
+    (h : IsLogOf is left named failed holds called faulted view (asked_of job plan.texts plan.made plan.nodes) heads plan.edges plan.nodes srcs snks (tell_all left holds srcs snks) plan.routes (state_before plan) end srcs' snks' log)
     (fine : end ≡ work_end.Fine) where
   order : AreOrdered (length srcs) (length snks) plan.nodes
   order =
       subst (λ (n : ℕ). AreOrdered n (length snks) plan.nodes) (sym src_count) (subst (λ (n : ℕ). AreOrdered (length heads) n plan.nodes) (sym snk_count) for.ordered)
 
-  enough_read : (bytes : Option (List (List ℕ))) → IfSome bytes (AreTold left holds srcs snks) → IfSome bytes (λ b. AreEnough is (asked_of job plan.texts plan.made) heads b plan.nodes plan.edges (places_in log.reads.items))
+  enough_read : (bytes : Option (List (List ℕ))) → IfSome bytes (AreTold left holds srcs snks) → IfSome bytes (λ b. AreEnough is (asked_of job plan.texts plan.made plan.nodes) heads b plan.nodes plan.edges (places_in log.reads.items))
   enough_read None tells = tt
   enough_read (Some bytes) tells =
       let d = h.history.done in
-      are_enough is own left named failed holds called faulted view laws exits (asked_of job plan.texts plan.made) heads plan.edges plan.nodes srcs snks (tell_all left holds srcs snks) d.olds d.news
+      are_enough is own left named failed holds called faulted view laws exits (asked_of job plan.texts plan.made plan.nodes) heads plan.edges plan.nodes srcs snks (tell_all left holds srcs snks) d.olds d.news
       d.src_places d.snk_places d.fault srcs' snks' plan.routes (state_before plan) log.history order for.fitting d.run d.back
       (fine_only (length heads) plan.nodes d.fault (sym d.end_is ∙ fine)) h.history.run bytes (tells_told left holds srcs snks bytes tells) tells snk_count h.suffice for.below
       (places_in log.reads.items) h.reads for.muxes

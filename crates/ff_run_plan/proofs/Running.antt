@@ -1,8 +1,10 @@
 -- The run of parts that were built.
-use Rattle.std.proofs.Common.{◌≡◌, ℕ, ◌<◌, true, Bool, List, [], length, slice_get, Option, Some, None, sym, ap, ◌∙◌, subst, arith}
+use Rattle.std.proofs.Common.{◌≡◌, ℕ, ◌<◌, true, Bool, List, [], map, length, slice_get, Option, Some, None, sym, ap, ◌∙◌, subst, arith}
 use Rattle.std.proofs.lemmas.Option.{slice_get_within, get_or_from_slice_get}
 use Rattle.ff_stream.specs.declared.edges.edge.Edge.{Edge}
+use Rattle.ff_frame.specs.declared.head.StreamHead.{StreamHead}
 use Rattle.ff_stream.specs.declared.item.Lane.{Lane}
+use Rattle.ff_stream.specs.declared.item.Lane.TheVariants.{Packets}
 use Rattle.ff_stream.specs.edges.Ports.{lanes_into, lanes_out_of}
 use Rattle.ff_net.specs.Pasts.{Task, start}
 use Rattle.ff_net.specs.laws.Views.{View}
@@ -23,6 +25,7 @@ use Rattle.ff_net_threads.specs.laws.network.Scheduling.{AllRouted}
 use Rattle.ff_run_plan.specs.Openings.{unstarted}
 use Rattle.ff_run_plan.proofs.Networks.{kept_same, unstarted_tells, unstarted_streams, parts_fit, meets_streams}
 use Rattle.ff_run_plan.proofs.Numbers.{there}
+use Rattle.ff_run_plan.proofs.Used.{used_first}
 
 -- a source has no inputs
 source_ins : {H : Type 0} (is : KindsOf H) (asked : Asked) (heads : List H) (ins outs : List Lane) (n : PlanNode) (i : ℕ) → source_in n ≡ Some i → IsFitting is asked heads ins outs n → ins ≡ []
@@ -108,8 +111,9 @@ module _ {H S K M : Type 0} (is : KindsOf H) (left named : S → Option (List �
       ap (λ (x : M). (view x).out_lanes) (sym (get_or_from_slice_get news k m m now)) ∙ (kept.out_lanes k old.0 m lt ∙ (ap (λ (x : M). (view x).out_lanes) (get_or_from_slice_get olds k old.0 old.0 old.1) ∙ part.out_lanes)) in record {
         source = λ i e. ins ∙ source_ins is asked heads (lanes_into edges k) (lanes_out_of edges k) n i e (fitting k n at);
         packets = λ i e.
-            let fits : FitsDemux is heads (lanes_into edges k) (lanes_out_of edges k) i = subst (λ (x : PlanNode). IsFitting is asked heads (lanes_into edges k) (lanes_out_of edges k) x) e (fitting k n at) in
-            (is.stream fits.head, outs ∙ fits.outs_are);
+            let fits : FitsDemux is asked heads (lanes_into edges k) (lanes_out_of edges k) i = subst (λ (x : PlanNode). IsFitting is asked heads (lanes_into edges k) (lanes_out_of edges k) x) e (fitting k n at) in
+            let first = used_first (is.streams fits.head) (asked.used i) fits.used in
+            (first.0, map (λ (h : StreamHead). Packets h) first.1, outs ∙ (fits.outs_are ∙ ap (λ (hs : List StreamHead). map (λ (h : StreamHead). Packets h) hs) first.2));
         sink = λ o e.
             let fits : FitsMux is asked (lanes_into edges k) (lanes_out_of edges k) o = subst (λ (x : PlanNode). IsFitting is asked heads (lanes_into edges k) (lanes_out_of edges k) x) e (fitting k n at) in
             outs ∙ fits.outs_are;

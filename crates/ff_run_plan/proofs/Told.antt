@@ -212,10 +212,10 @@ module _ {H S K M : Type 0} (is : KindsOf H) (own : TellOfThemselves is) (left n
 
   -- ---- the exit of a source
 
-  demux_task_is : (i k : ℕ) (at : slice_get nodes k ≡ Some (node.Demux i)) (fits : FitsDemux is heads (lanes_into edges k) (lanes_out_of edges k) i)
-      → tasks k ≡ is.demux_task i fits.head (slice_index_or bytes i [])
+  demux_task_is : (i k : ℕ) (at : slice_get nodes k ≡ Some (node.Demux i)) (fits : FitsDemux is asked heads (lanes_into edges k) (lanes_out_of edges k) i)
+      → tasks k ≡ is.demux_task i fits.head (asked.used i) (slice_index_or bytes i [])
   demux_task_is i k at fits =
-      ap (λ (n : Option PlanNode). task_by is asked heads bytes nodes edges n k) at ∙ ap (λ (h : Option H). demux_by is i h (slice_index_or bytes i [])) fits.there
+      ap (λ (n : Option PlanNode). task_by is asked heads bytes nodes edges n k) at ∙ ap (λ (h : Option H). demux_by is i h (asked.used i) (slice_index_or bytes i [])) fits.there
 
   gen_task_is : (i k : ℕ) (at : slice_get nodes k ≡ Some (node.Gen i)) (fits : FitsGen is asked (lanes_into edges k) (lanes_out_of edges k) i) → tasks k ≡ is.gen_task i fits.made
   gen_task_is i k at fits =
@@ -225,8 +225,8 @@ module _ {H S K M : Type 0} (is : KindsOf H) (own : TellOfThemselves is) (left n
   due_exit : (i k : ℕ) → source_at (slice_get nodes k) ≡ Some i → (feeds : List Feed) → (tasks k).tells feeds ≡ Exited i ∷ []
   due_exit i k at feeds = elim (source_kind (slice_get nodes k) i at) [
     | inl demux ↦
-        let fits : FitsDemux is heads (lanes_into edges k) (lanes_out_of edges k) i = fitting k (node.Demux i) demux in
-        ap (λ (t : Task). t.tells feeds) (demux_task_is i k demux fits) ∙ own.demuxer i fits.head (slice_index_or bytes i []) feeds
+        let fits : FitsDemux is asked heads (lanes_into edges k) (lanes_out_of edges k) i = fitting k (node.Demux i) demux in
+        ap (λ (t : Task). t.tells feeds) (demux_task_is i k demux fits) ∙ own.demuxer i fits.head (asked.used i) (slice_index_or bytes i []) feeds
     | inr gen ↦
         let fits : FitsGen is asked (lanes_into edges k) (lanes_out_of edges k) i = fitting k (node.Gen i) gen in
         ap (λ (t : Task). t.tells feeds) (gen_task_is i k gen fits) ∙ own.generator i fits.made feeds
@@ -301,16 +301,16 @@ module _ {H S K M : Type 0} (is : KindsOf H) (own : TellOfThemselves is) (left n
 module _ {H S K M : Type 0} (is : KindsOf H) (own : TellOfThemselves is) (left named : S → Option (List ℕ)) (failed : S → ℕ) (holds called : K → Option (List ℕ)) (faulted : K → ℕ)
     (view : M → View) (laws : (m : M) → Laws (view m)) (exits : (m : M) → TellsExit (view m)) (job : Job) (plan : Plan) (heads : List H) (srcs : List S) (snks : List K) (end : WorkEnd RunFault) (srcs' : List S) (snks' : List K)
     (events : List Event) (for : IsPlanFor is job heads plan) (src_count : length srcs ≡ length heads) (snk_count : length snks ≡ length job.outputs)
-    (h : IsHistoryOf is left named failed holds called faulted view (asked_of job plan.texts plan.made) heads plan.edges plan.nodes srcs snks (tell_all left holds srcs snks) plan.routes (state_before plan) end srcs' snks' events)
+    (h : IsHistoryOf is left named failed holds called faulted view (asked_of job plan.texts plan.made plan.nodes) heads plan.edges plan.nodes srcs snks (tell_all left holds srcs snks) plan.routes (state_before plan) end srcs' snks' events)
     (fine : end ≡ work_end.Fine) where
   order : AreOrdered (length srcs) (length snks) plan.nodes
   order =
       subst (λ (n : ℕ). AreOrdered n (length snks) plan.nodes) (sym src_count) (subst (λ (n : ℕ). AreOrdered (length heads) n plan.nodes) (sym snk_count) for.ordered)
 
-  streams_told : (bytes : Option (List (List ℕ))) → IfSome bytes (AreTold left holds srcs snks) → IfSome bytes (λ b. TellsAll is (asked_of job plan.texts plan.made) heads b plan.nodes plan.edges events)
+  streams_told : (bytes : Option (List (List ℕ))) → IfSome bytes (AreTold left holds srcs snks) → IfSome bytes (λ b. TellsAll is (asked_of job plan.texts plan.made plan.nodes) heads b plan.nodes plan.edges events)
   streams_told None told = tt
   streams_told (Some bytes) told =
-      tells_all is own left named failed holds called faulted view laws exits (asked_of job plan.texts plan.made) heads plan.edges plan.nodes srcs snks (tell_all left holds srcs snks) h.done.olds h.done.news
+      tells_all is own left named failed holds called faulted view laws exits (asked_of job plan.texts plan.made plan.nodes) heads plan.edges plan.nodes srcs snks (tell_all left holds srcs snks) h.done.olds h.done.news
       h.done.src_places h.done.snk_places h.done.fault srcs' snks' plan.routes (state_before plan) events order for.fitting h.done.run h.done.back
       (fine_only (length heads) plan.nodes h.done.fault (sym h.done.end_is ∙ fine)) h.run bytes (tells_told left holds srcs snks bytes told) told snk_count for.muxes
 

@@ -61,7 +61,7 @@ module _ {H : Type 0} (is : KindsOf H) where
   -- whatever it was fed, a demuxer and a source filter tell that they have exited, a muxer of its output's streams, a graph when its
   -- best input is another than before, which is the first one at first, and each other nothing
   pub record TellOfThemselves : Type 0 where
-    pub demuxer : (i : ℕ) (head : H) (bytes : List ℕ) (feeds : List Feed) → (is.demux_task i head bytes).tells feeds ≡ Exited i ∷ []
+    pub demuxer : (i : ℕ) (head : H) (used bytes : List ℕ) (feeds : List Feed) → (is.demux_task i head used bytes).tells feeds ≡ Exited i ∷ []
     pub generator : (i : ℕ) (made : Made) (feeds : List Feed) → (is.gen_task i made).tells feeds ≡ Exited i ∷ []
     pub decoder : (head : StreamHead) (cut : TimeCut) (outputs : ℕ) (feeds : List Feed) → (is.dec_task head cut outputs).tells feeds ≡ []
     pub graph : (g : ℕ) (text : Graph) (heads : List StreamHead) (cuts : List OutputCut) (feeds : List Feed)

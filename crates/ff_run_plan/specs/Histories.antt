@@ -58,7 +58,7 @@ pub record TellsAll {H : Type 0} (is : KindsOf H) (asked : Asked) (heads : List 
 -- events before it, from the state before the run on, unchoke its source.
 pub record IsHistoryIn {H : Type 0} (is : KindsOf H) (job : Job) (heads : List H) (bytes : Option (List (List ℕ))) (plan : Plan) (events : List Event) : Type 0 where
   pub legal : IsLegal plan.routes (state_before plan) events
-  pub told : IfSome bytes (λ b. TellsAll is (asked_of job plan.texts plan.made) heads b plan.nodes plan.edges events)
+  pub told : IfSome bytes (λ b. TellsAll is (asked_of job plan.texts plan.made plan.nodes) heads b plan.nodes plan.edges events)
 
 -- that of a run of the plan for these heads
 abbrev pub IsHistoryFor : {H : Type 0} → KindsOf H → Job → List H → Option (List (List ℕ)) → List Event → Type 0

@@ -1,6 +1,6 @@
 -- The kinds of node of a plan: what each is there for, and what of a part is seen from outside.
 use Rattle.std.specs.Prelude.{◌≡◌, ℕ, ◌+◌, ◌<◌, ◌≤◌, nat_eq, Bool, false, List, [], ◌∷◌, filter, length, map, slice_get, Option, None, Some, IfSome, IsSome, Ok}
-use Rattle.std.specs.List.{AllByRecursion, range_with_len}
+use Rattle.std.specs.List.{AllByRecursion, filter_map, range_with_len}
 use Rattle.ff_time.specs.declared.cut.TimeCut.{TimeCut}
 use Rattle.ff_trim.specs.declared.counted.OutputCut.{OutputCut}
 use Rattle.ff_frame.specs.declared.head.StreamHead.{StreamHead}
@@ -26,14 +26,14 @@ use Rattle.ff_run_plan.specs.declared.kinds.Ends.TheVariants as ends
 
 -- of heads H of inputs
 pub record KindsOf (H : Type 0) : Type 1 where
-  -- what is true of every head that is read, and what it tells of its one stream
+  -- what is true of every head that is read, and the heads of the streams that it tells of, by number
   pub IsHead : H → Type 0
-  pub stream : H → StreamHead
+  pub streams : H → List StreamHead
   -- what a plan asks of filters, and what is true of the heads of all frames in it
   pub rules : Rules
   pub IsFrames : StreamHead → Type 0
-  -- what the demuxer of the input of this number with this head and these bytes is there for
-  pub demux_task : ℕ → H → List ℕ → Task
+  -- what the demuxer of the input of this number with this head is there for, where the streams of these numbers are used, by the input's bytes
+  pub demux_task : ℕ → H → List ℕ → List ℕ → Task
   -- what source filters can give, and what the source of this number is there for that gives it
   pub CanMake : Made → Type 0
   pub gen_task : ℕ → Made → Task
@@ -59,6 +59,21 @@ pub record KindsOf (H : Type 0) : Type 1 where
   pub file : OutputJob → List StreamHead → List Flow → Option (List ℕ)
   pub text : OutputJob → List StreamHead → List Flow → List ℕ
   pub events : ℕ → StreamHead → Flow → List Event
+
+-- some numbers rise from one on
+abbrev pub RiseFrom : ℕ → List ℕ → Type 0
+RiseFrom n [] = Unit {0}
+RiseFrom n (m ∷ ms) = (n ≤ m) × RiseFrom (m + 1) ms
+
+-- of an input with these streams those of these numbers are used, one at least
+pub record AreUsed (streams : List StreamHead) (used : List ℕ) : Type 0 where
+  pub some : 1 ≤ length used
+  pub rise : RiseFrom 0 used
+  pub there : AllByRecursion (λ n. n < length streams) used
+
+-- their heads
+abbrev pub used_heads : List StreamHead → List ℕ → List StreamHead
+used_heads streams used = filter_map (λ n. slice_get streams n) used
 
 -- the streams at the first so many inputs
 abbrev pub first_streams : ℕ → List Flow → List Flow

@@ -127,22 +127,22 @@ comes_after (run_fault.TooLarge output) = 2 ^ 32
 
 module _ {H : Type 0} (is : KindsOf H) (job : Job) where
   abbrev pub plan_for : List H → Planned Plan
-  plan_for heads = planned is.rules job (map (λ h. is.stream h ∷ []) heads)
+  plan_for heads = planned is.rules job (map is.streams heads)
 
   abbrev pub refusal_of : Planned Plan → Option PlanError
   refusal_of (Ok plan) = None
   refusal_of (Err refusal) = Some refusal
 
   abbrev pub file_of : Planned Plan → List H → List (List ℕ) → ℕ → Option (List ℕ)
-  file_of (Ok plan) heads bytes o = file_in is (asked_of job plan.texts plan.made) heads bytes plan.nodes plan.edges o
+  file_of (Ok plan) heads bytes o = file_in is (asked_of job plan.texts plan.made plan.nodes) heads bytes plan.nodes plan.edges o
   file_of (Err refusal) heads bytes o = None
 
   abbrev pub text_of : Planned Plan → List H → List (List ℕ) → ℕ → List ℕ
-  text_of (Ok plan) heads bytes o = text_in is (asked_of job plan.texts plan.made) heads bytes plan.nodes plan.edges o
+  text_of (Ok plan) heads bytes o = text_in is (asked_of job plan.texts plan.made plan.nodes) heads bytes plan.nodes plan.edges o
   text_of (Err refusal) heads bytes o = []
 
   abbrev pub BreaksBy : Planned Plan → List H → List (List ℕ) → RunFault → Type 0
-  BreaksBy (Ok plan) heads bytes why = BreaksIn is (asked_of job plan.texts plan.made) heads bytes plan.nodes plan.edges why
+  BreaksBy (Ok plan) heads bytes why = BreaksIn is (asked_of job plan.texts plan.made plan.nodes) heads bytes plan.nodes plan.edges why
   BreaksBy (Err refusal) heads bytes why = ⊥
 
   -- all that contracts see of a run of a job's plan

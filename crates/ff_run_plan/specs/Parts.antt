@@ -15,19 +15,20 @@ use Rattle.ff_plan.specs.declared.planned.PlanNode.{PlanNode}
 use Rattle.ff_plan.specs.declared.planned.PlanNode.TheVariants as node
 use Rattle.ff_files.specs.Works.{AreTold}
 use Rattle.ff_run_plan.specs.Asked.{Asked}
-use Rattle.ff_run_plan.specs.Kinds.{KindsOf, IsEndOf, IsSinkOf}
+use Rattle.ff_run_plan.specs.Kinds.{KindsOf, AreUsed, used_heads, IsEndOf, IsSinkOf}
 use Rattle.ff_stream.specs.edges.Ports.{lanes_into, lanes_out_of}
 use Rattle.ff_run_plan.specs.Tasks.{first_at, cuts_at, task_of}
 
 -- ---- what a part can be made of: a head and the lanes at the ports
 
 module _ {H : Type 0} (is : KindsOf H) where
-  pub record FitsDemux (heads : List H) (ins outs : List Lane) (i : ℕ) : Type 0 where
+  pub record FitsDemux (asked : Asked) (heads : List H) (ins outs : List Lane) (i : ℕ) : Type 0 where
     pub head : H
     pub there : slice_get heads i ≡ Some head
     pub sound : is.IsHead head
     pub ins_are : ins ≡ []
-    pub outs_are : outs ≡ Packets (is.stream head) ∷ []
+    pub used : AreUsed (is.streams head) (asked.used i)
+    pub outs_are : outs ≡ map (λ h. Packets h) (used_heads (is.streams head) (asked.used i))
 
   pub record FitsGen (asked : Asked) (ins outs : List Lane) (i : ℕ) : Type 0 where
     pub made : Made
@@ -78,7 +79,7 @@ module _ {H : Type 0} (is : KindsOf H) where
 
   -- a node with these lanes at its ports
   abbrev pub IsFitting : Asked → List H → List Lane → List Lane → PlanNode → Type 0
-  IsFitting asked heads ins outs (node.Demux i) = FitsDemux heads ins outs i
+  IsFitting asked heads ins outs (node.Demux i) = FitsDemux asked heads ins outs i
   IsFitting asked heads ins outs (node.Gen i) = FitsGen asked ins outs i
   IsFitting asked heads ins outs (node.Dec at) = FitsDec ins outs
   IsFitting asked heads ins outs (node.Graph g) = FitsGraph asked ins outs g
@@ -147,7 +148,7 @@ pub record AllAside {T : Type 0} (all : List T) (places : List (Option T)) : Typ
 -- a source has no inputs, and a demuxer gives packets; a muxer has no outputs
 pub record HasEnds (n : PlanNode) (v : View) : Type 0 where
   pub source : (i : ℕ) → source_in n ≡ Some i → v.in_lanes ≡ []
-  pub packets : (i : ℕ) → n ≡ node.Demux i → (head : StreamHead) × (v.out_lanes ≡ Packets head ∷ [])
+  pub packets : (i : ℕ) → n ≡ node.Demux i → (head : StreamHead) × (more : List Lane) × (v.out_lanes ≡ Packets head ∷ more)
   pub sink : (o : ℕ) → n ≡ node.Mux o → v.out_lanes ≡ []
 
 module _ {H S K : Type 0} (is : KindsOf H) (left named : S → Option (List ℕ)) (failed : S → ℕ) (holds called : K → Option (List ℕ)) (faulted : K → ℕ) where

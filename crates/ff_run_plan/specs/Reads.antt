@@ -101,7 +101,7 @@ pub record AreReadsIn {H : Type 0} (is : KindsOf H) (job : Job) (heads : List H)
     (events : List Event) (reads : List (List ℕ)) : Type 0 where
   pub granted : AreGranted plan.routes.sources events reads
   pub unread : (i : ℕ) → is_read plan.nodes i ≡ false → reads_at reads i ≡ []
-  pub enough : IfSome bytes (λ b. AreEnough is (asked_of job plan.texts plan.made) heads b plan.nodes plan.edges reads)
+  pub enough : IfSome bytes (λ b. AreEnough is (asked_of job plan.texts plan.made plan.nodes) heads b plan.nodes plan.edges reads)
 
 -- those of a run of the plan for these heads
 abbrev pub AreReadsFor : {H : Type 0} → KindsOf H → Job → List H → Option (List (List ℕ)) → List Event → List (List ℕ) → Type 0

@@ -39,9 +39,9 @@ first_head [] = None
 first_head (l ∷ ls) = Some (head_of l)
 
 module _ {H : Type 0} (is : KindsOf H) where
-  abbrev pub demux_by : ℕ → Option H → List ℕ → Task
-  demux_by input None bytes = idle
-  demux_by input (Some head) bytes = is.demux_task input head bytes
+  abbrev pub demux_by : ℕ → Option H → List ℕ → List ℕ → Task
+  demux_by input None used bytes = idle
+  demux_by input (Some head) used bytes = is.demux_task input head used bytes
 
   abbrev pub gen_by : ℕ → Option Made → Task
   gen_by number None = idle
@@ -71,7 +71,7 @@ module _ {H : Type 0} (is : KindsOf H) where
   -- of a node with these lanes at its inputs and at its outputs, where its first output stream has this number, and what it gives to graphs
   -- and outputs has these cuts
   abbrev pub task_of : Asked → List H → List (List ℕ) → ℕ → List OutputCut → List Lane → List Lane → PlanNode → Task
-  task_of asked heads bytes first cuts ins outs (node.Demux i) = demux_by i (slice_get heads i) (slice_index_or bytes i [])
+  task_of asked heads bytes first cuts ins outs (node.Demux i) = demux_by i (slice_get heads i) (asked.used i) (slice_index_or bytes i [])
   task_of asked heads bytes first cuts ins outs (node.Gen i) = gen_by i (asked.made i)
   task_of asked heads bytes first cuts ins outs (node.Dec at) = dec_by (first_head ins) (asked.cut at.input) (length outs)
   task_of asked heads bytes first cuts ins outs (node.Graph g) = graph_by g (asked.text g) (heads_on ins) cuts

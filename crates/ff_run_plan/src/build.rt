@@ -7,16 +7,18 @@ ghost use Rattle.ff_net.specs.Pasts.{start};
 ghost use Rattle.ff_source.specs.declared.made.Made.{Made};
 ghost use Rattle.ff_source.specs.Sources.{head_of as head_of_made};
 ghost use Rattle.ff_words.specs.declared.job.OutputJob.{OutputJob};
+ghost use Rattle.ff_plan.specs.Decoded.{decoded_of};
 ghost use Rattle.ff_plan.specs.declared.planned.PlanNode.TheVariants.{Demux as DemuxNode, Mux as MuxNode};
 ghost use Rattle.ff_run_plan.specs.Asked.{asked_of};
-ghost use Rattle.ff_run_plan.specs.Kinds.{IsNew};
+ghost use Rattle.ff_run_plan.specs.Kinds.{AreUsed, IsNew, used_heads};
 ghost use Rattle.ff_run_plan.specs.Tasks.{first_at, cuts_at};
-ghost use Rattle.ff_run_plan.specs.Parts.{FitsDemux, HaveNumbers, IsFitting, IsAside, IsPart, AreFitting, AreOrdered, AllAside, AreParts};
+ghost use Rattle.ff_run_plan.specs.Parts.{HaveNumbers, IsFitting, IsAside, IsPart, AreFitting, AreOrdered, AllAside, AreParts};
 ghost use Rattle.ff_stream.specs.edges.Ports.{lanes_into as lanes_into_of, lanes_out_of as lanes_out_of_node};
 ghost use Rattle.ff_plan.specs.declared.planned.PlanNode.{PlanNode};
 
 use crate::connecting::connect_all;
 use crate::cuts::{cuts_out_of, input_cut};
+use crate::decoding::decoded_in;
 use crate::graphs::{graph_at, shortest_at};
 use crate::kinds::Kinds;
 use crate::lanes::{head_of, heads_on, lanes_into, lanes_out_of, streams_between};
@@ -41,26 +43,35 @@ pub(crate) struct Places<Src: Drop, Snk: Drop> {
     pub(crate) snks: Vec<Option<Snk>>,
 }
 
-// The demuxer of an input, over the source in its place.
+// The demuxer of an input, of which these nodes decode some streams, over the source in its place.
 fn demuxer_at<
     K: Kinds<Src, Snk, M>,
     Src: Source + Send + Drop,
     Snk: Sink + Send + Drop,
     M: Machine + Send + Drop,
->(alloc: Global, input: u32, heads: &[K::Head], srcs: &mut Vec<Option<Src>>) -> Option<M>
+>(
+    alloc: Global,
+    input: u32,
+    heads: &[K::Head],
+    nodes: &[PlanNode],
+    srcs: &mut Vec<Option<Src>>,
+) -> Option<M>
     requires there { (src : Src) × (slice_get srcs.old.items input ≡ Some (Some src)) }
-    requires fits { (ins outs : List Lane) × FitsDemux K.is heads.now ins outs input }
-    ensures made { IfSome result (λ m. (src : Src) → slice_get srcs.old.items input ≡ Some (Some src) → (ins outs : List Lane) → FitsDemux K.is heads.now ins outs input
-        → IsNew (Some input) ins outs (Src.name src) (Src.faults src) (M.view m)) }
+    requires fits { (head : K.Head) × (slice_get heads.now input ≡ Some head) × K.is.IsHead head × AreUsed (K.is.streams head) (decoded_of nodes.now input) }
+    ensures made { IfSome result (λ m. (src : Src) → slice_get srcs.old.items input ≡ Some (Some src) → (head : K.Head) → slice_get heads.now input ≡ Some head
+        → IsNew (Some input) [] (map (λ h. Packets h) (used_heads (K.is.streams head) (decoded_of nodes.now input))) (Src.name src) (Src.faults src) (M.view m)) }
     ensures starts { IfSome result (λ m. (src : Src) → slice_get srcs.old.items input ≡ Some (Some src) → (head : K.Head) → slice_get heads.now input ≡ Some head
-        → (bytes : List ℕ) → Src.left src ≡ Some bytes → (M.view m).stands (start (K.is.demux_task input head bytes))) }
+        → (bytes : List ℕ) → Src.left src ≡ Some bytes → (M.view m).stands (start (K.is.demux_task input head (decoded_of nodes.now input) bytes))) }
     ensures back { IsNone result → (w : ℕ) → slice_get srcs.new.items w ≡ slice_get srcs.old.items w }
     ensures kept { (w : ℕ) → (w ≡ input → ⊥) → slice_get srcs.new.items w ≡ slice_get srcs.old.items w }
     ensures as_many { length srcs.new.items ≡ length srcs.old.items }
 {
+    let Ok(used) = decoded_in(alloc, nodes, input) else {
+        return None;
+    };
     let place = input as usize;
     let src = take(srcs, place);
-    match K::demuxer(alloc, input, &heads[place], src) {
+    match K::demuxer(alloc, input, &heads[place], &used, src) {
         Ok(part) => Some(part),
         Err(src) => {
             put(srcs, place, src);
@@ -130,6 +141,7 @@ fn part_at<
 >(
     alloc: Global,
     node: PlanNode,
+    nodes: &[PlanNode],
     first: u32,
     cuts: &[OutputCut],
     ins: &[Lane],
@@ -140,14 +152,14 @@ fn part_at<
     made: &[Made],
     places: &mut Places<Src, Snk>,
 ) -> Option<M>
-    requires fits { IsFitting K.is (asked_of job.now texts.now made.now) heads.now ins.now outs.now node }
+    requires fits { IsFitting K.is (asked_of job.now texts.now made.now nodes.now) heads.now ins.now outs.now node }
     requires numbers { (o : ℕ) → node ≡ MuxNode o → first + length ins.now ≤ 2 ^ 32 }
     requires as_many { length cuts.now ≡ length outs.now }
     requires source { (i : ℕ) → node ≡ DemuxNode i → (s : Src) × (slice_get places.old.srcs.items i ≡ Some (Some s)) }
     requires sink { (o : ℕ) → node ≡ MuxNode o → (s : Snk) × (slice_get places.old.snks.items o ≡ Some (Some s)) }
     ensures made { IfSome result (λ m. (srcs : List Src) (snks : List Snk) → ((i : ℕ) → node ≡ DemuxNode i → IsAside srcs places.old.srcs.items i)
         → ((o : ℕ) → node ≡ MuxNode o → IsAside snks places.old.snks.items o)
-        → IsPart K.is Src.left Src.name Src.faults Snk.holds Snk.name Snk.faults (asked_of job.now texts.now made.now) heads.now srcs snks
+        → IsPart K.is Src.left Src.name Src.faults Snk.holds Snk.name Snk.faults (asked_of job.now texts.now made.now nodes.now) heads.now srcs snks
         first cuts.now ins.now outs.now node (M.view m)) }
     ensures srcs_back { IsNone result → (w : ℕ) → slice_get places.new.srcs.items w ≡ slice_get places.old.srcs.items w }
     ensures snks_back { IsNone result → (w : ℕ) → slice_get places.new.snks.items w ≡ slice_get places.old.snks.items w }
@@ -158,7 +170,7 @@ fn part_at<
 {
     match node {
         PlanNode::Demux { input } => {
-            demuxer_at::<K, Src, Snk, M>(alloc, input, heads, &mut places.srcs)
+            demuxer_at::<K, Src, Snk, M>(alloc, input, heads, nodes, &mut places.srcs)
         }
         PlanNode::Gen { source } => {
             let inputs = job.inputs.as_slice().len();
@@ -209,14 +221,14 @@ fn part_of<
     places: &mut Places<Src, Snk>,
 ) -> Option<M>
     requires there { number < length nodes.now }
-    requires fitting { AreFitting K.is (asked_of job.now texts.now made.now) heads.now edges.now nodes.now }
-    requires numbers { HaveNumbers (asked_of job.now texts.now made.now) edges.now nodes.now }
+    requires fitting { AreFitting K.is (asked_of job.now texts.now made.now nodes.now) heads.now edges.now nodes.now }
+    requires numbers { HaveNumbers (asked_of job.now texts.now made.now nodes.now) edges.now nodes.now }
     requires source { (i : ℕ) → slice_get nodes.now number ≡ Some (DemuxNode i) → (s : Src) × (slice_get places.old.srcs.items i ≡ Some (Some s)) }
     requires sink { (o : ℕ) → slice_get nodes.now number ≡ Some (MuxNode o) → (s : Snk) × (slice_get places.old.snks.items o ≡ Some (Some s)) }
     ensures made { IfSome result (λ m. (n : PlanNode) → slice_get nodes.now number ≡ Some n → (srcs : List Src) (snks : List Snk)
         → ((i : ℕ) → n ≡ DemuxNode i → IsAside srcs places.old.srcs.items i) → ((o : ℕ) → n ≡ MuxNode o → IsAside snks places.old.snks.items o)
-        → IsPart K.is Src.left Src.name Src.faults Snk.holds Snk.name Snk.faults (asked_of job.now texts.now made.now) heads.now srcs snks
-        (first_at (asked_of job.now texts.now made.now) nodes.now edges.now number) (cuts_at (asked_of job.now texts.now made.now) nodes.now edges.now number)
+        → IsPart K.is Src.left Src.name Src.faults Snk.holds Snk.name Snk.faults (asked_of job.now texts.now made.now nodes.now) heads.now srcs snks
+        (first_at (asked_of job.now texts.now made.now nodes.now) nodes.now edges.now number) (cuts_at (asked_of job.now texts.now made.now nodes.now) nodes.now edges.now number)
         (lanes_into_of edges.now number) (lanes_out_of_node edges.now number) n (M.view m)) }
     ensures srcs_back { IsNone result → (w : ℕ) → slice_get places.new.srcs.items w ≡ slice_get places.old.srcs.items w }
     ensures snks_back { IsNone result → (w : ℕ) → slice_get places.new.snks.items w ≡ slice_get places.old.snks.items w }
@@ -240,6 +252,7 @@ fn part_of<
     part_at::<K, Src, Snk, M>(
         alloc,
         nodes[number],
+        nodes,
         first,
         &cuts,
         &ins,
@@ -272,16 +285,16 @@ pub(crate) fn build<
     places: &mut Places<Src, Snk>,
 ) -> Result<Vec<M>, Vec<M>>
     requires room { (parts.items ≡ []) × (length nodes.now ≤ vec_capacity parts) }
-    requires fitting { AreFitting K.is (asked_of job.now texts.now made.now) heads.now edges.now nodes.now }
-    requires numbers { HaveNumbers (asked_of job.now texts.now made.now) edges.now nodes.now }
+    requires fitting { AreFitting K.is (asked_of job.now texts.now made.now nodes.now) heads.now edges.now nodes.now }
+    requires numbers { HaveNumbers (asked_of job.now texts.now made.now nodes.now) edges.now nodes.now }
     requires ordered { AreOrdered (length places.old.srcs.items) (length places.old.snks.items) nodes.now }
     requires aside { (srcs : List Src) × (snks : List Snk) × AllAside srcs places.old.srcs.items × AllAside snks places.old.snks.items }
     ensures all { IfOk result (λ parts. length parts.items ≡ length nodes.now) }
     ensures ok { IfOk result (λ parts. (srcs : List Src) (snks : List Snk) → AllAside srcs places.old.srcs.items → AllAside snks places.old.snks.items
-        → AreParts K.is Src.left Src.name Src.faults Snk.holds Snk.name Snk.faults M.view (asked_of job.now texts.now made.now) heads.now edges.now nodes.now srcs snks
+        → AreParts K.is Src.left Src.name Src.faults Snk.holds Snk.name Snk.faults M.view (asked_of job.now texts.now made.now nodes.now) heads.now edges.now nodes.now srcs snks
         parts.items places.new.srcs.items places.new.snks.items) }
     ensures err { IfErr result (λ parts. (srcs : List Src) (snks : List Snk) → AllAside srcs places.old.srcs.items → AllAside snks places.old.snks.items
-        → AreParts K.is Src.left Src.name Src.faults Snk.holds Snk.name Snk.faults M.view (asked_of job.now texts.now made.now) heads.now edges.now nodes.now srcs snks
+        → AreParts K.is Src.left Src.name Src.faults Snk.holds Snk.name Snk.faults M.view (asked_of job.now texts.now made.now nodes.now) heads.now edges.now nodes.now srcs snks
         parts.items places.new.srcs.items places.new.snks.items) }
 {
     for number in 0..nodes.len() {

@@ -18,7 +18,7 @@ ghost use Rattle.ff_source.specs.Sources.{head_of};
 ghost use Rattle.ff_words.specs.declared.job.OutputJob.{OutputJob};
 ghost use Rattle.ff_frame.specs.declared.head.StreamHead.{StreamHead};
 ghost use Rattle.ff_run_plan.specs.Events.{TellOfThemselves};
-ghost use Rattle.ff_run_plan.specs.Kinds.{KindsOf, IsNew, TellsExit, GivesEnds, GraphsAreHad, SourcesAreHad};
+ghost use Rattle.ff_run_plan.specs.Kinds.{KindsOf, AreUsed, used_heads, IsNew, TellsExit, GivesEnds, GraphsAreHad, SourcesAreHad};
 ghost use Rattle.ff_plan.specs.laws.Sound.{HasFewIns, KeepsTaken};
 
 use ff_frame::StreamHead;
@@ -52,9 +52,9 @@ pub trait Kinds<Src: Source + Send + Drop, Snk: Sink + Send + Drop, Part: Machin
     /// All that contracts see of them.
     ghost is: { KindsOf Self.Head };
 
-    /// What a head tells of its one stream.
-    fn stream(head: &Self::Head) -> StreamHead
-        ensures { result ≡ is.stream head.now };
+    /// The heads of the streams that a head tells of, by number.
+    fn streams(alloc: Global, head: &Self::Head) -> Result<Vec<StreamHead>, AllocError>
+        ensures { IfOk result (λ streams. streams.items ≡ is.streams head.now) };
 
     /// The plan of a job with these heads of each of its inputs, or the refusal that comes first. `NoMemory` may come in place of any
     /// answer.
@@ -63,12 +63,20 @@ pub trait Kinds<Src: Source + Send + Drop, Snk: Sink + Send + Drop, Part: Machin
         ensures made { IfOk result (λ p. planned is.rules job.now (lists heads.now) ≡ Ok p) }
         ensures refused { IfErr result (IsRefused (planned is.rules job.now (lists heads.now))) };
 
-    /// Cuts what a source gives into packets; it gives the input of this number from the first byte on. The source comes back
-    /// where memory is refused.
-    fn demuxer(alloc: Global, input: u32, head: &Self::Head, src: Src) -> Result<Part, Src>
-        requires { is.IsHead head.now }
-        ensures new { IfOk result (λ m. IsNew (Some input) [] (Packets (is.stream head.now) ∷ []) (Src.name src) (Src.faults src) (Part.view m)) }
-        ensures starts { IfOk result (λ m. (bytes : List ℕ) → Src.left src ≡ Some bytes → (Part.view m).stands (start (is.demux_task input head.now bytes))) }
+    /// Cuts what a source gives into packets; it gives the input of this number from the first byte on, of which the streams
+    /// of these numbers are used, each at an output. The source comes back where memory is refused.
+    fn demuxer(
+        alloc: Global,
+        input: u32,
+        head: &Self::Head,
+        used: &[u32],
+        src: Src,
+    ) -> Result<Part, Src>
+        requires head { is.IsHead head.now }
+        requires used { AreUsed (is.streams head.now) used.now }
+        ensures new { IfOk result (λ m. IsNew (Some input) [] (map (λ h. Packets h) (used_heads (is.streams head.now) used.now))
+            (Src.name src) (Src.faults src) (Part.view m)) }
+        ensures starts { IfOk result (λ m. (bytes : List ℕ) → Src.left src ≡ Some bytes → (Part.view m).stands (start (is.demux_task input head.now used.now bytes))) }
         ensures back { IfErr result (λ back. back ≡ src) };
 
     /// Gives the frames of a source filter, the source of this number.
@@ -148,11 +156,11 @@ pub trait Kinds<Src: Source + Send + Drop, Snk: Sink + Send + Drop, Part: Machin
     fn into_ends(part: Part) -> Ends<Src, Snk>
         ensures { GivesEnds is Src.name Src.faults Snk.holds Snk.name Snk.faults (Part.view part) result };
 
-    /// What a head tells of its stream can be decoded,
-    ghost decodes: { (h : Self.Head) → is.IsHead h → is.CanDecode (is.stream h) };
+    /// Each stream that a head tells of can be decoded,
+    ghost decodes: { (h : Self.Head) → is.IsHead h → AllByRecursion is.CanDecode (is.streams h) };
 
     /// and what is true of the heads of frames is true of it.
-    ghost frames: { (h : Self.Head) → is.IsHead h → is.IsFrames (is.stream h) };
+    ghost frames: { (h : Self.Head) → is.IsHead h → AllByRecursion is.IsFrames (is.streams h) };
 
     /// The rules are such as plans ask for,
     ghost ruled: { AreRules is.rules };

@@ -25,6 +25,7 @@
 mod build;
 mod connecting;
 mod cuts;
+mod decoding;
 mod end;
 mod fault;
 mod gather;

@@ -164,8 +164,8 @@ fn build_and_run<
     requires few { (length nodes.now < 2 ^ 16) × (length heads.now < 2 ^ 32) }
     requires size { (1 ≤ size) × (size ≤ 1024) }
     requires fits { AreFit (ports_by edges.now) (length nodes.now) edges.now }
-    requires fitting { AreFitting K.is (asked_of job.now texts.now made.now) heads.now edges.now nodes.now }
-    requires numbers { HaveNumbers (asked_of job.now texts.now made.now) edges.now nodes.now }
+    requires fitting { AreFitting K.is (asked_of job.now texts.now made.now nodes.now) heads.now edges.now nodes.now }
+    requires numbers { HaveNumbers (asked_of job.now texts.now made.now nodes.now) edges.now nodes.now }
     requires ordered { AreOrdered (length places.old.srcs.items) (length places.old.snks.items) nodes.now }
     requires opening { CanBegin opening }
     requires sources { AreBelow opening.routes.sources nodes.now }
@@ -173,7 +173,7 @@ fn build_and_run<
         × (C.claims ≡ true → (bytes : List (List ℕ)) × AreTold Src.left Snk.holds srcs snks bytes) }
     ensures ran { (srcs : List Src) (snks : List Snk) → AllAside srcs places.old.srcs.items → AllAside snks places.old.snks.items
         → (olds : List M) × AreRun K.is Src.left Src.name Src.faults Snk.holds Snk.name Snk.faults M.view
-        (asked_of job.now texts.now made.now) heads.now edges.now nodes.now srcs snks C.claims
+        (asked_of job.now texts.now made.now nodes.now) heads.now edges.now nodes.now srcs snks C.claims
         olds result.machines.items places.new.srcs.items places.new.snks.items result.fault
         × IfSome result.log (λ log. AreScheduled M.view edges.now C.claims olds result.machines.items opening.routes opening.state result.fault log.history)
         × AreSufficient M.view edges.now C.claims olds result.machines.items result.fault }
@@ -250,19 +250,19 @@ pub(crate) fn run_nodes<
     requires few { (length nodes.now < 2 ^ 16) × (length heads.now < 2 ^ 32) }
     requires size { (1 ≤ size) × (size ≤ 1024) }
     requires fits { AreFit (ports_by edges.now) (length nodes.now) edges.now }
-    requires fitting { AreFitting K.is (asked_of job.now texts.now made.now) heads.now edges.now nodes.now }
-    requires numbers { HaveNumbers (asked_of job.now texts.now made.now) edges.now nodes.now }
+    requires fitting { AreFitting K.is (asked_of job.now texts.now made.now nodes.now) heads.now edges.now nodes.now }
+    requires numbers { HaveNumbers (asked_of job.now texts.now made.now nodes.now) edges.now nodes.now }
     requires ordered { AreOrdered (length srcs.items) (length snks.items) nodes.now }
     requires queue { size ≡ job.now.queue }
     requires opening { CanBegin opening }
     requires sources { AreBelow opening.routes.sources nodes.now }
     requires told { C.claims ≡ tell_all Src.left Snk.holds srcs.items snks.items }
     ensures done { IsDone K.is Src.left Src.name Src.faults Snk.holds Snk.name Snk.faults M.view
-        (asked_of job.now texts.now made.now) heads.now edges.now nodes.now srcs.items snks.items C.claims
+        (asked_of job.now texts.now made.now nodes.now) heads.now edges.now nodes.now srcs.items snks.items C.claims
         result.end result.srcs.items result.snks.items }
     ensures told { result.end ≡ WorkEnd.Fine → IsSome result.log }
     ensures logged { IfSome result.log (λ log. IsLogOf K.is Src.left Src.name Src.faults Snk.holds Snk.name Snk.faults M.view
-        (asked_of job.now texts.now made.now) heads.now edges.now nodes.now
+        (asked_of job.now texts.now made.now nodes.now) heads.now edges.now nodes.now
         srcs.items snks.items C.claims opening.routes opening.state result.end result.srcs.items result.snks.items log) }
 {
     let mut places = Places {

@@ -30,20 +30,18 @@ use std::marker::Brand;
 use std::sync::Wait;
 use std::thread::Threads;
 
-// The streams of each input: the one of its head.
+// The streams of each input.
 fn streams_of<
     K: Kinds<Src, Snk, M>,
     Src: Source + Send + Drop,
     Snk: Sink + Send + Drop,
     M: Machine + Send + Drop,
 >(alloc: Global, heads: &[K::Head]) -> Result<Vec<Vec<StreamHead>>, AllocError>
-    ensures { IfOk result (λ streams. lists streams.items ≡ map (λ h. K.is.stream h ∷ []) heads.now) }
+    ensures { IfOk result (λ streams. lists streams.items ≡ map K.is.streams heads.now) }
 {
     let mut streams = Vec::new(alloc);
     for k in 0..heads.len() {
-        let mut one = Vec::new(alloc);
-        one.push(K::stream(&heads[k]))?;
-        streams.push(one)?;
+        streams.push(K::streams(alloc, &heads[k])?)?;
     }
     Ok(streams)
 }
@@ -106,7 +104,7 @@ pub fn run_plan<
     ensures ran { RunSays (means_of K.is job.now) Src.left Src.name Src.faults Snk.holds Snk.name Snk.faults
         (IsLogFor K.is job.now heads.now) heads.now srcs.items snks.items result.end result.log result.srcs.items result.snks.items }
     ensures scheduled { IfSome result.log (λ log. IsLogOf K.is Src.left Src.name Src.faults Snk.holds Snk.name Snk.faults M.view
-        (asked_of job.now plan.texts plan.made) heads.now plan.edges plan.nodes
+        (asked_of job.now plan.texts plan.made plan.nodes) heads.now plan.edges plan.nodes
         srcs.items snks.items (tell_all Src.left Snk.holds srcs.items snks.items) plan.routes (state_before plan) result.end result.srcs.items result.snks.items log) }
 {
     let Plan {

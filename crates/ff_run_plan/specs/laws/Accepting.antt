@@ -31,7 +31,7 @@ module _ {H : Type 0} (is : KindsOf H) (job : Job) where
     pub sources : plan.routes.sources ≡ length heads + length plan.made
     pub below : AreBelow plan.routes.sources plan.nodes
     pub fits : AreFit (ports_by plan.edges) (length plan.nodes) plan.edges
-    pub fitting : AreFitting is (asked_of job plan.texts plan.made) heads plan.edges plan.nodes
-    pub numbers : HaveNumbers (asked_of job plan.texts plan.made) plan.edges plan.nodes
+    pub fitting : AreFitting is (asked_of job plan.texts plan.made plan.nodes) heads plan.edges plan.nodes
+    pub numbers : HaveNumbers (asked_of job plan.texts plan.made plan.nodes) plan.edges plan.nodes
     pub ordered : AreOrdered (length heads) (length job.outputs) plan.nodes
     pub muxes : (o : ℕ) → o < length job.outputs → slice_get plan.nodes ((length plan.nodes - length job.outputs) + o) ≡ Some (node.Mux o)

@@ -21,7 +21,7 @@ part_of-requires-clause-source g c κs within = λ i at.
     let parts = c.loop-number.parts.items in
     let count : length parts ≡ c.loop-number.number = sym c.loop-number.parts.ok.0 ∙ was.count in
     let order : AreOrdered (length aside.0) (length aside.1) c.args.nodes.now = subst (λ (n : ℕ). AreOrdered n (length aside.1) c.args.nodes.now) aside.2.count (subst (λ (n : ℕ). AreOrdered (length c.args.places.now.srcs.items) n c.args.nodes.now) aside.3.count c.requires.ordered) in
-    let found = source_there g.K.Kinds.is S.left S.name S.faults K.holds K.name K.faults g.M.Machine.view (asked_of c.args.job.now c.args.texts.now c.args.made.now) c.args.heads.now c.args.edges.now c.args.nodes.now aside.0 aside.1
+    let found = source_there g.K.Kinds.is S.left S.name S.faults K.holds K.name K.faults g.M.Machine.view (asked_of c.args.job.now c.args.texts.now c.args.made.now c.args.nodes.now) c.args.heads.now c.args.edges.now c.args.nodes.now aside.0 aside.1
     parts c.loop-number.places.srcs.items c.loop-number.places.snks.items i order made (subst (λ (n : ℕ). slice_get c.args.nodes.now n ≡ Some (node.Demux i)) (sym count) at) in
     (found.0, found.2)
 
@@ -35,7 +35,7 @@ part_of-requires-clause-sink g c κs within = λ o at.
     let parts = c.loop-number.parts.items in
     let count : length parts ≡ c.loop-number.number = sym c.loop-number.parts.ok.0 ∙ was.count in
     let order : AreOrdered (length aside.0) (length aside.1) c.args.nodes.now = subst (λ (n : ℕ). AreOrdered n (length aside.1) c.args.nodes.now) aside.2.count (subst (λ (n : ℕ). AreOrdered (length c.args.places.now.srcs.items) n c.args.nodes.now) aside.3.count c.requires.ordered) in
-    let found = sink_there g.K.Kinds.is S.left S.name S.faults K.holds K.name K.faults g.M.Machine.view (asked_of c.args.job.now c.args.texts.now c.args.made.now) c.args.heads.now c.args.edges.now c.args.nodes.now aside.0 aside.1
+    let found = sink_there g.K.Kinds.is S.left S.name S.faults K.holds K.name K.faults g.M.Machine.view (asked_of c.args.job.now c.args.texts.now c.args.made.now c.args.nodes.now) c.args.heads.now c.args.edges.now c.args.nodes.now aside.0 aside.1
     parts c.loop-number.places.srcs.items c.loop-number.places.snks.items o order made (subst (λ (n : ℕ). slice_get c.args.nodes.now n ≡ Some (node.Mux o)) (sym count) at) in
     (found.0, found.2)
 
@@ -43,7 +43,7 @@ pub returns-in-None-clause-err : goal.returns-in-None-clause-err
 returns-in-None-clause-err g c = λ srcs snks a b.
     let S = g.Src.Source in
     let K = g.Snk.Sink in
-    same_places g.K.Kinds.is S.left S.name S.faults K.holds K.name K.faults g.M.Machine.view (asked_of c.args.job.now c.args.texts.now c.args.made.now) c.args.heads.now c.args.edges.now c.args.nodes.now srcs snks
+    same_places g.K.Kinds.is S.left S.name S.faults K.holds K.name K.faults g.M.Machine.view (asked_of c.args.job.now c.args.texts.now c.args.made.now c.args.nodes.now) c.args.heads.now c.args.edges.now c.args.nodes.now srcs snks
     c.loop-number.parts.items c.loop-number.places.srcs.items c.part_of.new.places.srcs.items c.loop-number.places.snks.items c.part_of.new.places.snks.items
     (c.in-None.ensures.srcs_back refl) (c.in-None.ensures.snks_back refl) c.part_of.ensures.src_count c.part_of.ensures.snk_count (c.loop-number.invariant.made srcs snks a b)
 
@@ -66,7 +66,7 @@ loop-number-preserved g c =
       made = λ srcs snks a b.
           let is = g.K.Kinds.is in
           let view = g.M.Machine.view in
-          let asked = (asked_of c.args.job.now c.args.texts.now c.args.made.now) in
+          let asked = (asked_of c.args.job.now c.args.texts.now c.args.made.now c.args.nodes.now) in
           let heads = c.args.heads.now in
           let edges = c.args.edges.now in
           let old = c.loop-number.places in

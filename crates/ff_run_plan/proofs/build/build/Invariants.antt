@@ -11,5 +11,5 @@ invariant-loop-number g l = record {
   snk_count : length l.places.snks.items ≡ length l.fn.places.snks.items;
   made : (srcs : List g.row.Src.Denot) (snks : List g.row.Snk.Denot) → AllAside srcs l.fn.places.srcs.items → AllAside snks l.fn.places.snks.items
       → AreParts g.K.Kinds.is g.Src.Source.left g.Src.Source.name g.Src.Source.faults g.Snk.Sink.holds g.Snk.Sink.name g.Snk.Sink.faults g.M.Machine.view
-      (asked_of l.job l.texts l.made) l.heads l.edges l.nodes srcs snks (vec_items l.parts) l.places.srcs.items l.places.snks.items;
+      (asked_of l.job l.texts l.made l.nodes) l.heads l.edges l.nodes srcs snks (vec_items l.parts) l.places.srcs.items l.places.snks.items;
 }

@@ -14,11 +14,19 @@ use Rattle.ff_run_plan.specs.Parts.{FitsDemux, FitsGraph, FitsShortest, FitsMux,
 use Rattle.ff_run_plan.proofs.Making.{if_both, demux_part, graph_part, shortest_part, mux_part}
 use Rattle.ff_run_plan.proofs.build.part_at.Goals as goal
 
+pub demuxer_at-requires-clause-fits : goal.demuxer_at-requires-clause-fits
+demuxer_at-requires-clause-fits g c κs within =
+    let is = g.K.Kinds.is in
+    let asked = asked_of c.args.job.now c.args.texts.now c.args.made.now c.args.nodes.now in
+    let fits : FitsDemux is asked c.args.heads.now c.args.ins.now c.args.outs.now c.in-Demux.input =
+    subst (λ (n : PlanNode). IsFitting is asked c.args.heads.now c.args.ins.now c.args.outs.now n) c.in-Demux.is c.requires.fits in
+    (fits.head, fits.there, fits.sound, fits.used)
+
 pub graph_at-requires-after_bounds : goal.graph_at-requires-after_bounds
 graph_at-requires-after_bounds g c κs within =
     let is = g.K.Kinds.is in
-    let fits : FitsGraph is (asked_of c.args.job.now c.args.texts.now c.args.made.now) c.args.ins.now c.args.outs.now c.in-Graph.graph =
-    subst (λ (n : PlanNode). IsFitting is (asked_of c.args.job.now c.args.texts.now c.args.made.now) c.args.heads.now c.args.ins.now c.args.outs.now n) c.in-Graph.is c.requires.fits in
+    let fits : FitsGraph is (asked_of c.args.job.now c.args.texts.now c.args.made.now c.args.nodes.now) c.args.ins.now c.args.outs.now c.in-Graph.graph =
+    subst (λ (n : PlanNode). IsFitting is (asked_of c.args.job.now c.args.texts.now c.args.made.now c.args.nodes.now) c.args.heads.now c.args.ins.now c.args.outs.now n) c.in-Graph.is c.requires.fits in
     let framed : c.deref.result.now ≡ fits.heads = c.deref.ensures.value ∙ (c.in-Ok.ensures ∙ framed_is c.args.ins.now fits.heads fits.ins_are) in
     let many : length c.args.cuts.now ≡ length fits.made = c.requires.as_many ∙ (ap (λ (ls : List Lane). length ls) fits.outs_are ∙ length-map fits.made (λ (h : StreamHead). Frames h)) in
     (fits.text, fits.there, fits.made, subst (λ (hs : List StreamHead). is.CanFilter fits.text hs fits.made) (sym framed) fits.can, many)
@@ -26,23 +34,23 @@ graph_at-requires-after_bounds g c κs within =
 pub shortest_at-requires-clause-there : goal.shortest_at-requires-clause-there
 shortest_at-requires-clause-there g c κs within =
     let is = g.K.Kinds.is in
-    let fits : FitsShortest is (asked_of c.args.job.now c.args.texts.now c.args.made.now) c.args.ins.now c.args.outs.now c.in-Shortest.output =
-    subst (λ (n : PlanNode). IsFitting is (asked_of c.args.job.now c.args.texts.now c.args.made.now) c.args.heads.now c.args.ins.now c.args.outs.now n) c.in-Shortest.is c.requires.fits in
+    let fits : FitsShortest is (asked_of c.args.job.now c.args.texts.now c.args.made.now c.args.nodes.now) c.args.ins.now c.args.outs.now c.in-Shortest.output =
+    subst (λ (n : PlanNode). IsFitting is (asked_of c.args.job.now c.args.texts.now c.args.made.now c.args.nodes.now) c.args.heads.now c.args.ins.now c.args.outs.now n) c.in-Shortest.is c.requires.fits in
     subst (λ (os : List OutputJob). c.in-Shortest.output < length os) (sym c.as_slice-in-Shortest.ensures) (slice_get_within c.args.job.now.outputs c.in-Shortest.output fits.out fits.there)
 
 pub shortest_at-requires-clause-can : goal.shortest_at-requires-clause-can
 shortest_at-requires-clause-can g c κs within =
     let is = g.K.Kinds.is in
-    let fits : FitsShortest is (asked_of c.args.job.now c.args.texts.now c.args.made.now) c.args.ins.now c.args.outs.now c.in-Shortest.output =
-    subst (λ (n : PlanNode). IsFitting is (asked_of c.args.job.now c.args.texts.now c.args.made.now) c.args.heads.now c.args.ins.now c.args.outs.now n) c.in-Shortest.is c.requires.fits in
+    let fits : FitsShortest is (asked_of c.args.job.now c.args.texts.now c.args.made.now c.args.nodes.now) c.args.ins.now c.args.outs.now c.in-Shortest.output =
+    subst (λ (n : PlanNode). IsFitting is (asked_of c.args.job.now c.args.texts.now c.args.made.now c.args.nodes.now) c.args.heads.now c.args.ins.now c.args.outs.now n) c.in-Shortest.is c.requires.fits in
     let framed : c.deref-in-Shortest.result.now ≡ fits.heads = c.deref-in-Shortest.ensures.value ∙ (c.in-Ok-heads_on.ensures ∙ framed_is c.args.ins.now fits.heads fits.ins_are) in
     subst (λ (hs : List StreamHead). is.CanJoin hs) (sym framed) fits.can
 
 pub muxer_at-requires-clause-fits : goal.muxer_at-requires-clause-fits
 muxer_at-requires-clause-fits g c κs within =
     let is = g.K.Kinds.is in
-    let fits : FitsMux is (asked_of c.args.job.now c.args.texts.now c.args.made.now) c.args.ins.now c.args.outs.now c.in-Mux.output =
-    subst (λ (n : PlanNode). IsFitting is (asked_of c.args.job.now c.args.texts.now c.args.made.now) c.args.heads.now c.args.ins.now c.args.outs.now n) c.in-Mux.is c.requires.fits in
+    let fits : FitsMux is (asked_of c.args.job.now c.args.texts.now c.args.made.now c.args.nodes.now) c.args.ins.now c.args.outs.now c.in-Mux.output =
+    subst (λ (n : PlanNode). IsFitting is (asked_of c.args.job.now c.args.texts.now c.args.made.now c.args.nodes.now) c.args.heads.now c.args.ins.now c.args.outs.now n) c.in-Mux.is c.requires.fits in
     let coded : c.deref-in-Mux.result.now ≡ fits.coded = c.deref-in-Mux.ensures.value ∙ (c.in-Ok-heads_on-2.ensures ∙ coded_is c.args.ins.now fits.coded fits.ins_are) in
     (fits.out, ap (λ (os : List OutputJob). slice_get os c.in-Mux.output) c.as_slice-outputs.ensures ∙ fits.there, subst (λ (hs : List StreamHead). is.CanMux fits.out hs) (sym coded) fits.can)
 
@@ -59,20 +67,20 @@ returns-in-Demux-clause-made g c =
     let S = g.Src.Source in
     let K = g.Snk.Sink in
     let i = c.in-Demux.input in
-    let fits : FitsDemux is c.args.heads.now c.args.ins.now c.args.outs.now i =
-    subst (λ (n : PlanNode). IsFitting is (asked_of c.args.job.now c.args.texts.now c.args.made.now) c.args.heads.now c.args.ins.now c.args.outs.now n) c.in-Demux.is c.requires.fits in
+    let fits : FitsDemux is (asked_of c.args.job.now c.args.texts.now c.args.made.now c.args.nodes.now) c.args.heads.now c.args.ins.now c.args.outs.now i =
+    subst (λ (n : PlanNode). IsFitting is (asked_of c.args.job.now c.args.texts.now c.args.made.now c.args.nodes.now) c.args.heads.now c.args.ins.now c.args.outs.now n) c.in-Demux.is c.requires.fits in
     if_both _ _ _ c.demuxer_at.result c.demuxer_at.ensures.made c.demuxer_at.ensures.starts (λ m new starts srcs snks src_aside snk_aside.
     let aside = src_aside i c.in-Demux.is in
-    subst (λ (n : PlanNode). IsPart is S.left S.name S.faults K.holds K.name K.faults (asked_of c.args.job.now c.args.texts.now c.args.made.now) c.args.heads.now srcs snks c.args.first c.args.cuts.now c.args.ins.now c.args.outs.now n (g.M.Machine.view m)) (sym c.in-Demux.is)
-    (demux_part is S.left S.name S.faults K.holds K.name K.faults (asked_of c.args.job.now c.args.texts.now c.args.made.now) c.args.heads.now srcs snks c.args.first c.args.cuts.now c.args.ins.now c.args.outs.now (g.M.Machine.view m) i fits aside.0 aside.1
-    (new aside.0 aside.2 c.args.ins.now c.args.outs.now fits) (starts aside.0 aside.2)))
+    subst (λ (n : PlanNode). IsPart is S.left S.name S.faults K.holds K.name K.faults (asked_of c.args.job.now c.args.texts.now c.args.made.now c.args.nodes.now) c.args.heads.now srcs snks c.args.first c.args.cuts.now c.args.ins.now c.args.outs.now n (g.M.Machine.view m)) (sym c.in-Demux.is)
+    (demux_part is S.left S.name S.faults K.holds K.name K.faults (asked_of c.args.job.now c.args.texts.now c.args.made.now c.args.nodes.now) c.args.heads.now srcs snks c.args.first c.args.cuts.now c.args.ins.now c.args.outs.now (g.M.Machine.view m) i fits aside.0 aside.1
+    (new aside.0 aside.2 fits.head fits.there) (starts aside.0 aside.2)))
 
 pub returns-in-Ok-clause-made : goal.returns-in-Ok-clause-made
 returns-in-Ok-clause-made g c =
     let is = g.K.Kinds.is in
     let S = g.Src.Source in
     let K = g.Snk.Sink in
-    let asked = asked_of c.args.job.now c.args.texts.now c.args.made.now in
+    let asked = asked_of c.args.job.now c.args.texts.now c.args.made.now c.args.nodes.now in
     let number = c.in-Graph.graph in
     let fits : FitsGraph is asked c.args.ins.now c.args.outs.now number =
     subst (λ (n : PlanNode). IsFitting is asked c.args.heads.now c.args.ins.now c.args.outs.now n) c.in-Graph.is c.requires.fits in
@@ -86,7 +94,7 @@ returns-in-Ok-heads_on-clause-made g c =
     let is = g.K.Kinds.is in
     let S = g.Src.Source in
     let K = g.Snk.Sink in
-    let asked = asked_of c.args.job.now c.args.texts.now c.args.made.now in
+    let asked = asked_of c.args.job.now c.args.texts.now c.args.made.now c.args.nodes.now in
     let o = c.in-Shortest.output in
     let fits : FitsShortest is asked c.args.ins.now c.args.outs.now o =
     subst (λ (n : PlanNode). IsFitting is asked c.args.heads.now c.args.ins.now c.args.outs.now n) c.in-Shortest.is c.requires.fits in
@@ -102,11 +110,11 @@ returns-in-Ok-heads_on-2-clause-made g c =
     let S = g.Src.Source in
     let K = g.Snk.Sink in
     let o = c.in-Mux.output in
-    let fits : FitsMux is (asked_of c.args.job.now c.args.texts.now c.args.made.now) c.args.ins.now c.args.outs.now o =
-    subst (λ (n : PlanNode). IsFitting is (asked_of c.args.job.now c.args.texts.now c.args.made.now) c.args.heads.now c.args.ins.now c.args.outs.now n) c.in-Mux.is c.requires.fits in
+    let fits : FitsMux is (asked_of c.args.job.now c.args.texts.now c.args.made.now c.args.nodes.now) c.args.ins.now c.args.outs.now o =
+    subst (λ (n : PlanNode). IsFitting is (asked_of c.args.job.now c.args.texts.now c.args.made.now c.args.nodes.now) c.args.heads.now c.args.ins.now c.args.outs.now n) c.in-Mux.is c.requires.fits in
     let coded : c.deref-in-Mux.result.now ≡ fits.coded = c.deref-in-Mux.ensures.value ∙ (c.in-Ok-heads_on-2.ensures ∙ coded_is c.args.ins.now fits.coded fits.ins_are) in
     if_both _ _ _ c.muxer_at.result c.muxer_at.ensures.made c.muxer_at.ensures.starts (λ m new starts srcs snks src_aside snk_aside.
     let aside = snk_aside o c.in-Mux.is in
-    subst (λ (n : PlanNode). IsPart is S.left S.name S.faults K.holds K.name K.faults (asked_of c.args.job.now c.args.texts.now c.args.made.now) c.args.heads.now srcs snks c.args.first c.args.cuts.now c.args.ins.now c.args.outs.now n (g.M.Machine.view m)) (sym c.in-Mux.is)
-    (mux_part is S.left S.name S.faults K.holds K.name K.faults (asked_of c.args.job.now c.args.texts.now c.args.made.now) c.args.heads.now srcs snks c.args.first c.args.cuts.now c.args.ins.now c.args.outs.now (g.M.Machine.view m) o fits c.deref-in-Mux.result.now coded aside.0 aside.1
+    subst (λ (n : PlanNode). IsPart is S.left S.name S.faults K.holds K.name K.faults (asked_of c.args.job.now c.args.texts.now c.args.made.now c.args.nodes.now) c.args.heads.now srcs snks c.args.first c.args.cuts.now c.args.ins.now c.args.outs.now n (g.M.Machine.view m)) (sym c.in-Mux.is)
+    (mux_part is S.left S.name S.faults K.holds K.name K.faults (asked_of c.args.job.now c.args.texts.now c.args.made.now c.args.nodes.now) c.args.heads.now srcs snks c.args.first c.args.cuts.now c.args.ins.now c.args.outs.now (g.M.Machine.view m) o fits c.deref-in-Mux.result.now coded aside.0 aside.1
     (new aside.0 aside.2) (λ out there. starts aside.0 aside.2 out (ap (λ (os : List OutputJob). slice_get os o) c.as_slice-outputs.ensures ∙ there))))

@@ -23,8 +23,8 @@ part_at-requires-clause-fits g c κs within =
     let at : slice_get c.args.nodes.now c.args.number ≡ Some x = slice_get-get_or c.args.nodes.now c.args.number (node.Demux 0) c.requires.there in
     let ins : c.deref-2.result.now ≡ lanes_into c.args.edges.now c.args.number = c.deref-2.ensures.value ∙ c.in-Ok.ensures in
     let outs : c.deref-3.result.now ≡ lanes_out_of c.args.edges.now c.args.number = c.deref-3.ensures.value ∙ c.in-Ok-lanes_out_of.ensures in
-    subst (λ (ls : List Lane). IsFitting is (asked_of c.args.job.now c.args.texts.now c.args.made.now) c.args.heads.now ls c.deref-3.result.now x) (sym ins)
-    (subst (λ (ls : List Lane). IsFitting is (asked_of c.args.job.now c.args.texts.now c.args.made.now) c.args.heads.now (lanes_into c.args.edges.now c.args.number) ls x) (sym outs) (c.requires.fitting c.args.number x at))
+    subst (λ (ls : List Lane). IsFitting is (asked_of c.args.job.now c.args.texts.now c.args.made.now c.args.nodes.now) c.args.heads.now ls c.deref-3.result.now x) (sym ins)
+    (subst (λ (ls : List Lane). IsFitting is (asked_of c.args.job.now c.args.texts.now c.args.made.now c.args.nodes.now) c.args.heads.now (lanes_into c.args.edges.now c.args.number) ls x) (sym outs) (c.requires.fitting c.args.number x at))
 
 pub part_at-requires-clause-as_many : goal.part_at-requires-clause-as_many
 part_at-requires-clause-as_many g c κs within =
@@ -57,7 +57,7 @@ returns-clause-made g c =
     let S = g.Src.Source in
     let K = g.Snk.Sink in
     let view = g.M.Machine.view in
-    let asked = (asked_of c.args.job.now c.args.texts.now c.args.made.now) in
+    let asked = (asked_of c.args.job.now c.args.texts.now c.args.made.now c.args.nodes.now) in
     let heads = c.args.heads.now in
     let k = c.args.number in
     let x = slice_index_or c.args.nodes.now k (node.Demux 0) in

@@ -15,7 +15,7 @@ run_parts-requires-clause-fits g c κs within =
     let S = g.Src.Source in
     let K = g.Snk.Sink in
     let aside = c.requires.aside in
-    all_fit g.K.Kinds.is S.left S.name S.faults K.holds K.name K.faults g.M.Machine.view (asked_of c.args.job.now c.args.texts.now c.args.made.now) c.args.heads.now c.args.edges.now c.args.nodes.now aside.0 aside.1 c.in-Ok.parts.items
+    all_fit g.K.Kinds.is S.left S.name S.faults K.holds K.name K.faults g.M.Machine.view (asked_of c.args.job.now c.args.texts.now c.args.made.now c.args.nodes.now) c.args.heads.now c.args.edges.now c.args.nodes.now aside.0 aside.1 c.in-Ok.parts.items
     c.build.new.places.srcs.items c.build.new.places.snks.items (c.in-Ok.ensures.ok aside.0 aside.1 aside.2 aside.3) c.in-Ok.ensures.all c.requires.fits
 
 pub run_parts-requires-clause-start : goal.run_parts-requires-clause-start
@@ -24,8 +24,8 @@ run_parts-requires-clause-start g c κs within = λ vouched.
     let K = g.Snk.Sink in
     let aside = c.requires.aside in
     let told = aside.4 vouched in (
-      task_at g.K.Kinds.is (asked_of c.args.job.now c.args.texts.now c.args.made.now) c.args.heads.now told.0 c.args.nodes.now c.args.edges.now,
-      all_start g.K.Kinds.is S.left S.name S.faults K.holds K.name K.faults g.M.Machine.view (asked_of c.args.job.now c.args.texts.now c.args.made.now) c.args.heads.now c.args.edges.now c.args.nodes.now aside.0 aside.1 c.in-Ok.parts.items
+      task_at g.K.Kinds.is (asked_of c.args.job.now c.args.texts.now c.args.made.now c.args.nodes.now) c.args.heads.now told.0 c.args.nodes.now c.args.edges.now,
+      all_start g.K.Kinds.is S.left S.name S.faults K.holds K.name K.faults g.M.Machine.view (asked_of c.args.job.now c.args.texts.now c.args.made.now c.args.nodes.now) c.args.heads.now c.args.edges.now c.args.nodes.now aside.0 aside.1 c.in-Ok.parts.items
           c.build.new.places.srcs.items c.build.new.places.snks.items (c.in-Ok.ensures.ok aside.0 aside.1 aside.2 aside.3) told.0 told.1,
     )
 
@@ -34,7 +34,7 @@ run_parts-requires-clause-sources g c κs within =
     let S = g.Src.Source in
     let K = g.Snk.Sink in
     let aside = c.requires.aside in
-    are_within g.K.Kinds.is S.left S.name S.faults K.holds K.name K.faults g.M.Machine.view (asked_of c.args.job.now c.args.texts.now c.args.made.now) c.args.heads.now c.args.edges.now c.args.nodes.now aside.0 aside.1 c.in-Ok.parts.items
+    are_within g.K.Kinds.is S.left S.name S.faults K.holds K.name K.faults g.M.Machine.view (asked_of c.args.job.now c.args.texts.now c.args.made.now c.args.nodes.now) c.args.heads.now c.args.edges.now c.args.nodes.now aside.0 aside.1 c.in-Ok.parts.items
     c.build.new.places.srcs.items c.build.new.places.snks.items (c.in-Ok.ensures.ok aside.0 aside.1 aside.2 aside.3) c.args.opening.routes c.requires.sources
 
 pub run_parts-requires-clause-sound : goal.run_parts-requires-clause-sound
@@ -42,7 +42,7 @@ run_parts-requires-clause-sound g c κs within =
     let S = g.Src.Source in
     let K = g.Snk.Sink in
     let aside = c.requires.aside in
-    part_sound g.K.Kinds.is S.left S.name S.faults K.holds K.name K.faults g.M.Machine.view (asked_of c.args.job.now c.args.texts.now c.args.made.now) c.args.heads.now c.args.edges.now c.args.nodes.now aside.0 aside.1 c.in-Ok.parts.items
+    part_sound g.K.Kinds.is S.left S.name S.faults K.holds K.name K.faults g.M.Machine.view (asked_of c.args.job.now c.args.texts.now c.args.made.now c.args.nodes.now) c.args.heads.now c.args.edges.now c.args.nodes.now aside.0 aside.1 c.in-Ok.parts.items
     c.build.new.places.srcs.items c.build.new.places.snks.items (c.in-Ok.ensures.ok aside.0 aside.1 aside.2 aside.3)
 
 pub returns-in-Ok-clause-ran : goal.returns-in-Ok-clause-ran
@@ -50,7 +50,7 @@ returns-in-Ok-clause-ran g c = λ srcs snks a b.
     let S = g.Src.Source in
     let K = g.Snk.Sink in (
       c.in-Ok.parts.items,
-      run_ok g.K.Kinds.is S.left S.name S.faults K.holds K.name K.faults g.M.Machine.view (asked_of c.args.job.now c.args.texts.now c.args.made.now) c.args.heads.now c.args.edges.now c.args.nodes.now srcs snks c.in-Ok.parts.items
+      run_ok g.K.Kinds.is S.left S.name S.faults K.holds K.name K.faults g.M.Machine.view (asked_of c.args.job.now c.args.texts.now c.args.made.now c.args.nodes.now) c.args.heads.now c.args.edges.now c.args.nodes.now srcs snks c.in-Ok.parts.items
           c.build.new.places.srcs.items c.build.new.places.snks.items (c.in-Ok.ensures.ok srcs snks a b) c.in-Ok.ensures.all c.run_parts.result.machines.items c.run_parts.result.fault g.C.Claims.claims
           c.run_parts.ensures.kept c.run_parts.ensures.tells c.run_parts.ensures.solved,
       c.run_parts.ensures.scheduled,
@@ -62,9 +62,9 @@ returns-in-Err-clause-ran g c = λ srcs snks a b.
     let S = g.Src.Source in
     let K = g.Snk.Sink in (
       c.in-Err.parts.items,
-      subst (λ (v : Vec g.row.M.Denot Global). AreRun g.K.Kinds.is S.left S.name S.faults K.holds K.name K.faults g.M.Machine.view (asked_of c.args.job.now c.args.texts.now c.args.made.now) c.args.heads.now c.args.edges.now c.args.nodes.now srcs snks g.C.Claims.claims
+      subst (λ (v : Vec g.row.M.Denot Global). AreRun g.K.Kinds.is S.left S.name S.faults K.holds K.name K.faults g.M.Machine.view (asked_of c.args.job.now c.args.texts.now c.args.made.now c.args.nodes.now) c.args.heads.now c.args.edges.now c.args.nodes.now srcs snks g.C.Claims.claims
           c.in-Err.parts.items v.items c.build.new.places.srcs.items c.build.new.places.snks.items c.unstarted.result.fault) (sym c.unstarted.ensures.machines)
-          (run_err g.K.Kinds.is S.left S.name S.faults K.holds K.name K.faults g.M.Machine.view (asked_of c.args.job.now c.args.texts.now c.args.made.now) c.args.heads.now c.args.edges.now c.args.nodes.now srcs snks c.in-Err.parts.items
+          (run_err g.K.Kinds.is S.left S.name S.faults K.holds K.name K.faults g.M.Machine.view (asked_of c.args.job.now c.args.texts.now c.args.made.now c.args.nodes.now) c.args.heads.now c.args.edges.now c.args.nodes.now srcs snks c.in-Err.parts.items
           c.build.new.places.srcs.items c.build.new.places.snks.items (c.in-Err.ensures.err srcs snks a b) c.unstarted.result.fault g.C.Claims.claims c.unstarted.ensures.fault),
       none_known
           (λ log. AreScheduled g.M.Machine.view c.args.edges.now g.C.Claims.claims c.in-Err.parts.items c.unstarted.result.machines.items c.args.opening.routes c.args.opening.state c.unstarted.result.fault log.history)

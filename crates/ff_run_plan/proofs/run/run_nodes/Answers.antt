@@ -34,7 +34,7 @@ gather-requires-clause-ends g c κs within =
     let K = g.Snk.Sink in
     let places = c.build_and_run-machines.new.places in
     let ran = c.build_and_run-machines.ensures.ran c.args.srcs.items c.args.snks.items (all_aside c.args.srcs.items c.tabled.result.items c.tabled.ensures) (all_aside c.args.snks.items c.tabled-2.result.items c.tabled-2.ensures) in
-    have_ends g.K.Kinds.is S.left S.name S.faults K.holds K.name K.faults g.M.Machine.view (asked_of c.args.job.now c.args.texts.now c.args.made.now) c.args.heads.now c.args.edges.now c.args.nodes.now c.args.srcs.items c.args.snks.items
+    have_ends g.K.Kinds.is S.left S.name S.faults K.holds K.name K.faults g.M.Machine.view (asked_of c.args.job.now c.args.texts.now c.args.made.now c.args.nodes.now) c.args.heads.now c.args.edges.now c.args.nodes.now c.args.srcs.items c.args.snks.items
     ran.0 c.build_and_run-machines.result.machines.items places.srcs.items places.snks.items ran.1.parts ran.1.kept c.requires.fitting
 
 pub gather-requires-clause-ordered : goal.gather-requires-clause-ordered
@@ -52,7 +52,7 @@ listed-requires-clause-full g c =
     let back = c.gather.new.places in
     let gave = c.gather.ensures in
     let ran = c.build_and_run-machines.ensures.ran c.args.srcs.items c.args.snks.items (all_aside c.args.srcs.items c.tabled.result.items c.tabled.ensures) (all_aside c.args.snks.items c.tabled-2.result.items c.tabled-2.ensures) in
-    srcs_full g.K.Kinds.is S.left S.name S.faults K.holds K.name K.faults g.M.Machine.view (asked_of c.args.job.now c.args.texts.now c.args.made.now) c.args.heads.now c.args.edges.now c.args.nodes.now c.args.srcs.items c.args.snks.items
+    srcs_full g.K.Kinds.is S.left S.name S.faults K.holds K.name K.faults g.M.Machine.view (asked_of c.args.job.now c.args.texts.now c.args.made.now c.args.nodes.now) c.args.heads.now c.args.edges.now c.args.nodes.now c.args.srcs.items c.args.snks.items
     ran.0 c.build_and_run-machines.result.machines.items places.srcs.items back.srcs.items places.snks.items back.snks.items ran.1.parts ran.1.kept.count
     gave.sources gave.sinks gave.other_srcs gave.other_snks gave.src_count gave.snk_count
 
@@ -64,7 +64,7 @@ listed-requires-2-clause-full g c =
     let back = c.gather.new.places in
     let gave = c.gather.ensures in
     let ran = c.build_and_run-machines.ensures.ran c.args.srcs.items c.args.snks.items (all_aside c.args.srcs.items c.tabled.result.items c.tabled.ensures) (all_aside c.args.snks.items c.tabled-2.result.items c.tabled-2.ensures) in
-    snks_full g.K.Kinds.is S.left S.name S.faults K.holds K.name K.faults g.M.Machine.view (asked_of c.args.job.now c.args.texts.now c.args.made.now) c.args.heads.now c.args.edges.now c.args.nodes.now c.args.srcs.items c.args.snks.items
+    snks_full g.K.Kinds.is S.left S.name S.faults K.holds K.name K.faults g.M.Machine.view (asked_of c.args.job.now c.args.texts.now c.args.made.now c.args.nodes.now) c.args.heads.now c.args.edges.now c.args.nodes.now c.args.srcs.items c.args.snks.items
     ran.0 c.build_and_run-machines.result.machines.items places.srcs.items back.srcs.items places.snks.items back.snks.items ran.1.parts ran.1.kept.count
     gave.sources gave.sinks gave.other_srcs gave.other_snks gave.src_count gave.snk_count
 
@@ -90,7 +90,7 @@ returns-clause-done g c =
     let view = g.M.Machine.view in
     let S = g.Src.Source in
     let K = g.Snk.Sink in
-    let asked = (asked_of c.args.job.now c.args.texts.now c.args.made.now) in
+    let asked = (asked_of c.args.job.now c.args.texts.now c.args.made.now c.args.nodes.now) in
     let heads = c.args.heads.now in
     let edges = c.args.edges.now in
     let nodes = c.args.nodes.now in
@@ -137,7 +137,7 @@ returns-clause-logged g c =
     if_some_both
     (λ log. AreScheduled view c.args.edges.now claims ran.0 news opening.routes opening.state fault log.history)
     (λ log. places_in log.reads.items ≡ first_reads view opening.routes.sources c.args.nodes.now news log.history)
-    (λ log. IsLogOf g.K.Kinds.is S.left S.name S.faults K.holds K.name K.faults view (asked_of c.args.job.now c.args.texts.now c.args.made.now) c.args.heads.now c.args.edges.now c.args.nodes.now srcs snks claims
+    (λ log. IsLogOf g.K.Kinds.is S.left S.name S.faults K.holds K.name K.faults view (asked_of c.args.job.now c.args.texts.now c.args.made.now c.args.nodes.now) c.args.heads.now c.args.edges.now c.args.nodes.now srcs snks claims
     opening.routes opening.state c.end_with-end.result c.listed.result.items c.listed-2.result.items log)
     c.build_and_run-machines.result.log
     (λ log run reads. record { history = record { done = returns-clause-done g c; run = run }; suffice = ran.3; reads = reads })

@@ -31,12 +31,13 @@ returns-clause-scheduled g c =
     let routes : c.before_run-opening.result.routes ≡ plan.routes = c.before_run-opening.ensures.routes in
     let state = state_is plan c.as_slice-nodes.result.now c.before_run-opening.result.routes c.before_run-opening.result.state c.as_slice-nodes.ensures routes c.before_run-opening.ensures.state in
     if_some_more _
-    (λ log. IsLogOf g.K.Kinds.is S.left S.name S.faults K.holds K.name K.faults g.M.Machine.view (asked_of c.args.job.now plan.texts plan.made) c.args.heads.now plan.edges plan.nodes srcs snks
+    (λ log. IsLogOf g.K.Kinds.is S.left S.name S.faults K.holds K.name K.faults g.M.Machine.view (asked_of c.args.job.now plan.texts plan.made plan.nodes) c.args.heads.now plan.edges plan.nodes srcs snks
     claims plan.routes (state_before plan) end srcs' snks' log)
     c.run_nodes.result.log
-    (λ log h. log_for g.K.Kinds.is S.left S.name S.faults K.holds K.name K.faults g.M.Machine.view (asked_of c.args.job.now c.as_slice-texts.result.now c.as_slice-made.result.now) (asked_of c.args.job.now plan.texts plan.made) c.args.heads.now
+    (λ log h. log_for g.K.Kinds.is S.left S.name S.faults K.holds K.name K.faults g.M.Machine.view (asked_of c.args.job.now c.as_slice-texts.result.now c.as_slice-made.result.now c.as_slice-nodes.result.now) (asked_of c.args.job.now plan.texts plan.made plan.nodes) c.args.heads.now
     c.as_slice-edges.result.now plan.edges c.as_slice-nodes.result.now plan.nodes srcs snks claims c.before_run-opening.result.routes plan.routes
-    c.before_run-opening.result.state (state_before plan) end srcs' snks' log (asked_same c.args.job.now c.as_slice-texts.result.now plan.texts c.as_slice-made.result.now plan.made c.as_slice-texts.ensures c.as_slice-made.ensures) c.as_slice-edges.ensures c.as_slice-nodes.ensures routes state h)
+    c.before_run-opening.result.state (state_before plan) end srcs' snks' log (asked_same c.args.job.now c.as_slice-texts.result.now plan.texts c.as_slice-made.result.now plan.made c.as_slice-nodes.result.now plan.nodes c.as_slice-texts.ensures c.as_slice-made.ensures
+    c.as_slice-nodes.ensures) c.as_slice-edges.ensures c.as_slice-nodes.ensures routes state h)
     c.run_nodes.ensures.logged
 
 pub returns-clause-ran : goal.returns-clause-ran
@@ -53,8 +54,9 @@ returns-clause-ran g c =
     let claims = tell_all S.left K.holds srcs snks in
     let srcs_len : length srcs ≡ length heads = (let t = c.if-len-heads.false in let l = c.len.ensures in let ok = c.args.srcs.ok.0 in omega (arith, t, l, ok)) in
     let snks_len : length snks ≡ length c.as_slice-outputs.result.now = (let t = c.if-len-outputs.false in let l = c.len-else-len-heads.ensures in let ok = c.args.snks.ok.0 in omega (arith, t, l, ok)) in
-    let done = done_for is S.left S.name S.faults K.holds K.name K.faults view (asked_of job c.as_slice-texts.result.now c.as_slice-made.result.now) (asked_of job plan.texts plan.made) heads c.as_slice-edges.result.now plan.edges c.as_slice-nodes.result.now plan.nodes srcs snks claims
-    c.run_nodes.result.end c.run_nodes.result.srcs.items c.run_nodes.result.snks.items (asked_same job c.as_slice-texts.result.now plan.texts c.as_slice-made.result.now plan.made c.as_slice-texts.ensures c.as_slice-made.ensures) c.as_slice-edges.ensures c.as_slice-nodes.ensures c.run_nodes.ensures.done in
+    let done = done_for is S.left S.name S.faults K.holds K.name K.faults view (asked_of job c.as_slice-texts.result.now c.as_slice-made.result.now c.as_slice-nodes.result.now) (asked_of job plan.texts plan.made plan.nodes) heads c.as_slice-edges.result.now plan.edges c.as_slice-nodes.result.now plan.nodes srcs snks claims
+    c.run_nodes.result.end c.run_nodes.result.srcs.items c.run_nodes.result.snks.items (asked_same job c.as_slice-texts.result.now plan.texts c.as_slice-made.result.now plan.made c.as_slice-nodes.result.now plan.nodes c.as_slice-texts.ensures c.as_slice-made.ensures
+    c.as_slice-nodes.ensures) c.as_slice-edges.ensures c.as_slice-nodes.ensures c.run_nodes.ensures.done in
     let end = c.run_nodes.result.end in
     let srcs' = c.run_nodes.result.srcs.items in
     let snks' = c.run_nodes.result.snks.items in
