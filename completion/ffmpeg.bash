@@ -10,7 +10,7 @@ _ffmpeg_words() {
   local video='null trim setpts crop pad hflip vflip fps split hstack vstack concat'
   local audio='anull atrim asetpts asplit concat channelsplit join'
   case ${words[-2]-} in
-    -f) offered='wav au flac yuv4mpegpipe u8 s8 s16le s16be s24le s24be s32le s32be rawvideo framehash framemd5 framecrc hash md5 streamhash crc null' ;;
+    -f) offered='wav au flac yuv4mpegpipe avi u8 s8 s16le s16be s24le s24be s32le s32be rawvideo framehash framemd5 framecrc hash md5 streamhash crc null' ;;
     -c:a | -codec:a | -acodec) offered='pcm_u8 pcm_s16le pcm_s24le pcm_s32le pcm_s8 pcm_s16be pcm_s24be pcm_s32be flac' ;;
     -c:v | -codec:v | -vcodec) offered='rawvideo' ;;
     -hash)

@@ -38,7 +38,7 @@ pub static STATUSES: [&'static str; 10] = [
 pub static PROGRAM: [&'static str; 3] = [
     "zofimanga 0.1.0 for x86-64 Linux: an ffmpeg whose bytes are proved",
     "proved with Rattle, logic dac8208d650f15bf",
-    "profile zofimanga of ffmpeg 7: WAV, AU, YUV4MPEG2, FLAC and digests",
+    "profile zofimanga of ffmpeg 7: WAV, AU, AVI, YUV4MPEG2, FLAC, raw formats and digests",
 ];
 
 fn concern_text(concern: Concern) -> &'static str

@@ -3,6 +3,7 @@ use crate::runs::Runs;
 use crate::table::Stop;
 use crate::told::Told;
 use crate::words::Call;
+use ff_avi::AviHead;
 use ff_flac_dec::FlacHead;
 use ff_frame::{Codec, Format, HeadEnd, StreamHead};
 use ff_lists::front;
@@ -100,6 +101,17 @@ pub fn tell_y4m(told: &mut Told, head: &Y4mHead) {
 /// Tells the head of a FLAC.
 pub fn tell_flac(told: &mut Told, head: &FlacHead) {
     tell_stream(told, &head.head);
+    tell_field(told, " start ", head.start);
+}
+
+/// Tells the head of an AVI.
+pub fn tell_avi(told: &mut Told, head: &AviHead) {
+    told.text("avi ");
+    tell_stream(told, &head.first);
+    if let Some(second) = &head.second {
+        told.text(" ");
+        tell_stream(told, second);
+    }
     tell_field(told, " start ", head.start);
 }
 

@@ -1,5 +1,5 @@
 //! Calls that read heads in the format that is given, or that their first bytes tell.
-use crate::heads::{is_whole, tell_end, tell_flac, tell_pcm, tell_stream, tell_y4m};
+use crate::heads::{is_whole, tell_avi, tell_end, tell_flac, tell_pcm, tell_stream, tell_y4m};
 use crate::runs::Runs;
 use crate::table::Stop;
 use crate::told::Told;
@@ -16,6 +16,7 @@ fn format_at(call: &mut Call, at: usize) -> Option<FileFormat> {
         "au" => Some(FileFormat::Au),
         "y4m" => Some(FileFormat::Y4m),
         "flac" => Some(FileFormat::Flac),
+        "avi" => Some(FileFormat::Avi),
         "framehash" => Some(FileFormat::FrameHash),
         _ => call.read(None),
     }
@@ -23,22 +24,23 @@ fn format_at(call: &mut Call, at: usize) -> Option<FileFormat> {
 
 fn tell_head(told: &mut Told, head: &InputHead) {
     match head {
-        OneOf::First(head) => {
+        OneOf::First(OneOf::First(head)) => {
             told.text("wav ");
             tell_pcm(told, head);
         }
-        OneOf::Other(OneOf::First(head)) => {
+        OneOf::First(OneOf::Other(OneOf::First(head))) => {
             told.text("y4m ");
             tell_y4m(told, head);
         }
-        OneOf::Other(OneOf::Other(OneOf::First(head))) => {
+        OneOf::First(OneOf::Other(OneOf::Other(OneOf::First(head)))) => {
             told.text("flac ");
             tell_flac(told, head);
         }
-        OneOf::Other(OneOf::Other(OneOf::Other(head))) => {
+        OneOf::First(OneOf::Other(OneOf::Other(OneOf::Other(head)))) => {
             told.text("au ");
             tell_pcm(told, head);
         }
+        OneOf::Other(head) => tell_avi(told, head),
     }
 }
 

@@ -9,4 +9,4 @@ pub none_is_empty : NoneIsEmpty
 none_is_empty words files outputs h =
     let job = h.0 in
     let told = h.2.2 in
-    tells_some all_kinds (asked_of job told.0.texts told.0.made) h.2.0 _ told.0.nodes told.0.edges some_events (outputs job h.1) told.2.told
+    tells_some all_kinds (asked_of job told.0.texts told.0.made told.0.nodes) h.2.0 _ told.0.nodes told.0.edges some_events (outputs job h.1) told.2.told

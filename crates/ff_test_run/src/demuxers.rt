@@ -3,7 +3,7 @@ ghost use Rattle.std.specs.Prelude.{◌+◌, ◌<◌, ◌≤◌, ◌^◌, length
 
 use ff_frame::{Bytes, Codec, Event, Pkt, StreamHead, Ticket};
 use ff_host::{FailAt, Failed, Host, HostCall, MemHost, MemSource, Source};
-use ff_input::{AnyCut, read_input_head};
+use ff_input::{OneOf, SingleCut, read_input_head};
 use ff_net::{Fault, Machine};
 use ff_node_demux::{Demux, is_long};
 use ff_stream::Item;
@@ -42,9 +42,12 @@ fn files(alloc: Global) -> Result<Vec<(String, Vec<u8>)>, AllocError> {
 }
 
 // A demuxer of that file, whose calls fail as planned.
-fn demuxer(alloc: Global, plan: Vec<FailAt>) -> Result<Demux<MemSource, AnyCut>, AllocError> {
+fn demuxer(alloc: Global, plan: Vec<FailAt>) -> Result<Demux<MemSource, SingleCut>, AllocError> {
     let mut host = MemHost::new(alloc, files(alloc)?, plan)?;
-    let (Ok(src), Ok(head)) = (host.open_source("in"), read_input_head(None, &HEAD, false)) else {
+    let (Ok(src), Ok(OneOf::First(head))) = (
+        host.open_source("in"),
+        read_input_head(None, &HEAD, false),
+    ) else {
         return Err(AllocError);
     };
     match Demux::new(alloc, 7, src, &head) {
@@ -53,7 +56,7 @@ fn demuxer(alloc: Global, plan: Vec<FailAt>) -> Result<Demux<MemSource, AnyCut>,
     }
 }
 
-fn next<S: Source + Drop>(demux: &mut Demux<S, AnyCut>) -> Given {
+fn next<S: Source + Drop>(demux: &mut Demux<S, SingleCut>) -> Given {
     match demux.pull(0) {
         Ok(Some(Item::Packet(p))) => {
             Given::Packet(p.pts, p.duration, p.pos, p.bytes.as_slice().len())
@@ -70,7 +73,7 @@ const TICKET: Ticket = Ticket {
 };
 
 // What comes with the next ticket, where nothing came before, and there is no room for a second one.
-fn next_allowed<S: Source + Drop>(demux: &mut Demux<S, AnyCut>) -> Given {
+fn next_allowed<S: Source + Drop>(demux: &mut Demux<S, SingleCut>) -> Given {
     let before = next(demux);
     let first = demux.allow(TICKET);
     let second = demux.allow(TICKET);

@@ -15,13 +15,15 @@ use Rattle.ff_node_codec.specs.Decoding.{dec_task}
 use Rattle.ff_node_codec.specs.Encoding.{enc_task}
 use Rattle.ff_graph_links.specs.labels.Clear.{IsClear}
 use Rattle.ff_graph.specs.composed.Cuts.{all_given, graph_outs, graph_task}
+use Rattle.ff_node_avi.specs.Demuxing.{avi_task}
 use Rattle.ff_node_demux.specs.Demuxing.{demux_task}
 use Rattle.ff_node_demux.specs.gens.Generating.{gen_task}
 use Rattle.ff_node_flac.specs.Coding.{CanCode, coded_head, flac_task}
 use Rattle.ff_graph.specs.Configured.{CanBeHad}
 use Rattle.ff_graph.specs.Opens.{open_ins}
 use Rattle.ff_graph.specs.composed.Pads.{HasFilter}
-use Rattle.ff_input.specs.Formats.{InputHead, IsHead, any_cutter, stream_in}
+use Rattle.ff_input.specs.Formats.{InputHead, IsHead, single_cutter, streams_in}
+use Rattle.ff_input.specs.declared.one_of.OneOf.TheVariants.{First, Other}
 use Rattle.ff_lang.specs.declared.graph.Graph.{Graph}
 use Rattle.ff_node_mux.specs.Muxing.{mux_task, unpatched, file, head_bases}
 use Rattle.ff_mux.specs.writers.AnyWriters.{CanWrite, layout_of}
@@ -78,15 +80,20 @@ told_graph g text heads cuts = record (graph_task text heads cuts) { tells = bes
 abbrev pub options_of : OutputJob → OutputOptions
 options_of out = record { hash = out.hash; rf64 = out.rf64 }
 
+-- what a demuxer of an input with this head is there for, where the streams of these numbers are used, by the input's bytes
+abbrev pub demux_task_of : ℕ → InputHead → List ℕ → List ℕ → Task
+demux_task_of input (First head) used bytes = demux_task single_cutter input head bytes
+demux_task_of input (Other head) used bytes = avi_task input head used bytes
+
 -- a demuxer gives an input's packets, a source filter frames, a decoder those of packets, cut, a graph frames of frames, an encoder packets of frames, and a muxer writes
 -- them in the output's format
 abbrev pub all_kinds : KindsOf InputHead
 all_kinds = record {
   IsHead = IsHead;
-  stream = stream_in;
+  streams = streams_in;
   rules = graph_rules;
   IsFrames = IsFitHead;
-  demux_task = demux_task any_cutter;
+  demux_task = demux_task_of;
   CanMake = CanGive;
   gen_task = gen_task;
   CanDecode = CanDecode;

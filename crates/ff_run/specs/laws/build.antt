@@ -6,3 +6,4 @@ pub mod PartViews
 pub mod Sources
 pub mod Takes
 pub mod Throughs
+pub mod Used

@@ -3,9 +3,10 @@ use crate::build::through::Through;
 use ff_frame::{Event, Ticket};
 use ff_graph::GraphMachine;
 use ff_host::{Sink, Source};
-use ff_input::AnyCut;
+use ff_input::SingleCut;
 use ff_mux::AnyWriter;
 use ff_net::{Fault, Machine};
+use ff_node_avi::AviDemux;
 use ff_node_codec::{AnyDecoder, AnyEncoder, Dec, Enc};
 use ff_node_demux::{Demux, Gen};
 use ff_node_filter::{Alone, Leading};
@@ -21,7 +22,9 @@ use std::alloc::AllocError;
 #[derive(Drop)]
 pub enum Part<Src: Source + Drop, Snk: Sink + Drop> {
     /// Gives an input's packets.
-    Demux(Demux<Src, AnyCut>),
+    Demux(Demux<Src, SingleCut>),
+    /// Gives the packets of an AVI's streams, each at an output of its own.
+    Avi(AviDemux<Src>),
     /// Gives the frames of a source filter.
     Gen(Gen<GenSource>),
     /// Decodes packets to frames, and cuts these.
@@ -42,7 +45,8 @@ impl<Src: Source + Drop, Snk: Sink + Drop> Machine for Part<Src, Snk> {
     ghost use Rattle.ff_run.specs.laws.build.PartViews.{part_view};
     ghost use Rattle.ff_run.specs.declared.build.part.Part.TheVariants as part;
     ghost use Rattle.ff_node_codec.specs.laws.codecs.AnyCoders.{any_head, any_frame, any_serves, any_coded, any_packet};
-    ghost use Rattle.ff_input.specs.Formats.{any_owes};
+    ghost use Rattle.ff_input.specs.Formats.{single_owes};
+    ghost use Rattle.ff_node_avi.specs.laws.AviViews.{avi_laws};
     ghost use Rattle.ff_node_demux.specs.laws.DemuxViews.{demux_laws};
     ghost use Rattle.ff_node_demux.specs.laws.gens.GenViews.{gen_laws};
     ghost use Rattle.ff_source.specs.laws.Left.{left as frames_left};
@@ -59,6 +63,7 @@ impl<Src: Source + Drop, Snk: Sink + Drop> Machine for Part<Src, Snk> {
     fn inputs(&self) -> usize {
         match self {
             Part::Demux(m) => m.inputs(),
+            Part::Avi(m) => m.inputs(),
             Part::Gen(m) => m.inputs(),
             Part::Dec(m) => m.inputs(),
             Part::Graph(m) => m.inputs(),
@@ -72,6 +77,7 @@ impl<Src: Source + Drop, Snk: Sink + Drop> Machine for Part<Src, Snk> {
     fn outputs(&self) -> usize {
         match self {
             Part::Demux(m) => m.outputs(),
+            Part::Avi(m) => m.outputs(),
             Part::Gen(m) => m.outputs(),
             Part::Dec(m) => m.outputs(),
             Part::Graph(m) => m.outputs(),
@@ -85,6 +91,7 @@ impl<Src: Source + Drop, Snk: Sink + Drop> Machine for Part<Src, Snk> {
     fn source(&self) -> Option<u32> {
         match self {
             Part::Demux(m) => m.source(),
+            Part::Avi(m) => m.source(),
             Part::Gen(m) => m.source(),
             Part::Dec(m) => m.source(),
             Part::Graph(m) => m.source(),
@@ -98,6 +105,7 @@ impl<Src: Source + Drop, Snk: Sink + Drop> Machine for Part<Src, Snk> {
     fn fault(&self) -> Option<Fault> {
         match self {
             Part::Demux(m) => m.fault(),
+            Part::Avi(m) => m.fault(),
             Part::Gen(m) => m.fault(),
             Part::Dec(m) => m.fault(),
             Part::Graph(m) => m.fault(),
@@ -111,6 +119,7 @@ impl<Src: Source + Drop, Snk: Sink + Drop> Machine for Part<Src, Snk> {
     fn allow(&mut self, ticket: Ticket) -> Option<Ticket> {
         match self {
             Part::Demux(m) => m.allow(ticket),
+            Part::Avi(m) => m.allow(ticket),
             Part::Gen(m) => m.allow(ticket),
             Part::Dec(m) => m.allow(ticket),
             Part::Graph(m) => m.allow(ticket),
@@ -124,6 +133,7 @@ impl<Src: Source + Drop, Snk: Sink + Drop> Machine for Part<Src, Snk> {
     fn feed(&mut self, port: usize, item: Item) -> Result<(), Refused> {
         match self {
             Part::Demux(m) => m.feed(port, item),
+            Part::Avi(m) => m.feed(port, item),
             Part::Gen(m) => m.feed(port, item),
             Part::Dec(m) => m.feed(port, item),
             Part::Graph(m) => m.feed(port, item),
@@ -137,6 +147,7 @@ impl<Src: Source + Drop, Snk: Sink + Drop> Machine for Part<Src, Snk> {
     fn pull(&mut self, port: usize) -> Result<Option<Item>, AllocError> {
         match self {
             Part::Demux(m) => m.pull(port),
+            Part::Avi(m) => m.pull(port),
             Part::Gen(m) => m.pull(port),
             Part::Dec(m) => m.pull(port),
             Part::Graph(m) => m.pull(port),
@@ -150,6 +161,7 @@ impl<Src: Source + Drop, Snk: Sink + Drop> Machine for Part<Src, Snk> {
     fn stop(&mut self, port: usize) {
         match self {
             Part::Demux(m) => m.stop(port),
+            Part::Avi(m) => m.stop(port),
             Part::Gen(m) => m.stop(port),
             Part::Dec(m) => m.stop(port),
             Part::Graph(m) => m.stop(port),
@@ -163,6 +175,7 @@ impl<Src: Source + Drop, Snk: Sink + Drop> Machine for Part<Src, Snk> {
     fn spent(&self, port: usize) -> bool {
         match self {
             Part::Demux(m) => m.spent(port),
+            Part::Avi(m) => m.spent(port),
             Part::Gen(m) => m.spent(port),
             Part::Dec(m) => m.spent(port),
             Part::Graph(m) => m.spent(port),
@@ -176,6 +189,7 @@ impl<Src: Source + Drop, Snk: Sink + Drop> Machine for Part<Src, Snk> {
     fn next_event(&mut self) -> Option<Event> {
         match self {
             Part::Demux(m) => m.next_event(),
+            Part::Avi(m) => m.next_event(),
             Part::Gen(m) => m.next_event(),
             Part::Dec(m) => m.next_event(),
             Part::Graph(m) => m.next_event(),
@@ -189,6 +203,7 @@ impl<Src: Source + Drop, Snk: Sink + Drop> Machine for Part<Src, Snk> {
     fn lacks(&self, port: usize) -> bool {
         match self {
             Part::Demux(m) => m.lacks(port),
+            Part::Avi(m) => m.lacks(port),
             Part::Gen(m) => m.lacks(port),
             Part::Dec(m) => m.lacks(port),
             Part::Graph(m) => m.lacks(port),
@@ -202,6 +217,7 @@ impl<Src: Source + Drop, Snk: Sink + Drop> Machine for Part<Src, Snk> {
     fn defers(&self) -> bool {
         match self {
             Part::Demux(m) => m.defers(),
+            Part::Avi(m) => m.defers(),
             Part::Gen(m) => m.defers(),
             Part::Dec(m) => m.defers(),
             Part::Graph(m) => m.defers(),
@@ -213,7 +229,8 @@ impl<Src: Source + Drop, Snk: Sink + Drop> Machine for Part<Src, Snk> {
     }
 
     ghost laws = { elim [
-      | part.Demux m ↦ demux_laws Src.left Src.name Src.faults any_owes.shaped m m.same_head
+      | part.Demux m ↦ demux_laws Src.left Src.name Src.faults single_owes.shaped m m.same_head
+      | part.Avi m ↦ avi_laws Src.left Src.name Src.faults m
       | part.Gen m ↦ gen_laws frames_left m
       | part.Dec m ↦ dec_laws any_head any_frame m
       | part.Graph m ↦

@@ -9,9 +9,10 @@ use ff_format::OutputOptions;
 use ff_frame::{Codec, Coding, StreamHead};
 use ff_graph::{Refusal, graph_machine};
 use ff_host::{Sink, Source};
-use ff_input::{AnyCut, InputHead};
+use ff_input::{InputHead, OneOf, SingleCut};
 use ff_lang::Graph;
 use ff_mux::writer_of;
+use ff_node_avi::AviDemux;
 use ff_node_codec::{AnyDecoder, Dec, Enc, decoder_of, encoder_of};
 use ff_node_demux::{Demux, generator_of};
 use ff_node_filter::Leading;
@@ -65,7 +66,7 @@ const IN_HAND: usize = 2;
 fn share_frames<Src: Source + Drop>(
     alloc: Global,
     queue: usize,
-    demux: &mut Demux<Src, AnyCut>,
+    demux: &mut Demux<Src, SingleCut>,
     dec: &mut Dec<AnyDecoder>,
 )
     ensures demux { demux.new ≡ demux.old }
@@ -100,8 +101,8 @@ impl<Src: Source + Send + Drop, Snk: Sink + Send + Drop> Kinds<Src, Snk, Part<Sr
 
     ghost is = { all_kinds };
 
-    fn stream(head: &InputHead) -> StreamHead {
-        head.stream()
+    fn streams(alloc: Global, head: &InputHead) -> Result<Vec<StreamHead>, AllocError> {
+        head.streams(alloc)
     }
 
     fn plan(alloc: Global, job: &Job, heads: &[Vec<StreamHead>]) -> Result<Plan, PlanError> {
@@ -112,11 +113,18 @@ impl<Src: Source + Send + Drop, Snk: Sink + Send + Drop> Kinds<Src, Snk, Part<Sr
         alloc: Global,
         input: u32,
         head: &InputHead,
+        used: &[u32],
         src: Src,
     ) -> Result<Part<Src, Snk>, Src> {
-        match Demux::new(alloc, input, src, head) {
-            Ok(demux) => Ok(Part::Demux(demux)),
-            Err(src) => Err(src),
+        match head {
+            OneOf::First(head) => match Demux::new(alloc, input, src, head) {
+                Ok(demux) => Ok(Part::Demux(demux)),
+                Err(src) => Err(src),
+            },
+            OneOf::Other(head) => match AviDemux::new(alloc, input, src, head, used) {
+                Ok(demux) => Ok(Part::Avi(demux)),
+                Err(src) => Err(src),
+            },
         }
     }
 
@@ -214,6 +222,7 @@ impl<Src: Source + Send + Drop, Snk: Sink + Send + Drop> Kinds<Src, Snk, Part<Sr
     fn tried(part: &Part<Src, Snk>) -> u64 {
         match part {
             Part::Demux(m) => m.tried(),
+            Part::Avi(m) => m.tried(),
             Part::Gen(m) => m.tried(),
             Part::Dec(_)
             | Part::Graph(_)
@@ -227,6 +236,7 @@ impl<Src: Source + Send + Drop, Snk: Sink + Send + Drop> Kinds<Src, Snk, Part<Sr
     fn into_ends(part: Part<Src, Snk>) -> Ends<Src, Snk> {
         match part {
             Part::Demux(m) => Ends::Source(m.into_source()),
+            Part::Avi(m) => Ends::Source(m.into_source()),
             Part::Dec(_)
             | Part::Graph(_)
             | Part::Joint(_)

@@ -21,7 +21,9 @@ use Rattle.ff_node_filter.proofs.BestLemmas.Namings.{events_named, events_turn}
 use Rattle.ff_node_sync.specs.JointTask.{joint_task}
 use Rattle.ff_run_plan.specs.Events.{is_among, is_of_streams, ChangeBest, TellOfThemselves}
 use Rattle.ff_words.specs.declared.job.OutputJob.{OutputJob}
-use Rattle.ff_run.specs.build.Parts.{all_kinds, enc_task_to, is_flac_coded}
+use Rattle.ff_input.specs.Formats.{InputHead}
+use Rattle.ff_input.specs.declared.one_of.OneOf.TheVariants.{First, Other}
+use Rattle.ff_run.specs.build.Parts.{all_kinds, demux_task_of, enc_task_to, is_flac_coded}
 
 among : (first count j : ℕ) → first ≤ j → j < first + count → is_among first count j ≡ true
 among first count j low high = grind (arith, nat_tests)
@@ -73,9 +75,14 @@ graph_tells g heads feeds =
 joint_tells : (ends : Bool) (heads : List StreamHead) (feeds : List Feed) → (joint_task ends heads).tells feeds ≡ []
 joint_tells ends heads feeds = refl
 
+-- a demuxer tells that it has exited, of whatever input
+demuxer_tells : (i : ℕ) (head : InputHead) (used bytes : List ℕ) (feeds : List Feed) → (demux_task_of i head used bytes).tells feeds ≡ Exited i ∷ []
+demuxer_tells i (First head) used bytes feeds = refl
+demuxer_tells i (Other head) used bytes feeds = refl
+
 pub parts_tell_of_themselves : TellOfThemselves all_kinds
 parts_tell_of_themselves = record {
-  demuxer = λ i head bytes feeds. refl;
+  demuxer = demuxer_tells;
   generator = λ i made feeds. refl;
   decoder = λ head cut outputs feeds. refl;
   graph = λ g text heads cuts feeds. graph_tells g heads feeds;

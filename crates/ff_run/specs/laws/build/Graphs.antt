@@ -1,5 +1,5 @@
 -- What the rules make of frames can be had as a graph.
-use Rattle.std.specs.Prelude.{◌≡◌, ℕ, zero, suc, ◌≤◌, nat_eq, Bool, true, false, ◌||◌, if◌then◌else◌, List, [], ◌∷◌, length, map, Option, Some, Result, Ok, Err, refl}
+use Rattle.std.specs.Prelude.{◌≡◌, ℕ, zero, suc, ◌≤◌, nat_eq, Bool, true, false, ◌||◌, if◌then◌else◌, List, [], ◌∷◌, length, map, Some, Result, Ok, Err, refl}
 use Rattle.std.proofs.Common.{sym, ap, ◌∙◌, subst, arith}
 use Rattle.std.proofs.lemmas.List.{length-map}
 use Rattle.ff_lang.specs.declared.graph.Graph.{Graph}
@@ -8,7 +8,7 @@ use Rattle.ff_frame.specs.declared.head.StreamHead.TheVariants.{Audio, Video}
 use Rattle.ff_graph.specs.Configured as of_graph
 use Rattle.ff_graph.specs.Drawings.{seen_graph}
 use Rattle.ff_graph.specs.Opens as pads
-use Rattle.ff_graph.specs.composed.Cuts.{all_given, graph_outs, outs_or_none}
+use Rattle.ff_graph.specs.composed.Cuts.{all_given, outs_or_none}
 use Rattle.ff_graph.specs.composed.Pads.{HasChannel, HasFilter, HaveChannels}
 use Rattle.ff_plan_layout.specs.declared.open_pads.OpenOut.{OpenOut}
 use Rattle.ff_plan_layout.specs.declared.open_pads.Refused.{Refused}
@@ -16,7 +16,7 @@ use Rattle.ff_concat.specs.laws.Fed.{TakesZeros}
 use Rattle.ff_filters.specs.limited.Cuts.{AreStreamHeads}
 use Rattle.ff_plan_rules.specs.Kept.{AreFitHeads, IsFitHead}
 use Rattle.ff_plan_rules.proofs.Keeping.{keep_heads}
-use Rattle.ff_plan_rules.specs.Rules.{configured, input_as, output_as, outputs_as, is_empty}
+use Rattle.ff_plan_rules.specs.Rules.{input_as, output_as, outputs_as, is_empty}
 use Rattle.ff_run_plan.specs.Kinds.{GraphsAreHad}
 use Rattle.ff_run.specs.build.Parts.{all_kinds}
 

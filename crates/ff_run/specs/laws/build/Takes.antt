@@ -18,7 +18,8 @@ use Rattle.ff_node_codec.specs.codecs.Choices.{CanDecode, CanDecodeCoded, CanDec
 use Rattle.ff_flac_dec.specs.Streams.{IsFlacHead, stream_of}
 use Rattle.ff_flac_frame.specs.Frame.{IsStream}
 use Rattle.ff_plan_rules.specs.Kept.{IsFitHead}
-use Rattle.ff_input.specs.Formats.{InputHead, IsHead, any_owes, stream_in}
+use Rattle.ff_input.specs.Formats.{InputHead, IsHead, streams_in}
+use Rattle.ff_input.specs.laws.HeadStreams.{head_streams}
 use Rattle.ff_input.specs.laws.Streams.{IsInputStream, IsPictures}
 use Rattle.ff_words.specs.declared.maps.map.Kind.TheVariants as kind
 use Rattle.ff_format.specs.Formats.{taken_by, takes_sound}
@@ -55,8 +56,12 @@ stream_decodes head (inl h) = sound_decodes head h
 stream_decodes head (inr (inl h)) = flac_decodes head h.0 h.1
 stream_decodes head (inr (inr h)) = pictures_decode head h
 
-pub heads_decode : (h : InputHead) → IsHead h → CanDecode (stream_in h)
-heads_decode h is = stream_decodes (stream_in h) (any_owes.streams h is)
+all_streams : (P : StreamHead → Type 0) → ((head : StreamHead) → IsInputStream head → P head) → (heads : List StreamHead) → AllByRecursion IsInputStream heads → AllByRecursion P heads
+all_streams P each [] all = tt
+all_streams P each (head ∷ heads) all = (each head all.0, all_streams P each heads all.1)
+
+pub heads_decode : (h : InputHead) → IsHead h → AllByRecursion CanDecode (streams_in h)
+heads_decode h is = all_streams CanDecode stream_decodes (streams_in h) (head_streams h is)
 
 base_of_rate : (tb : Fraction) (rate : ℕ) → tb ≡ record { num = 1; den = rate } → 1 ≤ rate → rate < 2 ^ 31 → IsBase tb
 base_of_rate tb rate ticks some small = subst IsBase (sym ticks) (IsBase-unit rate (omega (arith, some)) small)
@@ -97,8 +102,8 @@ stream_fits head (inl h) = sound_fits head h
 stream_fits head (inr (inl h)) = flac_fits head h.0 h.1
 stream_fits head (inr (inr h)) = pictures_fit head h
 
-pub heads_fit : (h : InputHead) → IsHead h → IsFitHead (stream_in h)
-heads_fit h is = stream_fits (stream_in h) (any_owes.streams h is)
+pub heads_fit : (h : InputHead) → IsHead h → AllByRecursion IsFitHead (streams_in h)
+heads_fit h is = all_streams IsFitHead stream_fits (streams_in h) (head_streams h is)
 
 -- FLAC is taken with a rate that has 20 bits alone
 flac_rate : (s : SoundTaken) (rate : ℕ) → takes_sound s codec.Flac rate ≡ true → rate < 1048576

@@ -1,3 +1,4 @@
+use Rattle.ff_node_avi.specs.laws.AviDemuxers.{avi_stands}
 use Rattle.ff_node_demux.specs.laws.Demuxers.{demux_stands}
 use Rattle.ff_node_demux.specs.laws.gens.Generators.{gen_stands}
 use Rattle.ff_source.specs.laws.Left.{left as frames_left}
@@ -44,3 +45,13 @@ returns-in-Gen-clause-back g c =
     (λ (p : Part g.row.Src.Denot g.row.Snk.Denot g.Snk.Sink). IfSome c.allow-in-Gen.result (λ t. (t ≡ c.args.ticket) × ((past : Past) → (part_view g.Src.Source.left g.Src.Source.name g.Src.Source.faults p).stands past → gen_stands frames_left c.allow-in-Gen.new.self past)))
     (sym c.in-Gen.is)
     c.allow-in-Gen.ensures.back
+
+pub returns-in-Avi-clause-taken : goal.returns-in-Avi-clause-taken
+returns-in-Avi-clause-taken g c n past s = c.allow-in-Avi.ensures.taken n past (rw c.in-Avi.is at s)
+
+pub returns-in-Avi-clause-back : goal.returns-in-Avi-clause-back
+returns-in-Avi-clause-back g c =
+    subst
+    (λ (p : Part g.row.Src.Denot g.row.Snk.Denot g.Snk.Sink). IfSome c.allow-in-Avi.result (λ t. (t ≡ c.args.ticket) × ((past : Past) → (part_view g.Src.Source.left g.Src.Source.name g.Src.Source.faults p).stands past → avi_stands g.Src.Source.left c.allow-in-Avi.new.self past)))
+    (sym c.in-Avi.is)
+    c.allow-in-Avi.ensures.back

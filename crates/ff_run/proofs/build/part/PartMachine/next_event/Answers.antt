@@ -29,3 +29,9 @@ returns-in-Gen-clause-gives g c e is past s = let h = c.next_event-in-Gen.ensure
 
 pub returns-in-Gen-clause-waits : goal.returns-in-Gen-clause-waits
 returns-in-Gen-clause-waits g c n past s = c.next_event-in-Gen.ensures.waits n past (rw c.in-Gen.is at s)
+
+pub returns-in-Avi-clause-gives : goal.returns-in-Avi-clause-gives
+returns-in-Avi-clause-gives g c e is past s = let h = c.next_event-in-Avi.ensures.gives e is past (rw c.in-Avi.is at s) in (h.0, λ r. h.1 (rw c.in-Avi.is at r))
+
+pub returns-in-Avi-clause-waits : goal.returns-in-Avi-clause-waits
+returns-in-Avi-clause-waits g c n past s = c.next_event-in-Avi.ensures.waits n past (rw c.in-Avi.is at s)

@@ -3,6 +3,7 @@ use Rattle.ff_run.specs.declared.build.part.Part.{Part}
 use Rattle.ff_net.specs.Pasts.{Past}
 use Rattle.std.proofs.Common.{subst, sym}
 use Rattle.std.specs.Result.{OnErr}
+use Rattle.ff_node_avi.specs.laws.AviDemuxers.{avi_stands}
 use Rattle.ff_node_demux.specs.laws.Demuxers.{demux_stands}
 use Rattle.ff_node_demux.specs.laws.gens.Generators.{gen_stands}
 use Rattle.ff_source.specs.laws.Left.{left as frames_left}
@@ -59,3 +60,16 @@ returns-in-Gen-clause-unchanged g c =
     (λ (p : Part g.row.Src.Denot g.row.Snk.Denot g.Snk.Sink). OnErr c.pull-in-Gen.result ((past : Past) → (part_view g.Src.Source.left g.Src.Source.name g.Src.Source.faults p).stands past → gen_stands frames_left c.pull-in-Gen.new.self past))
     (sym c.in-Gen.is)
     c.pull-in-Gen.ensures.unchanged
+
+pub returns-in-Avi-clause-gives : goal.returns-in-Avi-clause-gives
+returns-in-Avi-clause-gives g c x is past s stopped = c.pull-in-Avi.ensures.gives x is past (rw c.in-Avi.is at s) stopped
+
+pub returns-in-Avi-clause-waits : goal.returns-in-Avi-clause-waits
+returns-in-Avi-clause-waits g c w past s out = c.pull-in-Avi.ensures.waits w past (rw c.in-Avi.is at s) out
+
+pub returns-in-Avi-clause-unchanged : goal.returns-in-Avi-clause-unchanged
+returns-in-Avi-clause-unchanged g c =
+    subst
+    (λ (p : Part g.row.Src.Denot g.row.Snk.Denot g.Snk.Sink). OnErr c.pull-in-Avi.result ((past : Past) → (part_view g.Src.Source.left g.Src.Source.name g.Src.Source.faults p).stands past → avi_stands g.Src.Source.left c.pull-in-Avi.new.self past))
+    (sym c.in-Avi.is)
+    c.pull-in-Avi.ensures.unchanged

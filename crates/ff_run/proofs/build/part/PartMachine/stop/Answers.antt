@@ -8,3 +8,6 @@ returns-in-Graph-clause-stopped g c past s = c.stop-in-Graph.ensures.stopped pas
 
 pub returns-in-Gen-clause-stopped : goal.returns-in-Gen-clause-stopped
 returns-in-Gen-clause-stopped g c past s = c.stop-in-Gen.ensures.stopped past (rw c.in-Gen.is at s)
+
+pub returns-in-Avi-clause-stopped : goal.returns-in-Avi-clause-stopped
+returns-in-Avi-clause-stopped g c past s = c.stop-in-Avi.ensures.stopped past (rw c.in-Avi.is at s)

@@ -1,5 +1,4 @@
-use Rattle.std.proofs.Common.{◌≡◌, ◌⊎◌, inl, inr, None, List, map, refl, sym, ap, ◌∙◌}
-use Rattle.ff_stream.specs.declared.item.Lane.{Lane}
+use Rattle.std.proofs.Common.{inl, inr, None, List, map, refl, sym, ap, ◌∙◌}
 use Rattle.ff_stream.specs.declared.item.Lane.TheVariants.{Frames}
 use Rattle.ff_frame.specs.declared.head.StreamHead.{StreamHead}
 use Rattle.ff_graph.specs.composed.Cuts.{graph_outs, graph_task}

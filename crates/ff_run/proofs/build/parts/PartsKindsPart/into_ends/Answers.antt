@@ -1,5 +1,8 @@
-use Rattle.std.specs.Prelude.{◌≡◌, ◌+◌, ◌<◌, ◌≤◌, ℕ, zero, suc, List, [], ◌∷◌, length, Option, IsSome, replicate}
+use Rattle.std.specs.Prelude.{◌≡◌, ◌+◌, ◌<◌, ◌≤◌, ℕ, zero, suc, List, [], ◌∷◌, length, map, Option, None, Some, IsSome, replicate}
 use Rattle.std.proofs.Common.{ap, refl, arith, inl, inr, subst, sym, ◌∙◌}
+use Rattle.ff_avi.specs.laws.Sound.{streams_with}
+use Rattle.ff_node_avi.specs.Demuxing.{heads_of}
+use Rattle.ff_node_avi.specs.declared.ports.AviPorts.{AviPorts}
 use Rattle.ff_node_codec.specs.laws.codecs.AnyCoders.{any_head, any_coded}
 use Rattle.ff_node_flac.specs.Coding.{coded_head}
 use Rattle.ff_stream.specs.declared.item.Lane.{Lane}
@@ -22,6 +25,13 @@ use Rattle.ff_run.proofs.build.parts.PartsKindsPart.into_ends.Goals as goal
 one_lane : (x : Lane) → (x ∷ []) ≡ [] → ⊥
 one_lane x e = cc
 
+some_ports : (ports : AviPorts) → map Packets (heads_of ports) ≡ [] → ⊥
+some_ports ports e = by ports.first ports.second e
+  where
+    by : (first : StreamHead) (second : Option StreamHead) → map Packets (streams_with first second) ≡ [] → ⊥
+    by first None f = cc
+    by first (Some second) f = cc
+
 no_lanes : (heads : List StreamHead) → 1 ≤ length heads → head_lanes heads ≡ [] → ⊥
 no_lanes [] some e = omega (arith, some)
 no_lanes (head ∷ heads) some e = cc
@@ -43,6 +53,14 @@ returns-in-Demux g c =
       record { name = source.name; faults = source.faults },
       one_lane (Packets c.in-Demux.m.head),
     )
+
+pub returns-in-Avi : goal.returns-in-Avi
+returns-in-Avi g c =
+    let S = g.Src.Source in
+    let source = c.into_source-in-Avi.ensures in
+    let GivesSource : Part g.row.Src.Denot g.row.Snk.Denot g.Snk.Sink → Type 0 =
+    λ p. IsEndOf S.name S.faults (part_view S.left S.name S.faults p) c.into_source-in-Avi.result × ((part_view S.left S.name S.faults p).out_lanes ≡ [] → ⊥) in
+    subst GivesSource (sym c.in-Avi.is) (record { name = source.name; faults = source.faults }, some_ports c.in-Avi.m.ports)
 
 pub returns-in-Dec : goal.returns-in-Dec
 returns-in-Dec g c =

@@ -1,0 +1,5 @@
+pub mod DemuxSteps
+pub mod Limits
+pub mod PieceSteps
+pub mod PortedSteps
+pub mod ReadSteps

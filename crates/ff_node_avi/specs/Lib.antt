@@ -1,0 +1,4 @@
+pub mod Demuxing
+pub mod Ported
+pub mod Reading
+pub mod laws

@@ -1,0 +1,9 @@
+pub mod AviDemuxers
+pub mod AviExits
+pub mod AviLaws
+pub mod AviOver
+pub mod AviPorts
+pub mod AviReading
+pub mod AviShapes
+pub mod AviViews
+pub mod PortedLaws
