@@ -1,5 +1,6 @@
 -- What the demuxer of an AVI does at each step.
-use Rattle.std.proofs.Common.{◌≡◌, ◌≢◌, ℕ, zero, suc, ◌+◌, ◌<◌, ◌≤◌, ◌⊎◌, inl, inr, Bool, true, false, cond, List, [], ◌∷◌, ◌++◌, map, length, Option, None, Some, refl, sym, ap, subst, ◌∙◌, arith}
+use Rattle.std.proofs.Common.{◌≡◌, ◌≢◌, ℕ, zero, suc, ◌+◌, ◌<◌, ◌≤◌, ◌⊎◌, inl, inr, Bool, true, false, cond}
+use Rattle.std.proofs.Common.{List, [], ◌∷◌, ◌++◌, map, length, Option, None, Some, refl, sym, ap, subst, ◌∙◌, arith}
 use Rattle.std.specs.Prelude.{slice_get, not}
 use Rattle.std.specs.Option.{option_map}
 use Rattle.std.proofs.lemmas.Option.{slice_get-map}
@@ -13,26 +14,28 @@ use Rattle.ff_stream.specs.Stream.{Mark, still_open, whole, broken, LiesBelow}
 use Rattle.ff_stream.specs.Items.{with_item}
 use Rattle.ff_stream.specs.Ports.{stream_at}
 use Rattle.ff_net.specs.declared.fault.Fault.{Fault}
-use Rattle.ff_net.specs.declared.fault.Fault.TheVariants.{Device, Damaged, TooLong}
+use Rattle.ff_net.specs.declared.fault.Fault.TheVariants.{Device, TooLong}
 use Rattle.ff_net.specs.Ways.{Flow}
 use Rattle.ff_net.specs.Pasts.{Past, Feed, IsIn, start, due, gave_item, was_asked, was_allowed, was_stopped, was_told}
 use Rattle.ff_avi.specs.declared.head.AviHead.{AviHead}
 use Rattle.ff_avi.specs.declared.cut.AviCut.{AviCut}
 use Rattle.ff_avi.specs.laws.Sound.{IsHead}
-use Rattle.ff_avi.specs.laws.Chains.{packets_in, broken_at}
-use Rattle.ff_node_demux.specs.Demuxing.{mark_at, damage_at}
+use Rattle.ff_avi.specs.laws.Chains.{packets_in}
+use Rattle.ff_node_demux.specs.Demuxing.{damage_at}
 use Rattle.ff_node_avi.specs.declared.ports.AviPorts.{AviPorts}
 use Rattle.ff_node_avi.specs.declared.demux.Port.{Port}
 use Rattle.ff_node_avi.specs.declared.demux.AviDemux.{AviDemux}
-use Rattle.ff_node_avi.specs.laws.AviPorts.{port_at, of_two, is_past, is_over}
+use Rattle.ff_node_avi.specs.laws.AviPorts.{port_at, of_two}
 use Rattle.ff_node_avi.specs.laws.AviViews.{avi_view}
 use Rattle.ff_net.specs.laws.Laws.{FaultStep, Rose}
 use Rattle.ff_node_avi.specs.Reading.{Lies, Stays, Reaches, Closes}
 use Rattle.ff_node_avi.specs.Ported.{items_at, waits_at, IsSettled, Gives}
-use Rattle.ff_node_avi.specs.Demuxing.{AreUsed, ports_of, number_of, port_of, placed, chain_of, all_units, passes_at, units_of_file, is_too_long, break_of, mark_of, fault_in, avi_task, Exits, Demuxes, DemuxStands}
+use Rattle.ff_node_avi.specs.Demuxing.{AreUsed, ports_of, number_of, port_of, placed, chain_of, all_units, passes_at}
+use Rattle.ff_node_avi.specs.Demuxing.{units_of_file, is_too_long, break_of, mark_of, fault_in, avi_task, Exits, DemuxStands}
 use Rattle.ff_node_avi.specs.laws.PortedLaws.{ported_settled}
 use Rattle.ff_node_avi.specs.laws.AviLaws.{mark_closes, mark_whole, mark_broken}
-use Rattle.ff_node_avi.proofs.PortedSteps.{other_port, ported_asked, ported_allowed, ported_told, ported_failed, ported_stopped, ported_used, ported_ended, ported_gives, ported_closes, ported_start, Gave}
+use Rattle.ff_node_avi.proofs.PortedSteps.{other_port, ported_asked, ported_allowed, ported_told, ported_failed}
+use Rattle.ff_node_avi.proofs.PortedSteps.{ported_stopped, ported_used, ported_ended, ported_gives, ported_closes, ported_start}
 use Rattle.ff_node_avi.proofs.Limits.{units_get, units_stop, units_all}
 
 -- ---- units of a file
@@ -47,26 +50,32 @@ length_placed ports (x ∷ xs) = ap suc (length_placed ports xs)
 module _ (head : AviHead) (used file : List ℕ) (n : ℕ) (inside : n ≤ length (units_of_file head used file)) where
   unit_at : (stream : ℕ) (p : Pkt) → slice_get (packets_in (chain_of head used file)) n ≡ Some (stream, p)
       → slice_get (all_units head used file) n ≡ Some (port_of (ports_of head used) stream, Packet p)
-  unit_at stream p e = slice_get-map (placed (ports_of head used)) (packets_in (chain_of head used file)) n ∙ ap (λ (x : Option (ℕ × Pkt)). option_map (placed (ports_of head used)) x) e
+  unit_at stream p e =
+      slice_get-map (placed (ports_of head used)) (packets_in (chain_of head used file)) n
+      ∙ ap (λ (x : Option (ℕ × Pkt)). option_map (placed (ports_of head used)) x) e
 
   short_unit : (u : ℕ × Item) → slice_get (all_units head used file) n ≡ Some u → passes_at (ports_of head used) n u ≡ false
       → slice_get (units_of_file head used file) n ≡ Some u
   unfolding units_of_file
-  short_unit u get few = units_get (passes_at (ports_of head used)) 0 (all_units head used file) n u get inside (subst (λ (i : ℕ). passes_at (ports_of head used) i u ≡ false) (from_0 n) few)
+  short_unit u get few = units_get (passes_at (ports_of head used)) 0 (all_units head used file) n u get inside
+      (subst (λ (i : ℕ). passes_at (ports_of head used) i u ≡ false) (from_0 n) few)
 
   long_unit : (u : ℕ × Item) → slice_get (all_units head used file) n ≡ Some u → passes_at (ports_of head used) n u ≡ true
       → (n ≡ length (units_of_file head used file)) × (is_too_long head used file ≡ true)
   unfolding units_of_file is_too_long
-  long_unit u get many = units_stop (passes_at (ports_of head used)) 0 (all_units head used file) n u get inside (subst (λ (i : ℕ). passes_at (ports_of head used) i u ≡ true) (from_0 n) many)
+  long_unit u get many = units_stop (passes_at (ports_of head used)) 0 (all_units head used file) n u get inside
+      (subst (λ (i : ℕ). passes_at (ports_of head used) i u ≡ true) (from_0 n) many)
 
   no_unit : length (packets_in (chain_of head used file)) ≡ n → (n ≡ length (units_of_file head used file)) × (is_too_long head used file ≡ false)
   unfolding units_of_file is_too_long
-  no_unit size = units_all (passes_at (ports_of head used)) 0 (all_units head used file) n (length_placed (ports_of head used) (packets_in (chain_of head used file)) ∙ size) inside
+  no_unit size = units_all (passes_at (ports_of head used)) 0 (all_units head used file) n
+      (length_placed (ports_of head used) (packets_in (chain_of head used file)) ∙ size) inside
 
 -- ---- by other names
 
 -- the flags made plain
-same_gives : (us : List (ℕ × Item)) (m : Mark) (ports n : ℕ) (ended e ticket t : Bool) (waiting w : Option (ℕ × Pkt)) (going closed : ℕ → Bool) (fault f : Option Fault) (past : Past)
+same_gives : (us : List (ℕ × Item)) (m : Mark) (ports n : ℕ) (ended e ticket t : Bool) (waiting w : Option (ℕ × Pkt)) (going closed : ℕ → Bool)
+    (fault f : Option Fault) (past : Past)
     → ended ≡ e → ticket ≡ t → waiting ≡ w → fault ≡ f
     → Gives us m ports n ended ticket waiting going closed fault past → Gives us m ports n e t w going closed f past
 same_gives us m ports n ended e ticket t waiting w going closed fault f past ee et ew ef l =
@@ -75,7 +84,8 @@ same_gives us m ports n ended e ticket t waiting w going closed fault f past ee 
     (subst (λ (b : Bool). Gives us m ports n e b waiting going closed fault past) et
     (subst (λ (b : Bool). Gives us m ports n b ticket waiting going closed fault past) ee l)))
 
-pub flags : (left : Option (List ℕ)) (cut : AviCut) (skip : ℕ) (ports : AviPorts) (given : ℕ) (ended e ticket t : Bool) (waiting w : Option (ℕ × Pkt)) (going closed : ℕ → Bool) (fault f : Option Fault) (past : Past)
+pub flags : (left : Option (List ℕ)) (cut : AviCut) (skip : ℕ) (ports : AviPorts) (given : ℕ) (ended e ticket t : Bool) (waiting w : Option (ℕ × Pkt))
+    (going closed : ℕ → Bool) (fault f : Option Fault) (past : Past)
     → ended ≡ e → ticket ≡ t → waiting ≡ w → fault ≡ f
     → DemuxStands left cut skip ports given ended ticket waiting going closed fault past → DemuxStands left cut skip ports given e t w going closed f past
 flags left cut skip ports given ended e ticket t waiting w going closed fault f past ee et ew ef d =
@@ -104,7 +114,8 @@ module _ (left : Option (List ℕ)) (cut : AviCut) (skip : ℕ) (ports : AviPort
       are_used = s.are_used;
       ports_are = s.ports_are;
       lies = s.lies;
-      gives = ported_asked (units_of_file head used file) (mark_of head used file) (number_of (ports_of head used)) given ended ticket waiting going closed fault past port settled s.gives;
+      gives = ported_asked (units_of_file head used file) (mark_of head used file) (number_of (ports_of head used)) given ended ticket waiting going closed fault past
+          port settled s.gives;
       cause = s.cause;
       faulty = s.faulty;
       sound = s.sound;
@@ -128,7 +139,8 @@ module _ (left : Option (List ℕ)) (cut : AviCut) (skip : ℕ) (ports : AviPort
           are_used = s.are_used;
           ports_are = s.ports_are;
           lies = s.lies;
-          gives = same_gives us m ports' given ended ended true true None waiting going closed fault fault (was_allowed past t) refl refl (sym empty) refl (ported_allowed us m ports' given ended going closed fault past t now);
+          gives = same_gives us m ports' given ended ended true true None waiting going closed fault fault (was_allowed past t) refl refl (sym empty) refl
+              (ported_allowed us m ports' given ended going closed fault past t now);
           cause = s.cause;
           faulty = s.faulty;
           sound = s.sound;
@@ -147,7 +159,8 @@ module _ (left : Option (List ℕ)) (cut : AviCut) (skip : ℕ) (ports : AviPort
       are_used = s.are_used;
       ports_are = s.ports_are;
       lies = s.lies;
-      gives = ported_told (units_of_file head used file) (mark_of head used file) (number_of (ports_of head used)) given ended ticket waiting going closed fault past e s.gives;
+      gives = ported_told (units_of_file head used file) (mark_of head used file) (number_of (ports_of head used)) given ended ticket waiting going closed fault past
+          e s.gives;
       cause = s.cause;
       faulty = s.faulty;
       sound = s.sound;
@@ -169,7 +182,8 @@ module _ (left : Option (List ℕ)) (cut : AviCut) (skip : ℕ) (ports : AviPort
       are_used = s.are_used;
       ports_are = s.ports_are;
       lies = s.lies;
-      gives = ported_stopped (units_of_file head used file) (mark_of head used file) (number_of (ports_of head used)) given ended ticket waiting waiting' going going' closed fault past port out others kept same s.gives;
+      gives = ported_stopped (units_of_file head used file) (mark_of head used file) (number_of (ports_of head used)) given ended ticket waiting waiting' going going'
+          closed fault past port out others kept same s.gives;
       cause = s.cause;
       faulty = s.faulty;
       sound = s.sound;
@@ -182,7 +196,8 @@ module _ (left : Option (List ℕ)) (cut : AviCut) (skip : ℕ) (ports : AviPort
       → port < number_of ports → (IsIn port past.stopped → ⊥) → IsSettled ended ticket waiting closed port
       → DemuxStands left cut skip ports given ended ticket waiting going closed fault past → stream_at past.gave port ≡ stream_at (due past) port
   settled_due ended ticket waiting going closed fault past port lt out settled (head, used, file, s) =
-      ported_settled (units_of_file head used file) (mark_of head used file) (number_of (ports_of head used)) given ended ticket waiting going closed fault past s.gives port
+      ported_settled (units_of_file head used file) (mark_of head used file) (number_of (ports_of head used)) given ended ticket waiting going closed fault past
+      s.gives port
       (s.gives.goes port (there ports head used port s.ports_are lt) out) settled
 
   -- nothing waits at the port, and it has closed where the end was found
@@ -208,7 +223,8 @@ module _ (left : Option (List ℕ)) (cut : AviCut) (skip : ℕ) (ports : AviPort
   avi_unheld ended ticket (Some w) going closed fault past t d = let h = avi_held ended ticket (Some w) going closed fault past w refl d in let e = h.1 in cc (e, t)
 
   -- no ticket is left that could be used, or the source failed
-  pub avi_unticketed : (ended ticket : Bool) (waiting : Option (ℕ × Pkt)) (going closed : ℕ → Bool) (fault : Option Fault) (past : Past) → (fault ≡ None → ended ≡ false → ticket ≡ false)
+  pub avi_unticketed : (ended ticket : Bool) (waiting : Option (ℕ × Pkt)) (going closed : ℕ → Bool) (fault : Option Fault) (past : Past)
+      → (fault ≡ None → ended ≡ false → ticket ≡ false)
       → DemuxStands left cut skip ports given ended ticket waiting going closed fault past → (ended ≡ false → ticket ≡ false) ⊎ (fault ≡ Some Device)
   avi_unticketed ended ticket waiting going closed None past none d = inl (none refl)
   avi_unticketed ended ticket waiting going closed (Some f) past none d = elim (d.3.faulty f refl) [
@@ -224,7 +240,8 @@ module _ (left : Option (List ℕ)) (cut : AviCut) (skip : ℕ) (ports : AviPort
       × LiesBelow (with_item (stream_at past.gave port) x) (stream_at (due past) port)
 
   -- the packet that waits
-  pub avi_gives : (ended ticket : Bool) (waiting after : Option (ℕ × Pkt)) (going closed : ℕ → Bool) (fault : Option Fault) (past : Past) (port : ℕ) (x : Pkt) → waiting ≡ Some (port, x) → after ≡ None
+  pub avi_gives : (ended ticket : Bool) (waiting after : Option (ℕ × Pkt)) (going closed : ℕ → Bool) (fault : Option Fault) (past : Past) (port : ℕ) (x : Pkt)
+      → waiting ≡ Some (port, x) → after ≡ None
       → DemuxStands left cut skip ports given ended ticket waiting going closed fault past
       → IsGiven ended ticket after going closed fault past port (Packet x)
   avi_gives ended ticket waiting after going closed fault past port x full empty (head, used, file, s) =
@@ -243,7 +260,8 @@ module _ (left : Option (List ℕ)) (cut : AviCut) (skip : ℕ) (ports : AviPort
             are_used = s.are_used;
             ports_are = s.ports_are;
             lies = s.lies;
-            gives = same_gives us m ports' given false ended false ticket None after going closed fault fault (gave_item past port (Packet x)) (sym h.1) (sym h.2) (sym empty) refl r.now;
+            gives = same_gives us m ports' given false ended false ticket None after going closed fault fault (gave_item past port (Packet x)) (sym h.1) (sym h.2)
+                (sym empty) refl r.now;
             cause = s.cause;
             faulty = s.faulty;
             sound = s.sound;
@@ -253,13 +271,16 @@ module _ (left : Option (List ℕ)) (cut : AviCut) (skip : ℕ) (ports : AviPort
         r.below,
       )
 
-  mark_ends : (head : AviHead) (used file : List ℕ) (r : Flow) → mark_of head used file ≡ whole → with_item r End ≡ record { items = r.items; mark = mark_of head used file }
+  mark_ends : (head : AviHead) (used file : List ℕ) (r : Flow) → mark_of head used file ≡ whole
+      → with_item r End ≡ record { items = r.items; mark = mark_of head used file }
   mark_ends head used file r e = ap (λ (k : Mark). record { items = r.items; mark = k }) (sym e)
 
-  mark_breaks : (head : AviHead) (used file : List ℕ) (r : Flow) → mark_of head used file ≡ broken → with_item r Broken ≡ record { items = r.items; mark = mark_of head used file }
+  mark_breaks : (head : AviHead) (used file : List ℕ) (r : Flow) → mark_of head used file ≡ broken
+      → with_item r Broken ≡ record { items = r.items; mark = mark_of head used file }
   mark_breaks head used file r e = ap (λ (k : Mark). record { items = r.items; mark = k }) (sym e)
 
-  closes : (ended ticket : Bool) (waiting : Option (ℕ × Pkt)) (going closed closed' : ℕ → Bool) (fault : Option Fault) (past : Past) (port : ℕ) (x : Item) → ended ≡ true → waiting ≡ None
+  closes : (ended ticket : Bool) (waiting : Option (ℕ × Pkt)) (going closed closed' : ℕ → Bool) (fault : Option Fault) (past : Past) (port : ℕ) (x : Item)
+      → ended ≡ true → waiting ≡ None
       → port < number_of ports → (IsIn port past.stopped → ⊥) → closed port ≡ false → closed' port ≡ true → ((q : ℕ) → q ≢ port → closed' q ≡ closed q)
       → (d : DemuxStands left cut skip ports given ended ticket waiting going closed fault past)
       → ((r : Flow) → with_item r x ≡ record { items = r.items; mark = mark_of d.0 d.1 d.2 })
@@ -280,7 +301,8 @@ module _ (left : Option (List ℕ)) (cut : AviCut) (skip : ℕ) (ports : AviPort
             are_used = s.are_used;
             ports_are = s.ports_are;
             lies = s.lies;
-            gives = same_gives us m ports' given true ended ticket ticket None waiting going closed' fault fault (gave_item past port x) (sym at_end) refl (sym empty) refl r.now;
+            gives = same_gives us m ports' given true ended ticket ticket None waiting going closed' fault fault (gave_item past port x) (sym at_end) refl (sym empty)
+                refl r.now;
             cause = s.cause;
             faulty = s.faulty;
             sound = s.sound;
@@ -291,7 +313,8 @@ module _ (left : Option (List ℕ)) (cut : AviCut) (skip : ℕ) (ports : AviPort
       )
 
   -- the end of a port
-  avi_ends : (ended ticket : Bool) (waiting : Option (ℕ × Pkt)) (going closed closed' : ℕ → Bool) (fault : Option Fault) (past : Past) (port : ℕ) → ended ≡ true → waiting ≡ None → fault ≡ None
+  avi_ends : (ended ticket : Bool) (waiting : Option (ℕ × Pkt)) (going closed closed' : ℕ → Bool) (fault : Option Fault) (past : Past) (port : ℕ) → ended ≡ true
+      → waiting ≡ None → fault ≡ None
       → port < number_of ports → (IsIn port past.stopped → ⊥) → closed port ≡ false → closed' port ≡ true → ((q : ℕ) → q ≢ port → closed' q ≡ closed q)
       → DemuxStands left cut skip ports given ended ticket waiting going closed fault past
       → IsGiven ended ticket waiting going closed' fault past port End
@@ -300,7 +323,8 @@ module _ (left : Option (List ℕ)) (cut : AviCut) (skip : ℕ) (ports : AviPort
       (λ r. mark_ends d.0 d.1 d.2 r (mark_whole d.0 d.1 d.2 (d.3.sound none at_end)))
 
   -- the break of a port
-  avi_breaks : (ended ticket : Bool) (waiting : Option (ℕ × Pkt)) (going closed closed' : ℕ → Bool) (fault : Option Fault) (past : Past) (port : ℕ) (f : Fault) → ended ≡ true → waiting ≡ None → fault ≡ Some f
+  avi_breaks : (ended ticket : Bool) (waiting : Option (ℕ × Pkt)) (going closed closed' : ℕ → Bool) (fault : Option Fault) (past : Past) (port : ℕ) (f : Fault)
+      → ended ≡ true → waiting ≡ None → fault ≡ Some f
       → port < number_of ports → (IsIn port past.stopped → ⊥) → closed port ≡ false → closed' port ≡ true → ((q : ℕ) → q ≢ port → closed' q ≡ closed q)
       → DemuxStands left cut skip ports given ended ticket waiting going closed fault past
       → IsGiven ended ticket waiting going closed' fault past port Broken
@@ -310,7 +334,8 @@ module _ (left : Option (List ℕ)) (cut : AviCut) (skip : ℕ) (ports : AviPort
       (λ r. mark_breaks d.0 d.1 d.2 r (mark_broken d.0 d.1 d.2 f cause))
 
   -- what closes a port
-  pub avi_closing : (ended ticket : Bool) (waiting : Option (ℕ × Pkt)) (going closed closed' : ℕ → Bool) (fault : Option Fault) (past : Past) (port : ℕ) (x y : Item) → ended ≡ true → waiting ≡ None
+  pub avi_closing : (ended ticket : Bool) (waiting : Option (ℕ × Pkt)) (going closed closed' : ℕ → Bool) (fault : Option Fault) (past : Past) (port : ℕ) (x y : Item)
+      → ended ≡ true → waiting ≡ None
       → (fault ≡ None → x ≡ End) → ((f : Fault) → fault ≡ Some f → x ≡ Broken) → Some x ≡ Some y
       → port < number_of ports → (IsIn port past.stopped → ⊥) → closed port ≡ false → closed' port ≡ true → ((q : ℕ) → q ≢ port → closed' q ≡ closed q)
       → DemuxStands left cut skip ports given ended ticket waiting going closed fault past
@@ -318,11 +343,13 @@ module _ (left : Option (List ℕ)) (cut : AviCut) (skip : ℕ) (ports : AviPort
   avi_closing ended ticket waiting going closed closed' None past port x y at_end empty ends breaks is lt out unshut now others d =
       let x_is = ends refl in
       let same : End ≡ y = cc (x_is, is) in
-      subst (λ (z : Item). IsGiven ended ticket waiting going closed' None past port z) same (avi_ends ended ticket waiting going closed closed' None past port at_end empty refl lt out unshut now others d)
+      subst (λ (z : Item). IsGiven ended ticket waiting going closed' None past port z) same
+      (avi_ends ended ticket waiting going closed closed' None past port at_end empty refl lt out unshut now others d)
   avi_closing ended ticket waiting going closed closed' (Some f) past port x y at_end empty ends breaks is lt out unshut now others d =
       let x_is = breaks f refl in
       let same : Broken ≡ y = cc (x_is, is) in
-      subst (λ (z : Item). IsGiven ended ticket waiting going closed' (Some f) past port z) same (avi_breaks ended ticket waiting going closed closed' (Some f) past port f at_end empty refl lt out unshut now others d)
+      subst (λ (z : Item). IsGiven ended ticket waiting going closed' (Some f) past port z) same
+      (avi_breaks ended ticket waiting going closed closed' (Some f) past port f at_end empty refl lt out unshut now others d)
 
   -- ---- under a ticket
 
@@ -339,7 +366,8 @@ module _ (left : Option (List ℕ)) (cut : AviCut) (skip : ℕ) (ports : AviPort
       let m = mark_of head used file in
       let ports' = ports_of head used in
       let r = reaches head used file given (s.lies refl) in
-      let few' : passes_at ports' given (port_of ports' stream, Packet p) ≡ false = subst (λ (x : AviPorts). passes_at x given (port_of x stream, Packet p) ≡ false) s.ports_are few in
+      let few' : passes_at ports' given (port_of ports' stream, Packet p) ≡ false = subst (λ (x : AviPorts). passes_at x given (port_of x stream, Packet p) ≡ false)
+      s.ports_are few in
       let get = short_unit head used file given s.gives.in_range (port_of ports' stream, Packet p) (unit_at head used file given s.gives.in_range stream p r.1) few' in
       let waits' : (q : ℕ) → going q ≡ true → waits_at waiting' q ≡ items_at q ((port_of ports' stream, Packet p) ∷ []) =
       subst (λ (x : AviPorts). (q : ℕ) → going q ≡ true → waits_at waiting' q ≡ items_at q ((port_of x stream, Packet p) ∷ [])) s.ports_are waits in (
@@ -375,7 +403,8 @@ module _ (left : Option (List ℕ)) (cut : AviCut) (skip : ℕ) (ports : AviPort
       let m = mark_of head used file in
       let ports' = ports_of head used in
       let r = reaches head used file given (s.lies refl) in
-      let many' : passes_at ports' given (port_of ports' stream, Packet p) ≡ true = subst (λ (x : AviPorts). passes_at x given (port_of x stream, Packet p) ≡ true) s.ports_are many in
+      let many' : passes_at ports' given (port_of ports' stream, Packet p) ≡ true = subst (λ (x : AviPorts). passes_at x given (port_of x stream, Packet p) ≡ true)
+      s.ports_are many in
       let stop = long_unit head used file given s.gives.in_range (port_of ports' stream, Packet p) (unit_at head used file given s.gives.in_range stream p r.1) many' in (
         head,
         used,
@@ -433,7 +462,8 @@ module _ (left : Option (List ℕ)) (cut : AviCut) (skip : ℕ) (ports : AviPort
       are_used = s.are_used;
       ports_are = s.ports_are;
       lies = λ e. stays head used file given (s.lies refl);
-      gives = ported_failed (units_of_file head used file) (mark_of head used file) (number_of (ports_of head used)) given false ticket waiting going closed None Device past s.gives;
+      gives = ported_failed (units_of_file head used file) (mark_of head used file) (number_of (ports_of head used)) given false ticket waiting going closed None
+          Device past s.gives;
       cause = s.cause;
       faulty = λ f e. inl (let same : Device ≡ f = cc in sym same, refl);
       sound = λ e b. cc;
@@ -441,7 +471,8 @@ module _ (left : Option (List ℕ)) (cut : AviCut) (skip : ℕ) (ports : AviPort
   )
 
   -- there was no memory
-  pub avi_kept : (left' : Option (List ℕ)) (cut' : AviCut) (skip' : ℕ) (ended ticket : Bool) (waiting : Option (ℕ × Pkt)) (going closed : ℕ → Bool) (fault : Option Fault) (past : Past)
+  pub avi_kept : (left' : Option (List ℕ)) (cut' : AviCut) (skip' : ℕ) (ended ticket : Bool) (waiting : Option (ℕ × Pkt)) (going closed : ℕ → Bool)
+      (fault : Option Fault) (past : Past)
       → Stays left cut skip left' cut' skip'
       → DemuxStands left cut skip ports given ended ticket waiting going closed fault past
       → DemuxStands left' cut' skip' ports given ended ticket waiting going closed fault past
@@ -475,7 +506,8 @@ avi_start left cut skip input head used file going closed good are lies unshut i
     are_used = are;
     ports_are = refl;
     lies = λ e. lies;
-    gives = ported_start (units_of_file head used file) (mark_of head used file) (number_of (ports_of head used)) (avi_task input head used file) going closed unshut refl refl (mark_closes head used file) inside goes;
+    gives = ported_start (units_of_file head used file) (mark_of head used file) (number_of (ports_of head used)) (avi_task input head used file) going closed unshut
+        refl refl (mark_closes head used file) inside goes;
     cause = refl;
     faulty = λ f e. cc;
     sound = λ e b. cc;
@@ -537,6 +569,14 @@ module _ (input : ℕ) (told : Bool) (past : Past) (x : Exits input told past.ta
   exits_alone n e =
       let same : input ≡ n = cc in
       ap (λ (f : List Feed → List Event). f past.feeds) x.tells_is ∙ ap (λ (i : ℕ). Exited i ∷ []) same
+
+  -- where it told something it told that
+  pub exits_some : past.told ≢ [] → told ≡ true
+  exits_some n = pick told refl
+    where
+      pick : (b : Bool) → told ≡ b → told ≡ true
+      pick true e = e
+      pick false e = absurd (n (x.events_are ∙ ap (λ (b : Bool). cond b (Exited input ∷ []) []) e))
 
   -- it tells it now
   pub exits_now : (e : Event) → told ≡ false → Exited input ≡ e → Exits input true past.task.tells (was_told past e).told

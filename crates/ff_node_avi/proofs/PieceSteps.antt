@@ -40,7 +40,7 @@ consumes_both (Some xs) None c bs ds h k = absurd h
 consumes_both (Some xs) (Some ys) None bs ds h k = absurd k
 consumes_both (Some xs) (Some ys) (Some zs) bs ds h k = h ∙ (ap (λ (ws : List ℕ). bs ++ ws) k ∙ sym (append_assoc bs ds zs))
 
-pub keeps_self : (left : Option (List ℕ)) → Keeps left left
+keeps_self : (left : Option (List ℕ)) → Keeps left left
 keeps_self None = tt
 keeps_self (Some xs) = refl
 
@@ -141,6 +141,12 @@ module _ (old : Option (List ℕ)) (was : AviCut) (skipped n : ℕ) (over : Bool
         },
       )
 
+  -- the cut only passed something over
+  pub reads_same : (left : Option (List ℕ)) (cut cut' : AviCut) (skip given : ℕ) (over' : Bool) → KeepsCut cut cut'
+      → Reads old was skipped n over left cut skip given over'
+      → Reads old was skipped n over left cut' skip given over'
+  reads_same left cut cut' skip given over' keeps r = reads_kept left left cut cut' skip skip given over' (keeps_self left) keeps refl r
+
   -- a piece was read
   pub reads_piece : (left left' : Option (List ℕ)) (cut cut' : AviCut) (skip skip' : ℕ) → IsPart cut
       → FeedsOn piece_size left cut skip left' cut' skip'
@@ -221,8 +227,9 @@ module _ {S : Type 0} (left : S → Option (List ℕ)) where
       → Reads (left old.reader.src) old.reader.cut old.reader.skip old.given old.ended (left new.src) new.cut new.skip (given_after old.given told) old.ended
   avi_used old new answer told going reads same =
       let was = old.reader in
-      subst (λ (b : Bool). Reads (left was.src) was.cut was.skip old.given b (left new.src) new.cut new.skip (given_after old.given told) b) (sym going)
-      (subst (λ (r : Result Told ReadEnd). Reads (left was.src) was.cut was.skip old.given false (left new.src) new.cut new.skip (given_after old.given r) false) same (reads old.given))
+      let R = Reads (left was.src) was.cut was.skip old.given in
+      subst (λ (b : Bool). R b (left new.src) new.cut new.skip (given_after old.given told) b) (sym going)
+      (subst (λ (r : Result Told ReadEnd). R false (left new.src) new.cut new.skip (given_after old.given r) false) same (reads old.given))
 
   -- and nothing more is given behind it
   pub avi_over : (old : AviDemux S) (new : AviReader S) (given : ℕ) (over : Bool)

@@ -162,7 +162,8 @@ module _ (left : Option (List ℕ)) (cut : AviCut) (skip : ℕ) where
   lies_over new broken e keeps all head used file n l =
       let r = rest_is head used file n l in
       subst (λ (xs : List ℕ). (length (packets_in (units head used xs)) ≡ n) × (broken_at (units head used xs) ≡ broken)) r.0
-      (all head used (drop head.start l.read) n (keeps head used (drop head.start l.read) n l.cuts) (drop (head.start - length l.read) l.rest) (λ ended. r.1 (sym e ∙ ended)))
+      (all head used (drop head.start l.read) n (keeps head used (drop head.start l.read) n l.cuts) (drop (head.start - length l.read) l.rest)
+      (λ ended. r.1 (sym e ∙ ended)))
 
 -- what is still to come of an input grows less with each piece
 pub nearer : (old cut new : AviCut) (skip skip' : ℕ) → reach_of cut ≡ reach_of old → has_ended cut ≡ has_ended old → has_ended cut ≡ false

@@ -1,5 +1,4 @@
 pub mod AviDemuxers
-pub mod AviExits
 pub mod AviLaws
 pub mod AviOver
 pub mod AviPorts

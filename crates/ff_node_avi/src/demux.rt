@@ -1,5 +1,6 @@
 //! The demuxer: a machine that gives the packets of an AVI at one or two ports.
-ghost use Rattle.std.specs.Prelude.{◌≡◌, ◌≢◌, ◌+◌, ◌^◌, ◌≤◌, ◌<◌, ◌⊎◌, ℕ, List, Some, None, Ok, Err, true, false, length, OnErr, IfOk, IfErr, IfSome, IsSome, IsNone, OnOk};
+ghost use Rattle.std.specs.Prelude.{◌≡◌, ◌≢◌, ◌+◌, ◌^◌, ◌≤◌, ◌<◌, ◌⊎◌, ℕ, List, [], Some, None, Ok, Err, true, false, length};
+ghost use Rattle.std.specs.Prelude.{OnOk, OnErr, IfOk, IfErr, IfSome, IsSome, IsNone};
 ghost use Rattle.ff_net.specs.declared.fault.Fault.TheVariants.{TooLarge, Device};
 ghost use Rattle.ff_net.specs.declared.fault.Fault.{Fault};
 ghost use Rattle.ff_net.specs.Pasts.{Past};
@@ -87,7 +88,8 @@ impl<S: Source + Drop> AviDemux<S> {
     ghost use Rattle.ff_stream.specs.declared.item.Lane.TheVariants.{Packets};
     ghost use Rattle.ff_node_avi.specs.Demuxing.{AreUsed, avi_task, heads_of, ports_of};
     ghost use Rattle.ff_net.specs.laws.Laws.{FaultStep};
-    ghost use Rattle.ff_node_avi.specs.laws.AviDemuxers.{avi_source, avi_fault, avi_failures, avi_device, avi_out_lanes, avi_stands, KeepsShape, GivesItem, WaitsAt};
+    ghost use Rattle.ff_node_avi.specs.laws.AviDemuxers.{avi_out_lanes, avi_source, avi_fault, avi_failures, avi_device, avi_stands, KeepsShape, GivesItem, WaitsAt};
+    ghost use Rattle.ff_node_avi.specs.laws.AviDemuxers.{avi_has_read, avi_reads_on, avi_reads_nothing};
     ghost use Rattle.ff_node_avi.specs.laws.AviViews.{avi_view};
 
     /// Over a source that gives the input from its first byte on, whose head this is, of which the streams of these numbers
@@ -103,10 +105,11 @@ impl<S: Source + Drop> AviDemux<S> {
         requires used { AreUsed head.now used.now }
         ensures fault { IfOk result (λ m. avi_fault m ≡ None) }
         ensures source { IfOk result (λ m. avi_source m ≡ Some input) }
-        ensures lanes { IfOk result (λ m. avi_out_lanes m ≡ map (λ h. Packets h) (heads_of (ports_of head.now used.now))) }
+        ensures lanes { IfOk result (λ m. avi_out_lanes m ≡ map Packets (heads_of (ports_of head.now used.now))) }
         ensures device { IfOk result (λ m. avi_device S.name m ≡ S.name src) }
         ensures failures { IfOk result (λ m. avi_failures S.faults m ≡ S.faults src) }
         ensures stands { IfOk result (λ m. (file : List ℕ) → S.left src ≡ Some file → avi_stands S.left m (start (avi_task input head.now used.now file))) }
+        ensures unread { IfOk result (λ m. avi_has_read m head.now used.now []) }
         ensures refused { IfErr result (λ s. s ≡ src) }
     {
         let ports = AviPorts::new(head, used);
@@ -159,6 +162,7 @@ impl<S: Source + Drop> AviDemux<S> {
         ensures used { OnOk result (self.new.fault ≡ None → self.new.ended ≡ false → self.new.ticket ≡ false) }
         ensures same { KeepsShape self.old self.new }
         ensures fares { FaultStep (avi_view S.left S.name S.faults self.old) (avi_view S.left S.name S.faults self.new) }
+        ensures reads { avi_reads_on S.left self.old self.new }
     {
         if !self.ticket {
             return Ok(());
@@ -222,7 +226,8 @@ impl<S: Source + Drop> AviDemux<S> {
         ensures gives { (x : Item) → result ≡ Some x → GivesItem S.left self.old self.new port x }
         ensures waits { IsNone result → WaitsAt S.left self.old self.new port }
         ensures same { KeepsShape self.old self.new }
-        ensures reads_nothing { (self.new.reader ≡ self.old.reader) × (self.new.fault ≡ self.old.fault) }
+        ensures reads_nothing { avi_reads_nothing self.old self.new }
+        ensures fault { self.new.fault ≡ self.old.fault }
     {
         if !self.ended {
             return None;
@@ -244,7 +249,8 @@ impl<S: Source + Drop> AviDemux<S> {
         ensures gives { (x : Item) → result ≡ Some x → GivesItem S.left self.old self.new port x }
         ensures waits { IsNone result → WaitsAt S.left self.old self.new port }
         ensures same { KeepsShape self.old self.new }
-        ensures reads_nothing { (self.new.reader ≡ self.old.reader) × (self.new.fault ≡ self.old.fault) }
+        ensures reads_nothing { avi_reads_nothing self.old self.new }
+        ensures fault { self.new.fault ≡ self.old.fault }
     {
         match self.waiting.take() {
             None => self.close(port),
@@ -260,13 +266,16 @@ impl<S: Source + Drop> AviDemux<S> {
 }
 
 impl<S: Source + Drop> AviDemux<S> {
-    ghost use Rattle.std.specs.Prelude.{◌∷◌, []};
+    ghost use Rattle.std.specs.Prelude.{◌∷◌};
     ghost use Rattle.ff_frame.specs.declared.event.Event.TheVariants.{Exited};
+    ghost use Rattle.ff_net.specs.Pasts.{count_of};
     ghost use Rattle.ff_node_avi.specs.laws.AviDemuxers.{avi_source, avi_fault, avi_failures, avi_device, avi_reads, avi_stands};
+    ghost use Rattle.ff_node_avi.specs.laws.AviOver.{IsOver};
 
-    /// Under how many of its tickets, from the first on, it has tried a unit or the end.
+    /// Under how many of its tickets, from the first on, it has tried a unit or the end. That is at most one more than it has units.
     pub fn tried(&self) -> u64
-        ensures { result ≡ avi_reads self.now }
+        ensures reads { result ≡ avi_reads self.now }
+        ensures few { (past : Past) → avi_stands S.left self.now past → result ≤ count_of past.task.source + 1 }
     {
         if self.ended {
             return self.given + 1;
@@ -275,11 +284,14 @@ impl<S: Source + Drop> AviDemux<S> {
     }
 
     /// The source, as it is now. All that there is to tell of it is that it has exited, once nothing more is given.
+    /// That is where there is a fault, or each output was stopped or has closed.
     pub fn into_source(self) -> S
         ensures name { S.name result ≡ avi_device S.name self }
         ensures faults { S.faults result ≡ avi_failures S.faults self }
         ensures exits { (past : Past) (input : ℕ) → avi_stands S.left self past → avi_source self ≡ Some input
             → past.task.tells past.feeds ≡ Exited input ∷ [] }
+        ensures over { (past : Past) → avi_stands S.left self past → past.told ≢ [] → IsOver self.ports (avi_fault self) past }
+        ensures few { (past : Past) → avi_stands S.left self past → avi_reads self ≤ count_of past.task.source + 1 }
     {
         self.reader.src
     }
@@ -294,7 +306,7 @@ impl<S: Source + Drop> Machine for AviDemux<S> {
     ghost use Rattle.ff_net.specs.laws.Laws.{FaultStep, GoesOn, IsReading};
     ghost use Rattle.ff_net.specs.Pasts.{IsIn, gave_item, was_allowed, was_asked, was_stopped, was_told, due};
     ghost use Rattle.ff_net.specs.laws.Views.{IsSameShape};
-    ghost use Rattle.ff_node_avi.specs.laws.AviDemuxers.{avi_source, avi_fault, avi_holds, avi_stands};
+    ghost use Rattle.ff_node_avi.specs.laws.AviDemuxers.{avi_source, avi_fault, avi_holds, avi_stands, avi_reads_on, avi_reads_nothing};
     ghost use Rattle.ff_node_avi.specs.laws.AviViews.{avi_view, avi_laws};
 
     ghost view = { avi_view S.left S.name S.faults };
@@ -322,6 +334,7 @@ impl<S: Source + Drop> Machine for AviDemux<S> {
     fn allow(&mut self, ticket: Ticket) -> Option<Ticket>
         ensures shape { IsSameShape (avi_view S.left S.name S.faults self.old) (avi_view S.left S.name S.faults self.new) }
         ensures fares { FaultStep (avi_view S.left S.name S.faults self.old) (avi_view S.left S.name S.faults self.new) }
+        ensures reads_nothing { avi_reads_nothing self.old self.new }
         ensures taken { IsNone result → (past : Past) → avi_stands S.left self.old past → avi_stands S.left self.new (was_allowed past ticket) }
         ensures held { IsNone result → IsSome (avi_source self.old) × (avi_holds self.old → ⊥) × avi_holds self.new }
         ensures back { IfSome result (λ t. (t ≡ ticket) × ((past : Past) → avi_stands S.left self.old past → avi_stands S.left self.new past)) }
@@ -341,14 +354,18 @@ impl<S: Source + Drop> Machine for AviDemux<S> {
         Err(Refused { item })
     }
 
+    /// It reads only where what it has read holds no packet but those that it used, and then a piece at a time. So after a packet that
+    /// it gave it has read fewer bytes than the last piece, which is no longer than 65,536.
     fn pull(&mut self, port: usize) -> Result<Option<Item>, AllocError>
         requires { port < number_of self.old.ports }
         ensures shape { IsSameShape (avi_view S.left S.name S.faults self.old) (avi_view S.left S.name S.faults self.new) }
         ensures fares { FaultStep (avi_view S.left S.name S.faults self.old) (avi_view S.left S.name S.faults self.new) }
+        ensures reads { avi_reads_on S.left self.old self.new }
         ensures gives { (x : Item) → result ≡ Ok (Some x) → (past : Past) → avi_stands S.left self.old past → (IsIn port past.stopped → ⊥)
             → avi_stands S.left self.new (gave_item past port x) × ((stream_at past.gave port).mark ≡ still_open)
             × LiesBelow (with_item (stream_at past.gave port) x) (stream_at (due past) port) }
-        ensures waits { result ≡ Ok None → (past : Past) → avi_stands S.left self.old past → (IsIn port past.stopped → ⊥) → avi_stands S.left self.new (was_asked past port) }
+        ensures waits { result ≡ Ok None → (past : Past) → avi_stands S.left self.old past → (IsIn port past.stopped → ⊥)
+            → avi_stands S.left self.new (was_asked past port) }
         ensures none_due { result ≡ Ok None → GoesOn (avi_fault self.old) → (past : Past) → avi_stands S.left self.old past → (IsIn port past.stopped → ⊥)
             → (stream_at past.gave port ≡ stream_at (due past) port) ⊎ (avi_fault self.new ≡ Some Device) }
         ensures unchanged { OnErr result ((past : Past) → avi_stands S.left self.old past → avi_stands S.left self.new past) }
@@ -362,6 +379,7 @@ impl<S: Source + Drop> Machine for AviDemux<S> {
         requires { port < number_of self.old.ports }
         ensures shape { IsSameShape (avi_view S.left S.name S.faults self.old) (avi_view S.left S.name S.faults self.new) }
         ensures fares { FaultStep (avi_view S.left S.name S.faults self.old) (avi_view S.left S.name S.faults self.new) }
+        ensures reads_nothing { avi_reads_nothing self.old self.new }
         ensures stopped { (past : Past) → avi_stands S.left self.old past → avi_stands S.left self.new (was_stopped past port) }
     {
         self.waiting = kept_past(self.waiting.take(), port);
@@ -381,10 +399,12 @@ impl<S: Source + Drop> Machine for AviDemux<S> {
     fn next_event(&mut self) -> Option<Event>
         ensures shape { IsSameShape (avi_view S.left S.name S.faults self.old) (avi_view S.left S.name S.faults self.new) }
         ensures fares { FaultStep (avi_view S.left S.name S.faults self.old) (avi_view S.left S.name S.faults self.new) }
+        ensures reads_nothing { avi_reads_nothing self.old self.new }
         ensures gives { (e : Event) → result ≡ Some e → (past : Past) → avi_stands S.left self.old past
             → avi_stands S.left self.new (was_told past e) × (IsReading (avi_view S.left S.name S.faults self.old) past → ⊥) }
         ensures waits { IsNone result → (past : Past) → avi_stands S.left self.old past → avi_stands S.left self.new past }
-        ensures none_due { IsNone result → (past : Past) → avi_stands S.left self.old past → (past.told ≡ past.task.tells past.feeds) ⊎ IsReading (avi_view S.left S.name S.faults self.old) past }
+        ensures none_due { IsNone result → (past : Past) → avi_stands S.left self.old past
+            → (past.told ≡ past.task.tells past.feeds) ⊎ IsReading (avi_view S.left S.name S.faults self.old) past }
     {
         if self.told {
             return None;

@@ -1,5 +1,5 @@
 -- The laws of the demuxer of an AVI.
-use Rattle.std.specs.Prelude.{◌≡◌, ◌≢◌, ℕ, zero, suc, ◌≤◌, ◌⊎◌, Bool, true, false, cond, List, [], ◌∷◌, map, length, slice_get, Option, None, Some, IsSome, is_some, refl}
+use Rattle.std.specs.Prelude.{◌≡◌, ◌≢◌, ℕ, zero, suc, ◌≤◌, ◌⊎◌, Bool, true, false, cond, List, [], ◌∷◌, map, length, slice_get, Option, None, Some, IsSome, is_some, refl, ◌+◌}
 use Rattle.std.proofs.Common.{sym, subst, ap, inl, inr, ◌∙◌}
 use mathlib.Core.List.{IsPrefix}
 use Rattle.ff_frame.specs.declared.packet.Pkt.{Pkt}
@@ -17,7 +17,7 @@ use Rattle.ff_net.proofs.Flows.{AreUnits}
 use Rattle.ff_net.specs.declared.fault.Fault.{Fault}
 use Rattle.ff_net.specs.declared.fault.Fault.TheVariants.{TooLong}
 use Rattle.ff_net.specs.laws.Laws.{IsOfInputs, CauseStays, IsPending, AllAsked}
-use Rattle.ff_net.specs.Pasts.{Past, Units, Feed, due, due_by}
+use Rattle.ff_net.specs.Pasts.{Past, Units, Feed, due, due_by, count_of}
 use Rattle.ff_net.specs.Ways.{Flow, AreValid}
 use Rattle.ff_avi.specs.declared.head.AviHead.{AviHead}
 use Rattle.ff_avi.specs.declared.cut.AviCut.{AviCut}
@@ -26,7 +26,7 @@ use Rattle.ff_node_demux.specs.laws.SourceLaws.{tried_of}
 use Rattle.ff_node_avi.specs.declared.ports.AviPorts.{AviPorts}
 use Rattle.ff_node_avi.specs.Ported.{flows, all_at, all_of}
 use Rattle.ff_node_avi.specs.Demuxing.{ports_of, heads_of, number_of, units_of_file, is_too_long, break_of, mark_of, fault_in, Exits, DemuxStands}
-use Rattle.ff_node_avi.specs.laws.PortedLaws.{ported_valid, ported_monotone, ported_calm, ported_units, ported_given, ported_tried, ported_below, ported_unbroken, ported_used}
+use Rattle.ff_node_avi.specs.laws.PortedLaws.{ported_valid, ported_monotone, ported_calm, ported_units, ported_given, ported_tried, ported_below, ported_unbroken, ported_used, ported_few}
 use Rattle.ff_node_avi.specs.laws.AviShapes.{port_valid}
 
 -- ---- how the streams end
@@ -109,6 +109,9 @@ module _ (left : Option (List ℕ)) (cut : AviCut) (skip : ℕ) (ports : AviPort
 
   pub avi_tried : tried_of given ended ≤ length past.allowed
   avi_tried = ported_tried us (mark_of d.0 d.1 d.2) (number_of (ports_of d.0 d.1)) given ended ticket waiting going closed fault past d.3.gives
+
+  pub avi_few : tried_of given ended ≤ count_of past.task.source + 1
+  avi_few = ported_few us (mark_of d.0 d.1 d.2) (number_of (ports_of d.0 d.1)) given ended ticket waiting going closed fault past d.3.gives
 
   pub avi_below : AreUnits past
   avi_below = ported_below us (mark_of d.0 d.1 d.2) (number_of (ports_of d.0 d.1)) given ended ticket waiting going closed fault past d.3.gives

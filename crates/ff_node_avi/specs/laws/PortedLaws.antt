@@ -13,7 +13,7 @@ use Rattle.ff_stream.specs.laws.Order.{below_self, below_trans, opened_below, sa
 use Rattle.ff_net.specs.declared.fault.Fault.{Fault}
 use Rattle.ff_net.specs.laws.Laws.{IsPending, AllAsked}
 use Rattle.ff_net.specs.Ways.{Flow, AreValid}
-use Rattle.ff_net.specs.Pasts.{Past, Units, due, due_by}
+use Rattle.ff_net.specs.Pasts.{Past, Units, due, due_by, count_of}
 use Rattle.ff_net.proofs.Flows.{AreUnits}
 use Rattle.ff_node_demux.specs.Sources.{count}
 use Rattle.ff_node_demux.specs.laws.SourceLaws.{tried_of}
@@ -113,6 +113,14 @@ module _ (us : List (ℕ × Item)) (m : Mark) (ports n : ℕ) (ended ticket : Bo
 
   pub ported_tried : tried_of n ended ≤ length past.allowed
   ported_tried = omega (arith, l.tickets)
+
+  few_tried : (b : Bool) → tried_of n b ≤ length us + 1
+  few_tried true = let r = l.in_range in omega (arith, r)
+  few_tried false = let r = l.in_range in omega (arith, r)
+
+  -- it tried at most one more than it has units
+  pub ported_few : tried_of n ended ≤ count_of past.task.source + 1
+  ported_few = subst (λ (o : Option Units). tried_of n ended ≤ count_of o + 1) (sym l.source) (few_tried ended)
 
   pub ported_below : AreUnits past
   ported_below units e k =

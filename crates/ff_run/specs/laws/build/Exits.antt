@@ -4,8 +4,9 @@ use Rattle.std.proofs.Common.{sym, ◌∙◌}
 use Rattle.ff_host.specs.declared.sink.Sink.{Ghosts as SinkGhosts}
 use Rattle.ff_input.specs.Formats.{single_cutter}
 use Rattle.ff_net.specs.laws.Views.{View}
-use Rattle.ff_node_avi.specs.laws.AviExits.{avi_exits, avi_few}
+use Rattle.ff_node_avi.specs.laws.AviLaws.{avi_few}
 use Rattle.ff_node_avi.specs.laws.AviPorts.{of_two}
+use Rattle.ff_node_avi.proofs.DemuxSteps as avi_steps
 use Rattle.ff_node_demux.specs.laws.DemuxLaws.{demux_few}
 use Rattle.ff_node_demux.specs.laws.gens.GenLaws.{gen_few}
 use Rattle.ff_node_demux.proofs.ExitSteps.{exits_alone}
@@ -31,7 +32,7 @@ parts_exit {S} {K} {G} left named failed (part.Demux m) = record {
   few = λ past n s e. demux_few single_cutter (left m.src) m.cut m.skip m.given m.ticket m.ended m.fault past s.0;
 }
 parts_exit {S} {K} {G} left named failed (part.Avi m) = record {
-  exits = λ past n s e. avi_exits m.input m.told past s.1 n e;
+  exits = λ past n s e. avi_steps.exits_alone m.input m.told past s.1 n e;
   few = λ past n s e.
       avi_few (left m.reader.src) m.reader.cut m.reader.skip m.ports m.given m.ended m.ticket m.waiting (of_two m.first.going m.second.going) (of_two m.first.closed m.second.closed) m.fault past s.0;
 }

@@ -3,6 +3,7 @@ use Rattle.std.specs.Prelude.{is_some}
 use Rattle.ff_stream.specs.declared.item.Item.{Item}
 use Rattle.ff_node_avi.specs.laws.AviPorts.{of_two}
 use Rattle.ff_node_avi.proofs.DemuxSteps.{avi_unticketed}
+use Rattle.ff_node_avi.proofs.PieceSteps.{avi_reads_then}
 use Rattle.ff_node_avi.proofs.demux.AviDemuxMachine.pull.Goals as goal
 
 pub returns-clause-gives : goal.returns-clause-gives
@@ -21,8 +22,12 @@ returns-clause-none_due g c = λ e goes past s out.
     let m = c.take.new.self in
     let now = c.take.ensures.stands past s in
     let due = (c.give.ensures.waits (ap (λ (o : Option Item). is_some o) none) past now out).1 in
-    elim (avi_unticketed (g.S.Source.left m.reader.src) m.reader.cut m.reader.skip m.ports m.given m.ended m.ticket m.waiting (of_two m.first.going m.second.going) (of_two m.first.closed m.second.closed) m.fault
+    elim (avi_unticketed (g.S.Source.left m.reader.src) m.reader.cut m.reader.skip m.ports m.given m.ended m.ticket m.waiting (of_two m.first.going m.second.going)
+    (of_two m.first.closed m.second.closed) m.fault
     past c.in_ok-take.ensures.used now.0) [
       | inl t ↦ inl (due t)
-      | inr d ↦ inr (c.give.ensures.reads_nothing.1 ∙ d)
+      | inr d ↦ inr (c.give.ensures.fault ∙ d)
     ]
+
+pub returns-clause-reads : goal.returns-clause-reads
+returns-clause-reads g c = avi_reads_then g.S.Source.left c.args.self.now c.take.new.self c.give.new.self c.take.ensures.reads c.give.ensures.reads_nothing

@@ -3,7 +3,7 @@ use Rattle.ff_frame.specs.declared.cut.Cut.{Cut}
 use Rattle.ff_frame.specs.declared.packet.Pkt.{Pkt}
 use Rattle.ff_avi.specs.laws.Cuts.{Tells}
 use Rattle.ff_node_avi.specs.Reading.{Reaches, Closes}
-use Rattle.ff_node_avi.proofs.PieceSteps.{keeps_self, reads_nothing, reads_kept, reads_piece, reads_packet, reads_err}
+use Rattle.ff_node_avi.proofs.PieceSteps.{reads_nothing, reads_kept, reads_same, reads_piece, reads_packet, reads_err}
 use Rattle.ff_node_avi.proofs.ReadSteps.{on_err, fed_told, kept_reach, lies_same, lies_packet, lies_over, nearer}
 use Rattle.ff_node_avi.proofs.reader.AviReader.next.Goals as goal
 
@@ -31,7 +31,8 @@ pub returns-in_err-stream-clause-stays : goal.returns-in_err-stream-clause-stays
 returns-in_err-stream-clause-stays g c =
     let m = c.units.self in
     on_err c.from_residual.result _ (λ head used file n l.
-    lies_same (g.S.Source.left m.src) m.cut m.skip c.pull.new.self c.pull.ensures.ended c.in_err-stream.ensures.err head used file n (c.units.invariant.stays head used file n l))
+    lies_same (g.S.Source.left m.src) m.cut m.skip c.pull.new.self c.pull.ensures.ended c.in_err-stream.ensures.err head used file n
+    (c.units.invariant.stays head used file n l))
 
 pub returns-in-Pkt-clause-packet : goal.returns-in-Pkt-clause-packet
 returns-in-Pkt-clause-packet g c = λ stream p e head used file n l.
@@ -69,7 +70,7 @@ returns-in_err-stream-clause-reads g c = λ given.
     let m = c.units.self in
     let a = c.args.self.now in
     reads_err (L a.src) a.cut a.skip given false (L m.src) c.pull.new.self m.skip given false c.from_residual.result c.from_residual.ensures.0
-    (reads_kept (L a.src) a.cut a.skip given false (L m.src) (L m.src) m.cut c.pull.new.self m.skip m.skip given false (keeps_self (L m.src)) c.in_err-stream.ensures.err refl (c.units.invariant.reads given))
+    (reads_same (L a.src) a.cut a.skip given false (L m.src) m.cut c.pull.new.self m.skip given false c.in_err-stream.ensures.err (c.units.invariant.reads given))
 
 pub returns-in-Pkt-clause-reads : goal.returns-in-Pkt-clause-reads
 returns-in-Pkt-clause-reads g c = λ given.
@@ -77,7 +78,8 @@ returns-in-Pkt-clause-reads g c = λ given.
     let m = c.units.self in
     let a = c.args.self.now in
     let t = subst (λ (told : Cut). Tells m.cut c.pull.new.self c.in_ok-stream.stream told) c.in-Pkt.is c.in_ok-stream.ensures.ok in
-    reads_packet (L a.src) a.cut a.skip given false (L m.src) m.cut c.pull.new.self m.skip given c.in_ok-stream.stream false c.in-Pkt.packet t.0 (c.units.invariant.reads given)
+    reads_packet (L a.src) a.cut a.skip given false (L m.src) m.cut c.pull.new.self m.skip given c.in_ok-stream.stream false c.in-Pkt.packet t.0
+    (c.units.invariant.reads given)
 
 pub returns-in-End-clause-reads : goal.returns-in-End-clause-reads
 returns-in-End-clause-reads g c = λ given.
@@ -85,7 +87,7 @@ returns-in-End-clause-reads g c = λ given.
     let m = c.units.self in
     let a = c.args.self.now in
     let t = subst (λ (told : Cut). Tells m.cut c.pull.new.self c.in_ok-stream.stream told) c.in-End.is c.in_ok-stream.ensures.ok in
-    reads_kept (L a.src) a.cut a.skip given false (L m.src) (L m.src) m.cut c.pull.new.self m.skip m.skip given false (keeps_self (L m.src)) t.0 refl (c.units.invariant.reads given)
+    reads_same (L a.src) a.cut a.skip given false (L m.src) m.cut c.pull.new.self m.skip given false t.0 (c.units.invariant.reads given)
 
 pub returns-in-Broken-clause-reads : goal.returns-in-Broken-clause-reads
 returns-in-Broken-clause-reads g c = λ given.
@@ -93,7 +95,7 @@ returns-in-Broken-clause-reads g c = λ given.
     let m = c.units.self in
     let a = c.args.self.now in
     let t = subst (λ (told : Cut). Tells m.cut c.pull.new.self c.in_ok-stream.stream told) c.in-Broken.is c.in_ok-stream.ensures.ok in
-    reads_kept (L a.src) a.cut a.skip given false (L m.src) (L m.src) m.cut c.pull.new.self m.skip m.skip given false (keeps_self (L m.src)) t.0 refl (c.units.invariant.reads given)
+    reads_same (L a.src) a.cut a.skip given false (L m.src) m.cut c.pull.new.self m.skip given false t.0 (c.units.invariant.reads given)
 
 pub returns-in_err-read_more-in-NotYet-clause-reads : goal.returns-in_err-read_more-in-NotYet-clause-reads
 returns-in_err-read_more-in-NotYet-clause-reads g c = λ given.
@@ -102,11 +104,12 @@ returns-in_err-read_more-in-NotYet-clause-reads g c = λ given.
     let a = c.args.self.now in
     let cut = c.pull.new.self in
     let t = subst (λ (told : Cut). Tells m.cut cut c.in_ok-stream.stream told) c.in-NotYet.is c.in_ok-stream.ensures.ok in
-    let kept = reads_kept (L a.src) a.cut a.skip given false (L m.src) (L m.src) m.cut cut m.skip m.skip given false (keeps_self (L m.src)) t.0 refl (c.units.invariant.reads given) in
+    let kept = reads_same (L a.src) a.cut a.skip given false (L m.src) m.cut cut m.skip given false t.0 (c.units.invariant.reads given) in
     let e = c.in_err-read_more-in-NotYet.ensures in
-    reads_err (L a.src) a.cut a.skip given false (L c.read_more.new.src) c.read_more.new.cut c.read_more.new.skip given false c.from_residual-in_err-read_more-in-NotYet.result
-    c.from_residual-in_err-read_more-in-NotYet.ensures.0
-    (reads_kept (L a.src) a.cut a.skip given false (L m.src) (L c.read_more.new.src) cut c.read_more.new.cut m.skip c.read_more.new.skip given false e.left e.cuts e.skip kept)
+    reads_err (L a.src) a.cut a.skip given false (L c.read_more.new.src) c.read_more.new.cut c.read_more.new.skip given false
+    c.from_residual-in_err-read_more-in-NotYet.result c.from_residual-in_err-read_more-in-NotYet.ensures.0
+    (reads_kept (L a.src) a.cut a.skip given false (L m.src) (L c.read_more.new.src) cut c.read_more.new.cut m.skip c.read_more.new.skip given false
+    e.left e.cuts e.skip kept)
 
 pub read_more-requires-clause-fed : goal.read_more-requires-clause-fed
 read_more-requires-clause-fed g c = fed_told c.units.self.cut c.pull.new.self c.pull.result c.pull.ensures.ok c.pull.ensures.err c.units.self.fed
@@ -133,7 +136,7 @@ units-preserved g c =
     record {
       reads = λ given.
           let a = c.args.self.now in
-          let kept = reads_kept (S.left a.src) a.cut a.skip given false (S.left m.src) (S.left m.src) m.cut cut m.skip m.skip given false (keeps_self (S.left m.src)) t.0 refl (c.units.invariant.reads given) in
+          let kept = reads_same (S.left a.src) a.cut a.skip given false (S.left m.src) m.cut cut m.skip given false t.0 (c.units.invariant.reads given) in
           reads_piece (S.left a.src) a.cut a.skip given false (S.left m.src) (S.left c.read_more.new.src) cut c.read_more.new.cut m.skip c.read_more.new.skip t.1.1
           c.in_ok-read_more-in-NotYet.ensures.feeds kept;
       stays = λ head used file n l. c.in_ok-read_more-in-NotYet.ensures.stays head used file n

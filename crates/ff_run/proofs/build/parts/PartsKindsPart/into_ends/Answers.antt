@@ -1,8 +1,6 @@
-use Rattle.std.specs.Prelude.{◌≡◌, ◌+◌, ◌<◌, ◌≤◌, ℕ, zero, suc, List, [], ◌∷◌, length, map, Option, None, Some, IsSome, replicate}
+use Rattle.std.specs.Prelude.{◌≡◌, ◌+◌, ◌<◌, ◌≤◌, ℕ, zero, suc, List, [], ◌∷◌, length, Option, IsSome, replicate}
 use Rattle.std.proofs.Common.{ap, refl, arith, inl, inr, subst, sym, ◌∙◌}
-use Rattle.ff_avi.specs.laws.Sound.{streams_with}
-use Rattle.ff_node_avi.specs.Demuxing.{heads_of}
-use Rattle.ff_node_avi.specs.declared.ports.AviPorts.{AviPorts}
+use Rattle.ff_node_avi.specs.laws.AviOver as avi
 use Rattle.ff_node_codec.specs.laws.codecs.AnyCoders.{any_head, any_coded}
 use Rattle.ff_node_flac.specs.Coding.{coded_head}
 use Rattle.ff_stream.specs.declared.item.Lane.{Lane}
@@ -24,13 +22,6 @@ use Rattle.ff_run.proofs.build.parts.PartsKindsPart.into_ends.Goals as goal
 
 one_lane : (x : Lane) → (x ∷ []) ≡ [] → ⊥
 one_lane x e = cc
-
-some_ports : (ports : AviPorts) → map Packets (heads_of ports) ≡ [] → ⊥
-some_ports ports e = by ports.first ports.second e
-  where
-    by : (first : StreamHead) (second : Option StreamHead) → map Packets (streams_with first second) ≡ [] → ⊥
-    by first None f = cc
-    by first (Some second) f = cc
 
 no_lanes : (heads : List StreamHead) → 1 ≤ length heads → head_lanes heads ≡ [] → ⊥
 no_lanes [] some e = omega (arith, some)
@@ -60,7 +51,7 @@ returns-in-Avi g c =
     let source = c.into_source-in-Avi.ensures in
     let GivesSource : Part g.row.Src.Denot g.row.Snk.Denot g.Snk.Sink → Type 0 =
     λ p. IsEndOf S.name S.faults (part_view S.left S.name S.faults p) c.into_source-in-Avi.result × ((part_view S.left S.name S.faults p).out_lanes ≡ [] → ⊥) in
-    subst GivesSource (sym c.in-Avi.is) (record { name = source.name; faults = source.faults }, some_ports c.in-Avi.m.ports)
+    subst GivesSource (sym c.in-Avi.is) (record { name = source.name; faults = source.faults }, avi.some_lanes c.in-Avi.m.ports)
 
 pub returns-in-Dec : goal.returns-in-Dec
 returns-in-Dec g c =
