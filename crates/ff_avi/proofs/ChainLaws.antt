@@ -8,9 +8,9 @@ use Rattle.ff_avi.specs.declared.data.DataState.{DataState}
 use Rattle.ff_avi.specs.declared.data.DataUnit.{DataUnit}
 use Rattle.ff_avi.specs.declared.data.Turn.{Turn}
 use Rattle.ff_avi.specs.declared.data.Turn.TheVariants.{Wait, Broken, Pass, Give}
-use Rattle.ff_avi.specs.laws.Data.{turn, packet_of}
-use Rattle.ff_avi.specs.laws.Chains.{Chain, packets_in, broken_at, chain_from}
-use Rattle.ff_avi.specs.laws.Chains.Chain.{whole, broken, gives}
+use Rattle.ff_avi.specs.Data.{turn, packet_of}
+use Rattle.ff_avi.specs.Chains.{Chain, packets_in, broken_at, chain_from}
+use Rattle.ff_avi.specs.Chains.Chain.{whole, broken, gives}
 use Rattle.ff_avi.specs.laws.Cuts.{behind}
 
 -- ---- what is passed over

@@ -12,11 +12,11 @@ use Rattle.ff_avi.specs.declared.data.DataState.{DataState}
 use Rattle.ff_avi.specs.declared.data.DataUnit.{DataUnit}
 use Rattle.ff_avi.specs.declared.data.Turn.{Turn}
 use Rattle.ff_avi.specs.declared.data.Turn.TheVariants.{Wait, Broken, Pass, Give}
-use Rattle.ff_avi.specs.laws.Streams.{word}
-use Rattle.ff_avi.specs.laws.Lanes.{picture_size, size_of, lane_with, lanes_of}
-use Rattle.ff_avi.specs.laws.Data.{is_data, one_picture, picture, next_count, pad_after, after_packet, samples, entered, chunk, turn, packet_of}
-use Rattle.ff_avi.specs.laws.Chains.{Chain, chain_from, nothing_yet}
-use Rattle.ff_avi.specs.laws.Chains.Chain.{whole, broken, gives}
+use Rattle.ff_avi.specs.Streams.{word}
+use Rattle.ff_avi.specs.Lanes.{picture_size, size_of, lane_with, lanes_of}
+use Rattle.ff_avi.specs.Data.{is_data, one_picture, picture, next_count, pad_after, after_packet, samples, entered, chunk, turn, packet_of}
+use Rattle.ff_avi.specs.Chains.{Chain, chain_from, nothing_yet}
+use Rattle.ff_avi.specs.Chains.Chain.{whole, broken, gives}
 use Rattle.ff_avi.specs.laws.Chosen.{is_in, chosen, UsedAreChosen}
 use Rattle.ff_avi.proofs.ChainLaws.{turned, chain_turned}
 

@@ -12,9 +12,9 @@ use Rattle.ff_avi.specs.declared.data.DataState.{DataState}
 use Rattle.ff_avi.specs.declared.data.DataUnit.{DataUnit}
 use Rattle.ff_avi.specs.declared.data.Turn.TheVariants.{Broken, Pass, Give}
 use Rattle.ff_avi.specs.declared.cut.AviCut.{AviCut}
-use Rattle.ff_avi.specs.laws.Data.{turn, packet_of}
-use Rattle.ff_avi.specs.laws.Chains.{Chain, packets_in, broken_at, chain_from, units}
-use Rattle.ff_avi.specs.laws.Chains.Chain.{broken, gives}
+use Rattle.ff_avi.specs.Data.{turn, packet_of}
+use Rattle.ff_avi.specs.Chains.{Chain, packets_in, broken_at, chain_from, units}
+use Rattle.ff_avi.specs.Chains.Chain.{broken, gives}
 use Rattle.ff_avi.specs.laws.Cuts.{has_ended, first_of, behind, rest_of, Goes, KeepsCut, GivesUnit, GaveAll, IsPart, Tells, IsPassed}
 use Rattle.ff_avi.proofs.TurnLaws.{turn_stays, packet_same}
 use Rattle.ff_avi.proofs.ChainLaws.{over_left, over_pad, at_pass, at_give, at_wait, ended_over, ended_within, ended_whole, packets_behind, broken_behind, behind_one, next_behind}

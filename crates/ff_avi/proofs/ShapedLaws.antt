@@ -11,11 +11,11 @@ use Rattle.ff_avi.specs.declared.data.DataState.{DataState}
 use Rattle.ff_avi.specs.declared.data.DataUnit.{DataUnit}
 use Rattle.ff_avi.specs.declared.data.Turn.{Turn}
 use Rattle.ff_avi.specs.declared.data.Turn.TheVariants.{Wait, Broken, Pass, Give}
-use Rattle.ff_avi.specs.laws.Streams.{word}
-use Rattle.ff_avi.specs.laws.Lanes.{lanes_of}
-use Rattle.ff_avi.specs.laws.Data.{is_data, one_picture, picture, next_count, pad_after, after_packet, samples, sound, chunk, turn}
-use Rattle.ff_avi.specs.laws.Chains.{packets_in, chain_from, nothing_yet}
-use Rattle.ff_avi.specs.laws.Chains.Chain.{whole, broken}
+use Rattle.ff_avi.specs.Streams.{word}
+use Rattle.ff_avi.specs.Lanes.{lanes_of}
+use Rattle.ff_avi.specs.Data.{is_data, one_picture, picture, next_count, pad_after, after_packet, samples, sound, chunk, turn}
+use Rattle.ff_avi.specs.Chains.{packets_in, chain_from, nothing_yet}
+use Rattle.ff_avi.specs.Chains.Chain.{whole, broken}
 use Rattle.ff_avi.specs.laws.Shaped.{AreShaped, PacketsAreShaped}
 use Rattle.ff_avi.specs.laws.StreamLaws.{not_less}
 use Rattle.ff_avi.proofs.ChainLaws.{turned, chain_turned}

@@ -12,8 +12,8 @@ use Rattle.ff_avi.specs.declared.data.DataState.{DataState}
 use Rattle.ff_avi.specs.declared.data.DataUnit.{DataUnit}
 use Rattle.ff_avi.specs.declared.data.Turn.{Turn}
 use Rattle.ff_avi.specs.declared.data.Turn.TheVariants.{Wait, Broken}
-use Rattle.ff_avi.specs.laws.Streams.{word}
-use Rattle.ff_avi.specs.laws.Data.{data_id, is_data, picture, next_count, samples, entered, chunk, turn, packet_of}
+use Rattle.ff_avi.specs.Streams.{word}
+use Rattle.ff_avi.specs.Data.{data_id, is_data, picture, next_count, samples, entered, chunk, turn, packet_of}
 use Rattle.ff_avi.specs.laws.StreamLaws.{Settles, settles_decided, settles_if, settles_wait, front_word}
 
 picture_settles : (lane : Lane) (known : DataState) (size : ℕ) (bs more : List ℕ) → Settles Wait (picture lane known size bs) (picture lane known size (bs ++ more))

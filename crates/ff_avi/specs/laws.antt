@@ -1,16 +1,9 @@
 pub mod BaseLaws
-pub mod Chains
 pub mod Chosen
 pub mod Cuts
-pub mod Data
 pub mod Examples
 pub mod HeadLaws
-pub mod Heads
-pub mod Lanes
 pub mod ListLaws
-pub mod Lists
 pub mod Shaped
-pub mod Sound
 pub mod SoundLaws
 pub mod StreamLaws
-pub mod Streams

@@ -2,7 +2,7 @@
 ghost use Rattle.std.specs.Prelude.{◌≡◌, ◌≢◌, ◌+◌, ◌-◌, ◌^◌, ◌≤◌, ◌<◌, ℕ, [], ◌++◌, Some, None, Ok, true, false, min, length, OnOk, OnErr, IfOk, IsOk, pos};
 ghost use Rattle.ff_frame.specs.declared.cut.Cut.{Cut};
 ghost use Rattle.ff_frame.specs.Packet.{packet_at};
-ghost use Rattle.ff_avi.specs.laws.Sound.{IsHead};
+ghost use Rattle.ff_avi.specs.Sound.{IsHead};
 
 use crate::data::{DataState, DataUnit, Turn, turn_at};
 use crate::head::AviHead;
@@ -55,7 +55,7 @@ fn packet(unit: &DataUnit, at: u64, bytes: Vec<u8>) -> Pkt
 
 impl AviCut {
     ghost use Rattle.ff_avi.specs.declared.data.Turn.TheVariants.{Pass, Give};
-    ghost use Rattle.ff_avi.specs.laws.Data.{turn, Steps};
+    ghost use Rattle.ff_avi.specs.Data.{turn, Steps};
     ghost use Rattle.ff_avi.specs.laws.Cuts.{Cuts, has_ended, first_of, waiting_in, room_in, Feeds, KeepsCut, IsPart, Stops, Tells, IsPassed};
 
     /// A cut of an input with this head, which was read, that gives the packets of the streams of these numbers.

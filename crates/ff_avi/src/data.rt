@@ -1,7 +1,7 @@
 //! The data behind a head, one unit at a time (AVI RIFF File Reference).
 ghost use Rattle.std.specs.Prelude.{◌≡◌, ◌+◌, ◌*◌, ◌≤◌, ◌<◌, ◌^◌, ℕ, length};
-ghost use Rattle.ff_avi.specs.laws.Data.{is_data, one_picture, picture as picture_turn, next_count, sound as sound_turn};
-ghost use Rattle.ff_avi.specs.laws.Data.{entered, chunk as chunk_turn, turn as turn_in, IsStep};
+ghost use Rattle.ff_avi.specs.Data.{is_data, one_picture, picture as picture_turn, next_count, sound as sound_turn};
+ghost use Rattle.ff_avi.specs.Data.{entered, chunk as chunk_turn, turn as turn_in, IsStep};
 
 use crate::lane::{Lane, Lanes};
 use crate::stream::has_word;
@@ -74,7 +74,7 @@ fn with_picture(known: &DataState) -> DataState
 }
 
 // A chunk of pictures of this size.
-#[tactic(auto, unfolding(crate::specs::laws::Data::picture))]
+#[tactic(auto, unfolding(crate::specs::Data::picture))]
 fn picture(lane: &Lane, known: &DataState, size: u64, bytes: &[u8]) -> Turn
     requires count { known.now.pictures ≤ 2 ^ 41 }
     requires size { size < 2 ^ 32 }
@@ -120,7 +120,7 @@ fn count_of(lane: &Lane, left: u64) -> u64
 }
 
 // Within a chunk of sound.
-#[tactic(auto, unfolding(crate::specs::laws::Data::samples))]
+#[tactic(auto, unfolding(crate::specs::Data::samples))]
 fn sound(lane: &Lane, known: &DataState, bytes: &[u8]) -> Turn
     requires count { known.now.samples ≤ 2 ^ 41 }
     requires few { lane.now.size ≤ 32 }
@@ -183,7 +183,7 @@ fn list(known: &DataState, size: u64, bytes: &[u8]) -> Turn
 }
 
 // A chunk, whose first 8 bytes are there.
-#[tactic(auto, unfolding(crate::specs::laws::Data::chunk))]
+#[tactic(auto, unfolding(crate::specs::Data::chunk))]
 fn chunk(lanes: &Lanes, known: &DataState, size: u64, bytes: &[u8]) -> Turn
     requires streams { (lanes.now.pictures.stream ≤ 1) × (lanes.now.sound.stream ≤ 1) }
     requires sizes { lanes.now.pictures.size ≤ 805306368 }
@@ -216,7 +216,7 @@ fn chunk(lanes: &Lanes, known: &DataState, size: u64, bytes: &[u8]) -> Turn
 }
 
 /// What the unit is that begins the bytes.
-#[tactic(auto, unfolding(crate::specs::laws::Data::turn))]
+#[tactic(auto, unfolding(crate::specs::Data::turn))]
 pub(crate) fn turn_at(lanes: &Lanes, known: &DataState, at: u64, bytes: &[u8]) -> Turn
     requires streams { (lanes.now.pictures.stream ≤ 1) × (lanes.now.sound.stream ≤ 1) }
     requires sizes { (lanes.now.pictures.size ≤ 805306368) × (lanes.now.sound.size ≤ 32) }

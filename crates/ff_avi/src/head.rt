@@ -16,7 +16,7 @@ pub struct AviHead {
 }
 
 impl AviHead {
-    ghost use Rattle.ff_avi.specs.laws.Sound.{streams_of};
+    ghost use Rattle.ff_avi.specs.Sound.{streams_of};
 
     /// How many streams it has.
     pub fn count(&self) -> u32

@@ -1,8 +1,8 @@
 //! What the data needs to know of the streams of a head.
 ghost use Rattle.std.specs.Prelude.{◌≡◌, ◌≤◌, IfSome};
 ghost use Rattle.ff_pcm.specs.body.Packets.{block_of};
-ghost use Rattle.ff_avi.specs.laws.Lanes.{picture_size, size_of, lane_with, lanes_of};
-ghost use Rattle.ff_avi.specs.laws.Sound.{IsHead, IsStream};
+ghost use Rattle.ff_avi.specs.Lanes.{picture_size, size_of, lane_with, lanes_of};
+ghost use Rattle.ff_avi.specs.Sound.{IsHead, IsStream};
 
 use crate::head::AviHead;
 use ff_frame::StreamHead;

@@ -2,11 +2,11 @@
 ghost use Rattle.std.specs.Prelude.{◌≡◌, [], ◌∷◌, ◌++◌, Ok, Err, codes, length, take, pos};
 ghost use Rattle.ff_frame.specs.Packet.{packet_at};
 ghost use Rattle.ff_reader.specs.declared.fault.HeadFault.TheVariants.{Damaged, Unsupported};
-ghost use Rattle.ff_avi.specs.laws.Heads.{head};
+ghost use Rattle.ff_avi.specs.Heads.{head};
 ghost use Rattle.ff_avi.specs.laws.Chosen.{UsedAreChosen};
 ghost use Rattle.ff_avi.specs.laws.Shaped.{PacketsAreShaped};
-ghost use Rattle.ff_avi.specs.laws.Chains.{units};
-ghost use Rattle.ff_avi.specs.laws.Chains.Chain.{whole, broken, gives};
+ghost use Rattle.ff_avi.specs.Chains.{units};
+ghost use Rattle.ff_avi.specs.Chains.Chain.{whole, broken, gives};
 ghost use Rattle.ff_avi.specs.laws.Examples.{opening, picture, film, film_with_sound, some_sound};
 
 /// A file of one picture has 174 bytes, and its head ends before the last 14. A rate of 0 is unsupported at its place, and so

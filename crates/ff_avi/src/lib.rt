@@ -5,9 +5,9 @@
 //! the data: 00db .. │ 01wb .. │ LIST rec ( 00db .., 01wb .. ) │ others, which are passed over
 //! ```
 //!
-//! A list is a chunk `LIST` whose data begins with its type. `specs/laws/Streams` says what the list of one stream tells, and
-//! `specs/laws/Lists` what each chunk or list does to the reading of a head. `specs/laws/Heads` says what the head of a whole input is,
-//! and which first bytes decide it. `specs/laws/Data` says what a unit of the data is, and `specs/laws/Chains` which packets follow a
+//! A list is a chunk `LIST` whose data begins with its type. `specs/Streams` says what the list of one stream tells, and
+//! `specs/Lists` what each chunk or list does to the reading of a head. `specs/Heads` says what the head of a whole input is,
+//! and which first bytes decide it. `specs/Data` says what a unit of the data is, and `specs/Chains` which packets follow a
 //! head, in one chain for both streams. `specs/laws/Cuts` says how a cut's state is tied to what it was fed and gave.
 #![tactic(auto)]
 

@@ -2,7 +2,7 @@
 ghost use Rattle.std.specs.Prelude.{◌≡◌, ◌+◌, ◌≤◌, ◌<◌, ◌^◌, ℕ, length};
 ghost use Rattle.ff_reader.specs.declared.step.Step.TheVariants.{Skip};
 ghost use Rattle.ff_avi.specs.declared.head.AviState.{AviState};
-ghost use Rattle.ff_avi.specs.laws.Lists.{rest_of, passed as step_past, with_stream, after_stream, data_list, outer_list, inner_list, unit};
+ghost use Rattle.ff_avi.specs.Lists.{rest_of, passed as step_past, with_stream, after_stream, data_list, outer_list, inner_list, unit};
 
 use crate::head::{AviHead, AviState, AviStep};
 use crate::stream::{Told, has_word, padded, stream};
@@ -20,7 +20,7 @@ fn rest(bytes: &[u8]) -> u64
 }
 
 // Passes over so many bytes after the first.
-#[tactic(auto, unfolding(crate::specs::laws::Lists::passed))]
+#[tactic(auto, unfolding(crate::specs::Lists::passed))]
 fn passed(known: AviState, rest: u64) -> AviStep
     requires { rest ≤ 2 ^ 32 + 7 }
     ensures value { result ≡ step_past known rest }
@@ -85,7 +85,7 @@ fn data(first: Option<StreamHead>, second: Option<StreamHead>, at: u64) -> AviSt
 }
 
 // A list outside of the list of heads.
-#[tactic(auto, unfolding(crate::specs::laws::Lists::outer_list))]
+#[tactic(auto, unfolding(crate::specs::Lists::outer_list))]
 fn outer(known: AviState, at: u64, bytes: &[u8]) -> AviStep
     requires place { at < 2 ^ 32 }
     requires there { 12 ≤ length bytes.now }
@@ -104,7 +104,7 @@ fn outer(known: AviState, at: u64, bytes: &[u8]) -> AviStep
 }
 
 // A list within the list of heads.
-#[tactic(auto, unfolding(crate::specs::laws::Lists::inner_list))]
+#[tactic(auto, unfolding(crate::specs::Lists::inner_list))]
 fn inner(known: AviState, at: u64, bytes: &[u8]) -> AviStep
     requires place { at < 2 ^ 32 }
     requires there { 12 ≤ length bytes.now }
@@ -118,7 +118,7 @@ fn inner(known: AviState, at: u64, bytes: &[u8]) -> AviStep
 }
 
 /// What the chunk or list does that begins the bytes.
-#[tactic(auto, unfolding(crate::specs::laws::Lists::unit))]
+#[tactic(auto, unfolding(crate::specs::Lists::unit))]
 pub(crate) fn unit_at(known: AviState, at: u64, bytes: &[u8]) -> AviStep
     requires { at < 2 ^ 32 }
     ensures value { result ≡ unit known at bytes.now }

@@ -2,8 +2,8 @@
 ghost use Rattle.std.specs.Prelude.{◌≡◌, ◌+◌, ◌≤◌, ◌<◌, ◌^◌, length, Ok};
 ghost use Rattle.ff_wav.specs.Chunks.{number_32};
 ghost use Rattle.std.specs.Str.{bytes_eq};
-ghost use Rattle.ff_avi.specs.laws.Streams.{padded as padded_len, word as word_at, is_pictures, is_sound, base_in, header_of};
-ghost use Rattle.ff_avi.specs.laws.Streams.{pictures_of, pictures_in, told_by, format_in, behind_header, stream_in};
+ghost use Rattle.ff_avi.specs.Streams.{padded as padded_len, word as word_at, is_pictures, is_sound, base_in, header_of};
+ghost use Rattle.ff_avi.specs.Streams.{pictures_of, pictures_in, told_by, format_in, behind_header, stream_in};
 
 use crate::head::AviState;
 use crate::kind::StreamKind;
@@ -64,7 +64,7 @@ fn base(at: u64, scale: u32, rate: u32) -> Result<Rational, HeadFault>
 }
 
 // What the header says of a list whose first 76 bytes are there.
-#[tactic(auto, unfolding(crate::specs::laws::Streams::header_of))]
+#[tactic(auto, unfolding(crate::specs::Streams::header_of))]
 fn header(known: &AviState, at: u64, bytes: &[u8]) -> Result<StreamKind, HeadFault>
     requires place { at < 2 ^ 32 }
     requires there { 76 ≤ length bytes.now }
@@ -85,7 +85,7 @@ fn header(known: &AviState, at: u64, bytes: &[u8]) -> Result<StreamKind, HeadFau
 }
 
 // The stream of pictures by the fields of its format.
-#[tactic(auto, unfolding(crate::specs::laws::Streams::pictures_of))]
+#[tactic(auto, unfolding(crate::specs::Streams::pictures_of))]
 fn pictures(at: u64, tb: Rational, bytes: &[u8]) -> Result<StreamHead, HeadFault>
     requires place { at < 2 ^ 33 }
     requires there { 48 ≤ length bytes.now }
@@ -113,7 +113,7 @@ fn pictures(at: u64, tb: Rational, bytes: &[u8]) -> Result<StreamHead, HeadFault
 }
 
 // What the format of pictures says that begins the bytes.
-#[tactic(auto, unfolding(crate::specs::laws::Streams::pictures_in))]
+#[tactic(auto, unfolding(crate::specs::Streams::pictures_in))]
 fn video_format(at: u64, tb: Rational, bytes: &[u8]) -> Told
     requires place { at < 2 ^ 33 }
     requires there { 8 ≤ length bytes.now }
@@ -173,7 +173,7 @@ fn after_header(at: u64, place: u64, kind: StreamKind, bytes: &[u8]) -> Told
 }
 
 /// What the list of a stream says that begins the bytes. Its type is there.
-#[tactic(auto, unfolding(crate::specs::laws::Streams::stream_in))]
+#[tactic(auto, unfolding(crate::specs::Streams::stream_in))]
 pub(crate) fn stream(known: &AviState, at: u64, bytes: &[u8]) -> Told
     requires place { at < 2 ^ 32 }
     requires there { 12 ≤ length bytes.now }

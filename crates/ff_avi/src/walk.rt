@@ -1,7 +1,7 @@
 //! AVI as a format whose head is read chunk by chunk.
 ghost use Rattle.std.specs.Prelude.{◌≡◌, ◌↔◌, List, ◌++◌, ℕ, Err, false, IfOk};
-ghost use Rattle.ff_avi.specs.laws.Heads.{grammar as avi_grammar, head, answered, IsOpen};
-ghost use Rattle.ff_avi.specs.laws.Sound.{IsHead, IsKnown};
+ghost use Rattle.ff_avi.specs.Heads.{grammar as avi_grammar, head, answered, IsOpen};
+ghost use Rattle.ff_avi.specs.Sound.{IsHead, IsKnown};
 ghost use Rattle.ff_avi.specs.laws.HeadLaws.{is_lawful, begins_known};
 ghost use Rattle.ff_avi.specs.laws.SoundLaws.{is_kept};
 

@@ -16,7 +16,7 @@ use Rattle.ff_format.specs.declared.format.FileFormat.TheVariants as format
 use Rattle.ff_y4m.specs.declared.head.Y4mHead.{Y4mHead}
 use Rattle.ff_au.specs.laws.HeadLaws as au_laws
 use Rattle.ff_avi.specs.laws.HeadLaws as avi_laws
-use Rattle.ff_avi.specs.laws.Heads as avi
+use Rattle.ff_avi.specs.Heads as avi
 use Rattle.ff_au.specs.Heads as au
 use Rattle.ff_pcm.specs.declared.body.head.PcmHead.{PcmHead}
 use Rattle.ff_wav.specs.laws.HeadLaws as wav_laws

@@ -1,8 +1,8 @@
 -- The formats of inputs, a line for each in each list: its heads, its first words, its cut. By them the head of a whole input: in the
 -- format that was given, or in the one whose first word it has.
 use Rattle.std.specs.Prelude.{⊤, ℕ, List, [], ◌∷◌, ◌++◌, map, Option, Some, None, Err}
-use Rattle.ff_avi.specs.laws.Heads as avi
-use Rattle.ff_avi.specs.laws.Sound as avi_heads
+use Rattle.ff_avi.specs.Heads as avi
+use Rattle.ff_avi.specs.Sound as avi_heads
 use Rattle.ff_avi.specs.declared.head.AviHead.{AviHead}
 use Rattle.ff_avi.specs.declared.head.AviState.{AviState}
 use Rattle.ff_avi.specs.declared.walk.Avi.{Avi}

@@ -19,8 +19,8 @@ use Rattle.ff_net.specs.Ways.{Flow}
 use Rattle.ff_net.specs.Pasts.{Past, Feed, IsIn, start, due, gave_item, was_asked, was_allowed, was_stopped, was_told}
 use Rattle.ff_avi.specs.declared.head.AviHead.{AviHead}
 use Rattle.ff_avi.specs.declared.cut.AviCut.{AviCut}
-use Rattle.ff_avi.specs.laws.Sound.{IsHead}
-use Rattle.ff_avi.specs.laws.Chains.{packets_in}
+use Rattle.ff_avi.specs.Sound.{IsHead}
+use Rattle.ff_avi.specs.Chains.{packets_in}
 use Rattle.ff_node_demux.specs.Demuxing.{damage_at}
 use Rattle.ff_node_avi.specs.declared.ports.AviPorts.{AviPorts}
 use Rattle.ff_node_avi.specs.declared.demux.Port.{Port}

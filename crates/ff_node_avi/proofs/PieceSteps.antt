@@ -8,9 +8,9 @@ use Rattle.ff_avi.specs.declared.cut.AviCut.{AviCut}
 use Rattle.ff_avi.specs.declared.lane.Lanes.{Lanes}
 use Rattle.ff_avi.specs.declared.data.DataState.{DataState}
 use Rattle.ff_avi.specs.declared.data.Turn.TheVariants.{Wait}
-use Rattle.ff_avi.specs.laws.Data.{turn}
-use Rattle.ff_avi.specs.laws.Chains.{packets_in, ended, chain_from, units}
-use Rattle.ff_avi.specs.laws.Chains.Chain.{whole, broken}
+use Rattle.ff_avi.specs.Data.{turn}
+use Rattle.ff_avi.specs.Chains.{packets_in, ended, chain_from, units}
+use Rattle.ff_avi.specs.Chains.Chain.{whole, broken}
 use Rattle.ff_avi.specs.laws.Cuts.{Cuts, Feeds, KeepsCut, GivesUnit, IsPart, rest_of}
 use Rattle.ff_avi.proofs.ChainLaws.{at_wait, packets_behind}
 use Rattle.ff_input.specs.laws.Reading.{piece_size}

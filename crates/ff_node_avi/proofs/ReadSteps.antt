@@ -9,7 +9,7 @@ use Rattle.ff_frame.specs.declared.cut.Cut.{Cut}
 use Rattle.ff_frame.specs.declared.cut.Cut.TheVariants.{NotYet, End, Broken, Pkt as Packet}
 use Rattle.ff_avi.specs.declared.head.AviHead.{AviHead}
 use Rattle.ff_avi.specs.declared.cut.AviCut.{AviCut}
-use Rattle.ff_avi.specs.laws.Chains.{packets_in, broken_at, units}
+use Rattle.ff_avi.specs.Chains.{packets_in, broken_at, units}
 use Rattle.ff_avi.specs.laws.Cuts.{Cuts, has_ended, waiting_in, place_of, Feeds, KeepsCut, GivesUnit, GaveAll, Tells}
 use Rattle.ff_node_demux.proofs.DemuxSteps.{drop-append, drop_nil}
 use Rattle.ff_node_avi.specs.Reading.{Lies, IsFed, Stays, Reaches, Closes, reach_of, IsNearer, body}

@@ -15,8 +15,8 @@ use Rattle.ff_net.specs.Pasts.{Past, Task, Feed}
 use Rattle.ff_net.specs.Ways.{Flow}
 use Rattle.ff_avi.specs.declared.head.AviHead.{AviHead}
 use Rattle.ff_avi.specs.declared.cut.AviCut.{AviCut}
-use Rattle.ff_avi.specs.laws.Sound.{IsHead, streams_with}
-use Rattle.ff_avi.specs.laws.Chains.{Chain, packets_in, broken_at, units}
+use Rattle.ff_avi.specs.Sound.{IsHead, streams_with}
+use Rattle.ff_avi.specs.Chains.{Chain, packets_in, broken_at, units}
 use Rattle.ff_node_demux.specs.Demuxing.{passes_in_demux, mark_at, damage_at}
 use Rattle.ff_node_demux.specs.Exiting.{exits}
 use Rattle.ff_node_avi.specs.declared.ports.AviPorts.{AviPorts}

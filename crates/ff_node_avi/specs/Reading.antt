@@ -3,7 +3,7 @@ use Rattle.std.specs.Prelude.{◌≡◌, ◌-◌, ℕ, ◌+◌, ◌<◌, ◌≤�
 use Rattle.ff_frame.specs.declared.packet.Pkt.{Pkt}
 use Rattle.ff_avi.specs.declared.head.AviHead.{AviHead}
 use Rattle.ff_avi.specs.declared.cut.AviCut.{AviCut}
-use Rattle.ff_avi.specs.laws.Chains.{packets_in, broken_at, units}
+use Rattle.ff_avi.specs.Chains.{packets_in, broken_at, units}
 use Rattle.ff_avi.specs.laws.Cuts.{Cuts, has_ended, place_of, waiting_in}
 
 -- the data of a file with this head

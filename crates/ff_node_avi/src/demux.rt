@@ -82,7 +82,7 @@ fn kept_past(waiting: Option<(usize, Pkt)>, port: usize) -> Option<(usize, Pkt)>
 }
 
 impl<S: Source + Drop> AviDemux<S> {
-    ghost use Rattle.ff_avi.specs.laws.Sound.{IsHead};
+    ghost use Rattle.ff_avi.specs.Sound.{IsHead};
     ghost use Rattle.ff_net.specs.Pasts.{start};
     ghost use Rattle.std.specs.Prelude.{map};
     ghost use Rattle.ff_stream.specs.declared.item.Lane.TheVariants.{Packets};

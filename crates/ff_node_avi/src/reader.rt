@@ -3,7 +3,7 @@ ghost use Rattle.std.specs.Prelude.{◌≡◌, ◌+◌, ◌-◌, ◌≤◌, ◌<
 ghost use Rattle.std.specs.Io.KnownBytes.{Keeps};
 ghost use Rattle.ff_frame.specs.declared.packet.Pkt.{Pkt};
 ghost use Rattle.ff_host.specs.Causes.{HasCauseOf};
-ghost use Rattle.ff_avi.specs.laws.Sound.{IsHead};
+ghost use Rattle.ff_avi.specs.Sound.{IsHead};
 ghost use Rattle.ff_avi.specs.laws.Cuts.{has_ended, room_in, Feeds, KeepsCut};
 ghost use Rattle.ff_input.specs.laws.Reading.{piece_size};
 ghost use Rattle.ff_node_avi.specs.Reading.{Lies, IsFed, IsNearer, Stays, Reaches, Closes};

@@ -8,7 +8,7 @@ use Rattle.ff_reader.specs.declared.fault.HeadFault.{HeadFault}
 use Rattle.ff_reader.specs.declared.fault.HeadFault.TheVariants.{Damaged, Unsupported}
 use Rattle.ff_y4m.specs.Numbers.{euclid, lowest, base_of}
 use Rattle.ff_y4m.proofs.NumberLaws.{base_is}
-use Rattle.ff_avi.specs.laws.Streams.{base_in}
+use Rattle.ff_avi.specs.Streams.{base_in}
 
 -- what the four tests say
 abbrev told_in : ℕ → Fraction → Bool → Bool → Bool → Bool → Result Fraction HeadFault

@@ -2,8 +2,8 @@
 use Rattle.std.specs.Prelude.{◌≡◌, ℕ, ◌==◌, Bool, if◌then◌else◌, List, [], ◌∷◌}
 use Rattle.std.specs.List.{list_any}
 use Rattle.ff_avi.specs.declared.head.AviHead.{AviHead}
-use Rattle.ff_avi.specs.laws.Chains.{Chain, units}
-use Rattle.ff_avi.specs.laws.Chains.Chain.{whole, broken, gives}
+use Rattle.ff_avi.specs.Chains.{Chain, units}
+use Rattle.ff_avi.specs.Chains.Chain.{whole, broken, gives}
 
 -- a stream is among those used
 abbrev pub is_in : List ℕ → ℕ → Bool

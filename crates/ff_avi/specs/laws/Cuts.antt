@@ -7,9 +7,9 @@ use Rattle.ff_reader.specs.Cutters.{IsRest}
 use Rattle.ff_avi.specs.declared.head.AviHead.{AviHead}
 use Rattle.ff_avi.specs.declared.data.Turn.TheVariants.{Wait}
 use Rattle.ff_avi.specs.declared.cut.AviCut.{AviCut}
-use Rattle.ff_avi.specs.laws.Data.{turn}
-use Rattle.ff_avi.specs.laws.Chains.{Chain, packets_in, broken_at, chain_from, units}
-use Rattle.ff_avi.specs.laws.Chains.Chain.{gives}
+use Rattle.ff_avi.specs.Data.{turn}
+use Rattle.ff_avi.specs.Chains.{Chain, packets_in, broken_at, chain_from, units}
+use Rattle.ff_avi.specs.Chains.Chain.{gives}
 
 -- whether the input ended
 abbrev pub has_ended : AviCut → Bool

@@ -1,9 +1,9 @@
 -- What the chunks and lists owe to the reading of heads.
 use Rattle.std.proofs.Common.{[], ◌∷◌, ◌++◌, refl, arith, length-append, lit<}
 use Rattle.ff_reader.specs.Walks.{IsGrammar, DamagesBefore}
-use Rattle.ff_avi.specs.laws.Heads.{grammar}
-use Rattle.ff_avi.specs.laws.Lists.{unit}
-use Rattle.ff_avi.specs.laws.Sound.{IsKnown}
+use Rattle.ff_avi.specs.Heads.{grammar}
+use Rattle.ff_avi.specs.Lists.{unit}
+use Rattle.ff_avi.specs.Sound.{IsKnown}
 use Rattle.ff_avi.specs.laws.ListLaws.{unit_settles, unit_near}
 
 damaged_before : DamagesBefore unit

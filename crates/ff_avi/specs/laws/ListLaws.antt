@@ -8,8 +8,8 @@ use Rattle.ff_reader.specs.declared.step.Step.TheVariants.{Wait, Decide, Skip}
 use Rattle.ff_wav.specs.Chunks.{number_32}
 use Rattle.ff_wav.specs.laws.ChunkLaws.{front_32}
 use Rattle.ff_avi.specs.declared.head.AviState.{AviState}
-use Rattle.ff_avi.specs.laws.Streams.{padded, word, Told}
-use Rattle.ff_avi.specs.laws.Lists.{AviStep, rest_of, passed, with_stream, after_stream, data_list, outer_list, inner_list, unit}
+use Rattle.ff_avi.specs.Streams.{padded, word, Told}
+use Rattle.ff_avi.specs.Lists.{AviStep, rest_of, passed, with_stream, after_stream, data_list, outer_list, inner_list, unit}
 use Rattle.ff_avi.specs.laws.StreamLaws.{Settles, settles_decided, settles_if, settles_wait, front_word, not_less, stream_settles, IsNear, stream_near}
 
 rest_same : (bs more : List ℕ) → 8 ≤ length bs → rest_of bs ≡ rest_of (bs ++ more)

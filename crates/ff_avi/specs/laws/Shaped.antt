@@ -5,8 +5,8 @@ use Rattle.ff_frame.specs.declared.packet.Pkt.{Pkt}
 use Rattle.ff_avi.specs.declared.head.AviHead.{AviHead}
 use Rattle.ff_avi.specs.declared.lane.Lane.{Lane}
 use Rattle.ff_avi.specs.declared.lane.Lanes.{Lanes}
-use Rattle.ff_avi.specs.laws.Lanes.{lanes_of}
-use Rattle.ff_avi.specs.laws.Chains.{packets_in, units}
+use Rattle.ff_avi.specs.Lanes.{lanes_of}
+use Rattle.ff_avi.specs.Chains.{packets_in, units}
 
 -- one picture at this time or later: all its samples, for one tick
 pub record IsPicture (lane : Lane) (from stream : ℕ) (p : Pkt) : Type 0 where

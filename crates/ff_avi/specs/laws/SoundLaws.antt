@@ -19,10 +19,10 @@ use Rattle.ff_wav.specs.laws.SoundLaws.{format_fine}
 use Rattle.ff_avi.specs.declared.head.AviState.{AviState}
 use Rattle.ff_avi.specs.declared.kind.StreamKind.{StreamKind}
 use Rattle.ff_avi.specs.declared.kind.StreamKind.TheVariants.{Video, Audio}
-use Rattle.ff_avi.specs.laws.Streams.{padded, word, is_pictures, is_sound, has_pictures, has_sound, base_in, video_kind, header_of, Told, pictures_of, pictures_in}
-use Rattle.ff_avi.specs.laws.Streams.{told_by, format_in, format_place, behind_header, stream_in}
-use Rattle.ff_avi.specs.laws.Lists.{AviStep, rest_of, passed, with_stream, after_stream, data_list, outer_list, inner_list, unit}
-use Rattle.ff_avi.specs.laws.Sound.{IsStream, AreApart, IsHead, IsKnown}
+use Rattle.ff_avi.specs.Streams.{padded, word, is_pictures, is_sound, has_pictures, has_sound, base_in, video_kind, header_of, Told, pictures_of, pictures_in}
+use Rattle.ff_avi.specs.Streams.{told_by, format_in, format_place, behind_header, stream_in}
+use Rattle.ff_avi.specs.Lists.{AviStep, rest_of, passed, with_stream, after_stream, data_list, outer_list, inner_list, unit}
+use Rattle.ff_avi.specs.Sound.{IsStream, AreApart, IsHead, IsKnown}
 use Rattle.ff_avi.specs.laws.BaseLaws.{base_sound}
 use Rattle.ff_avi.specs.laws.StreamLaws.{not_less}
 

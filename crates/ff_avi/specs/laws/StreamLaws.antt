@@ -15,8 +15,8 @@ use Rattle.ff_wav.specs.laws.ChunkLaws.{front_32, format_settles, format_here}
 use Rattle.ff_avi.specs.declared.head.AviState.{AviState}
 use Rattle.ff_avi.specs.declared.kind.StreamKind.{StreamKind}
 use Rattle.ff_avi.specs.declared.kind.StreamKind.TheVariants.{Video, Audio}
-use Rattle.ff_avi.specs.laws.Streams.{word, has_pictures, has_sound, base_in, video_kind, header_of, Told, pictures_of, pictures_in, told_by, format_in, format_place}
-use Rattle.ff_avi.specs.laws.Streams.{behind_header, stream_in}
+use Rattle.ff_avi.specs.Streams.{word, has_pictures, has_sound, base_in, video_kind, header_of, Told, pictures_of, pictures_in, told_by, format_in, format_place}
+use Rattle.ff_avi.specs.Streams.{behind_header, stream_in}
 use Rattle.ff_avi.specs.laws.BaseLaws.{base_undamaged}
 
 -- the first waits, or is the second

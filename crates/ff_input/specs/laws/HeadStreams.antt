@@ -4,7 +4,7 @@ use Rattle.std.specs.List.{AllByRecursion}
 use Rattle.std.proofs.Common.{inl, inr}
 use Rattle.ff_frame.specs.declared.head.StreamHead.{StreamHead}
 use Rattle.ff_frame.specs.declared.head.StreamHead.TheVariants.{Audio, Video}
-use Rattle.ff_avi.specs.laws.Sound as avi
+use Rattle.ff_avi.specs.Sound as avi
 use Rattle.ff_input.specs.declared.one_of.OneOf.TheVariants.{First, Other}
 use Rattle.ff_input.specs.Formats.{InputHead, IsHead, single_owes, streams_in}
 use Rattle.ff_input.specs.laws.Streams.{IsInputStream}

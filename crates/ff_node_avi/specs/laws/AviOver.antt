@@ -9,7 +9,7 @@ use Rattle.ff_net.specs.declared.fault.Fault.{Fault}
 use Rattle.ff_net.specs.laws.Laws.{IsPending}
 use Rattle.ff_net.specs.Pasts.{Past, IsIn}
 use Rattle.ff_avi.specs.declared.cut.AviCut.{AviCut}
-use Rattle.ff_avi.specs.laws.Sound.{streams_with}
+use Rattle.ff_avi.specs.Sound.{streams_with}
 use Rattle.ff_node_avi.specs.declared.ports.AviPorts.{AviPorts}
 use Rattle.ff_node_avi.specs.declared.demux.Port.{Port}
 use Rattle.ff_node_avi.specs.Demuxing.{ports_of, heads_of, number_of, DemuxStands, mark_of}

@@ -3,7 +3,7 @@ use Rattle.std.specs.Prelude.{◌≡◌, ◌⊎◌, ℕ, ◌+◌, ◌-◌, ◌�
 use Rattle.std.specs.Io.KnownBytes.{Consumes}
 use Rattle.ff_avi.specs.declared.head.AviHead.{AviHead}
 use Rattle.ff_avi.specs.declared.cut.AviCut.{AviCut}
-use Rattle.ff_avi.specs.laws.Chains.{packets_in, units}
+use Rattle.ff_avi.specs.Chains.{packets_in, units}
 use Rattle.ff_avi.specs.laws.Cuts.{Cuts, IsPart}
 use Rattle.ff_input.specs.laws.Reading.{piece_size}
 use Rattle.ff_node_avi.specs.declared.reader.ReadEnd.{ReadEnd}

@@ -25,11 +25,11 @@ use Rattle.ff_stream.specs.laws.WithinLaws.{before_pass-prefix}
 use Rattle.ff_avi.specs.declared.head.AviHead.{AviHead}
 use Rattle.ff_avi.specs.declared.lane.Lane.{Lane}
 use Rattle.ff_avi.specs.declared.lane.Lanes.{Lanes}
-use Rattle.ff_avi.specs.laws.Lanes.{picture_size, size_of, lane_with, lanes_of}
-use Rattle.ff_avi.specs.laws.Sound.{IsHead, IsStream, AreApart, streams_with, streams_of}
+use Rattle.ff_avi.specs.Lanes.{picture_size, size_of, lane_with, lanes_of}
+use Rattle.ff_avi.specs.Sound.{IsHead, IsStream, AreApart, streams_with, streams_of}
 use Rattle.ff_avi.specs.laws.Shaped.{IsPicture, IsSound, AreShaped}
 use Rattle.ff_avi.proofs.ShapedLaws.{packets_are_shaped}
-use Rattle.ff_avi.specs.laws.Chains.{packets_in}
+use Rattle.ff_avi.specs.Chains.{packets_in}
 use Rattle.ff_input.specs.laws.Shapes.{all_first}
 use Rattle.ff_node_demux.specs.Demuxing.{passes_in_demux, last_byte}
 use Rattle.ff_node_avi.specs.declared.ports.AviPorts.{AviPorts}

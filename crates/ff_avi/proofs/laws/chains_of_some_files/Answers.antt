@@ -1,5 +1,5 @@
 use Rattle.std.proofs.Common.{refl}
-use Rattle.ff_avi.specs.laws.Data.{turn, chunk, picture, samples}
+use Rattle.ff_avi.specs.Data.{turn, chunk, picture, samples}
 use Rattle.ff_avi.proofs.laws.chains_of_some_files.Goals as goal
 
 pub returns-clause-whole : goal.returns-clause-whole

@@ -2,8 +2,8 @@ use Rattle.std.proofs.Common.{refl}
 use Rattle.ff_reader.specs.Heads.{head as head_of}
 use Rattle.ff_reader.specs.Walks.{reading}
 use Rattle.ff_y4m.specs.Numbers.{lowest}
-use Rattle.ff_avi.specs.laws.Lists.{unit, passed, outer_list, inner_list}
-use Rattle.ff_avi.specs.laws.Streams.{stream_in, header_of, base_in, pictures_in, pictures_of}
+use Rattle.ff_avi.specs.Lists.{unit, passed, outer_list, inner_list}
+use Rattle.ff_avi.specs.Streams.{stream_in, header_of, base_in, pictures_in, pictures_of}
 use Rattle.ff_avi.proofs.laws.heads_of_some_files.Goals as goal
 
 pub returns-clause-size : goal.returns-clause-size

@@ -3,7 +3,7 @@ use Rattle.std.specs.Prelude.{◌≡◌, ◌⊎◌, ℕ, zero, suc, List, [], �
 use Rattle.std.proofs.Common.{arith, inl, inr, ap, subst, sym}
 use Rattle.ff_frame.specs.declared.head.StreamHead.{StreamHead}
 use Rattle.ff_avi.specs.declared.head.AviHead.{AviHead}
-use Rattle.ff_avi.specs.laws.Sound.{streams_of, streams_with}
+use Rattle.ff_avi.specs.Sound.{streams_of, streams_with}
 use Rattle.ff_node_avi.specs.Demuxing as avi
 use Rattle.ff_node_avi.specs.Demuxing.{heads_of, ports_of}
 use Rattle.ff_input.specs.Formats.{InputHead, SingleHead, single_cutter, streams_in}

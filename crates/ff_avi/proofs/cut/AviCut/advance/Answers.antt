@@ -1,7 +1,7 @@
 use Rattle.std.proofs.Common.{◌≡◌, refl, sym, arith}
 use Rattle.ff_frame.specs.declared.cut.Cut.TheVariants.{Broken as BrokenAt, Pkt as Packet}
 use Rattle.ff_avi.specs.declared.data.Turn.TheVariants.{Broken}
-use Rattle.ff_avi.specs.laws.Data.{turn}
+use Rattle.ff_avi.specs.Data.{turn}
 use Rattle.ff_avi.proofs.CutLaws.{stays, broken_here, told_so, then_tells, passed_at}
 use Rattle.ff_avi.proofs.cut.AviCut.advance.Goals as goal
 

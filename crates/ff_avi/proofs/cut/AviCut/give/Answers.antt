@@ -1,6 +1,6 @@
 use Rattle.std.proofs.Common.{◌≡◌, ◌∙◌, ◌+◌, ap, arith, pos, refl}
 use Rattle.ff_frame.specs.Packet.{packet_at}
-use Rattle.ff_avi.specs.laws.Data.{packet_of}
+use Rattle.ff_avi.specs.Data.{packet_of}
 use Rattle.ff_avi.proofs.CutLaws.{unit_given, packet_near}
 use Rattle.ff_avi.proofs.cut.AviCut.give.Goals as goal
 

@@ -12,8 +12,8 @@ use Rattle.ff_avi.specs.declared.data.DataState.{DataState}
 use Rattle.ff_avi.specs.declared.data.DataUnit.{DataUnit}
 use Rattle.ff_avi.specs.declared.data.Turn.{Turn}
 use Rattle.ff_avi.specs.declared.data.Turn.TheVariants.{Wait, Broken, Pass, Give}
-use Rattle.ff_avi.specs.laws.Streams.{word, chunk_size}
-use Rattle.ff_avi.specs.laws.Lists.{list_type}
+use Rattle.ff_avi.specs.Streams.{word, chunk_size}
+use Rattle.ff_avi.specs.Lists.{list_type}
 
 -- the id of a chunk of a stream's data: the two digits of its number, and two letters
 abbrev pub data_id : Lane → List ℕ → List ℕ

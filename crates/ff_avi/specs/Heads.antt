@@ -5,7 +5,7 @@ use Rattle.ff_reader.specs.Heads as heads
 use Rattle.ff_reader.specs.Walks as walks
 use Rattle.ff_avi.specs.declared.head.AviHead.{AviHead}
 use Rattle.ff_avi.specs.declared.head.AviState.{AviState}
-use Rattle.ff_avi.specs.laws.Lists.{unit}
+use Rattle.ff_avi.specs.Lists.{unit}
 
 -- a head, or the fault for which there is none
 abbrev pub Found : Type 0

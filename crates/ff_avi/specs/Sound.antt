@@ -9,7 +9,7 @@ use Rattle.ff_frame.specs.declared.video.Format.TheVariants.{C420}
 use Rattle.ff_pcm.specs.body.Packets.{IsPcmSound}
 use Rattle.ff_avi.specs.declared.head.AviHead.{AviHead}
 use Rattle.ff_avi.specs.declared.head.AviState.{AviState}
-use Rattle.ff_avi.specs.laws.Streams.{is_pictures}
+use Rattle.ff_avi.specs.Streams.{is_pictures}
 
 -- pictures of 4:2:0, 1 to 16,384 columns and rows
 pub record ArePictures (base : Fraction) (format : Format) (width height : ℕ) : Type 0 where

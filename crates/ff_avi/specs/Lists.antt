@@ -8,7 +8,7 @@ use Rattle.ff_reader.specs.declared.step.Step.TheVariants.{Wait, Decide, Skip}
 use Rattle.ff_wav.specs.Chunks.{number_32}
 use Rattle.ff_avi.specs.declared.head.AviHead.{AviHead}
 use Rattle.ff_avi.specs.declared.head.AviState.{AviState}
-use Rattle.ff_avi.specs.laws.Streams.{padded, word, chunk_size, Told, stream_in}
+use Rattle.ff_avi.specs.Streams.{padded, word, chunk_size, Told, stream_in}
 
 -- what a chunk or list does to the reading of a head
 abbrev pub AviStep : Type 0

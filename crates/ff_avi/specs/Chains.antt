@@ -5,8 +5,8 @@ use Rattle.ff_avi.specs.declared.head.AviHead.{AviHead}
 use Rattle.ff_avi.specs.declared.lane.Lanes.{Lanes}
 use Rattle.ff_avi.specs.declared.data.DataState.{DataState}
 use Rattle.ff_avi.specs.declared.data.Turn.TheVariants.{Wait, Broken, Pass, Give}
-use Rattle.ff_avi.specs.laws.Lanes.{lanes_of}
-use Rattle.ff_avi.specs.laws.Data.{turn, packet_of}
+use Rattle.ff_avi.specs.Lanes.{lanes_of}
+use Rattle.ff_avi.specs.Data.{turn, packet_of}
 
 -- packets, each with the number of its stream, and then an end: a whole one, or a break at an offset of the input
 pub data Chain : Type 0 where
