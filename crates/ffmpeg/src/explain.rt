@@ -11,6 +11,7 @@
 //! text: what is proved is that every function is safe. `-v` says whether a fault is told at all (`level`).
 
 mod au;
+mod avi;
 mod bytes;
 mod fault;
 mod filter;

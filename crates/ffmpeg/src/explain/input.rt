@@ -1,5 +1,6 @@
 //! An input that isn't read, or that breaks its format.
 use crate::explain::au::tell_au_field;
+use crate::explain::avi::tell_avi_field;
 use crate::explain::bytes::{stands, tell_bytes};
 use crate::explain::flac::tell_flac_field;
 use crate::explain::line::CommandLine;
@@ -74,7 +75,9 @@ fn tell_no_format(told: &mut Told, line: &CommandLine, known: Known) {
 
 // Tells the field of a head at an offset, by the format whose first bytes the input has, and answers whether it could.
 fn tell_field(told: &mut Told, front: &[u8], at: usize) -> bool {
-    if stands(front, 0, b"RIFF") || stands(front, 0, b"RF64") {
+    if stands(front, 0, b"RIFF") && stands(front, 8, b"AVI ") {
+        tell_avi_field(told, front, at)
+    } else if stands(front, 0, b"RIFF") || stands(front, 0, b"RF64") {
         tell_wav_field(told, front, at)
     } else if stands(front, 0, b".snd") {
         tell_au_field(told, front, at)
@@ -134,7 +137,12 @@ pub(crate) fn tell_damaged(told: &mut Told, line: &CommandLine, known: Known, be
     tell_name(told, line, known.input);
     told.text(" is damaged: ");
     if begun {
-        tell_between(told, "no whole frame begins at offset ", known.offset, "");
+        let part = if stands(known.front.unwrap_or(&[]), 0, b"RIFF") {
+            "no whole chunk begins at offset "
+        } else {
+            "no whole frame begins at offset "
+        };
+        tell_between(told, part, known.offset, "");
     } else {
         tell_at_offset(told, known);
     }

@@ -18,8 +18,9 @@ fn format_chunk(front: &[u8]) -> Option<usize> {
     None
 }
 
-// A field of `fmt `, so many bytes behind its begin: how many bytes it has, what it is, and what of it is read.
-fn field(place: usize) -> Option<(usize, &'static str, &'static str)> {
+/// A field of `fmt `, so many bytes behind its begin: how many bytes it has, what it is, and what of it is read. An AVI's
+/// audio has the same.
+pub(crate) fn sound_field(place: usize) -> Option<(usize, &'static str, &'static str)> {
     match place {
         8 => Some((
             2,
@@ -52,7 +53,7 @@ fn chunk(front: &[u8], at: usize) -> Option<&'static str> {
 // The field of `fmt ` at an offset with its number: what it is, the number, and what of it is read.
 fn numbered(front: &[u8], at: usize) -> Option<(&'static str, u64, &'static str)> {
     let place = at.checked_sub(format_chunk(front)?)?;
-    let (size, what, read) = field(place)?;
+    let (size, what, read) = sound_field(place)?;
     Some((what, low_first(front, at, size)?, read))
 }
 
