@@ -3,7 +3,7 @@ use Rattle.std.proofs.Common.{◌≡◌, ℕ, ◌+◌, ◌≤◌, true, List, []
 use Rattle.std.specs.Prelude.{Bool, false, ◌&&◌, Option}
 use Rattle.ff_format.specs.Formats.{same_order, signed_so, taken_by, takes_coding}
 use Rattle.ff_format.specs.Layouts.{Layout, bytes_in, finished}
-use Rattle.ff_format.specs.Outputs.{OutputFormat, WritesTaken, of_one}
+use Rattle.ff_format.specs.Outputs.{OutputFormat, WritesTaken, of_one_patched}
 use Rattle.ff_format.specs.declared.format.FileFormat.TheVariants as format
 use Rattle.ff_frame.specs.Codecs.{coding_of}
 use Rattle.ff_frame.specs.declared.coding.ByteOrder.{ByteOrder}
@@ -51,7 +51,7 @@ au_taken RawVideo rate e = cc
 
 -- one stream of AU's linear PCM
 abbrev pub au_format : OutputFormat
-au_format = of_one IsAuCoded au_layout
+au_format = of_one_patched IsAuCoded au_layout
 
 -- and it can write what its row takes
 pub au_writes : WritesTaken (taken_by format.Au) au_format

@@ -1,5 +1,5 @@
 -- What a format writes, and by it the file of some packets, in any format.
-use Rattle.std.specs.Prelude.{ℕ, ◌<◌, nat_le, Bool, true, if◌then◌else◌, List, ◌++◌, length, Option, Some, None}
+use Rattle.std.specs.Prelude.{◌≡◌, ℕ, ◌<◌, nat_le, Bool, true, false, if◌then◌else◌, List, [], ◌++◌, length, Option, Some, None}
 use Rattle.std.specs.List.{flat_map}
 use Rattle.ff_host.specs.Files.{patched}
 use Rattle.ff_frame.specs.declared.packet.Pkt.{Pkt}
@@ -17,6 +17,20 @@ pub record Layout : Type 0 where
   pub last : ℕ → Option Totals → Option (ℕ × List ℕ)
   -- the most bytes of packets
   pub longest : Option ℕ
+
+-- where it is a stream, no byte can be replaced: the same header and packets, with nothing behind them and no limit
+abbrev pub streamed_of : Bool → Layout → Layout
+streamed_of true layout = record { header = layout.header; text = layout.text; tail = λ packets. []; last = λ n totals. None; longest = None }
+streamed_of false layout = layout
+
+-- a header and the packets as they stand
+abbrev pub stream_of : List ℕ → Layout
+stream_of header = record { header = header; text = λ stream packet. packet.bytes; tail = λ packets. []; last = λ n totals. None; longest = None }
+
+-- its bytes can be written in order, however many there are
+pub record IsStreamed (layout : Layout) : Type 0 where
+  pub unpatched : (n : ℕ) (totals : Option Totals) → layout.last n totals ≡ None
+  pub unbounded : layout.longest ≡ None
 
 -- more bytes of packets than that
 abbrev pub IsBeyond : Option ℕ → ℕ → Type 0
@@ -53,3 +67,8 @@ fits (Some most) n = nat_le n most
 abbrev pub finished : Layout → Option Totals → List (ℕ × Pkt) → Option (List ℕ)
 finished layout totals packets =
     if fits layout.longest (length (body layout packets)) then Some (with_last (layout.last (length (body layout packets)) totals) (text_of layout packets)) else None
+
+-- The finished file of a stream is its header and the packets, however many.
+abbrev pub StreamsArePackets : Type 0
+StreamsArePackets = (layout : Layout) (totals : Option Totals) (packets : List (ℕ × Pkt))
+    → finished (streamed_of true layout) totals packets ≡ Some (layout.header ++ body layout packets)

@@ -7,7 +7,7 @@ use Rattle.ff_frame.specs.declared.head.StreamHead.{StreamHead}
 use Rattle.ff_frame.specs.declared.head.StreamHead.TheVariants.{Audio, Video}
 use Rattle.ff_frame.specs.declared.video.Format.{Format}
 use Rattle.ff_format.specs.Formats.{takes_sound}
-use Rattle.ff_format.specs.Layouts.{Layout}
+use Rattle.ff_format.specs.Layouts.{Layout, streamed_of}
 use Rattle.ff_format.specs.declared.format.OutputOptions.{OutputOptions}
 use Rattle.ff_format.specs.declared.format.Taken.{Taken}
 
@@ -35,6 +35,10 @@ pub record OutputFormat : Type 1 where
 -- a format of one stream alone
 abbrev pub of_one : (StreamHead → Type 0) → (StreamHead → Layout) → OutputFormat
 of_one Takes layout = record { CanWrite = IsAlone Takes; layout = λ options heads. layout_of_first layout heads }
+
+-- the same, where bytes of it are replaced unless it is a stream
+abbrev pub of_one_patched : (StreamHead → Type 0) → (StreamHead → Layout) → OutputFormat
+of_one_patched Takes layout = record { CanWrite = IsAlone Takes; layout = λ options heads. streamed_of options.streamed (layout_of_first layout heads) }
 
 -- ---- what it owes
 

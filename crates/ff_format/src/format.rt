@@ -305,4 +305,7 @@ pub struct OutputOptions {
     pub hash: HashKind,
     /// When it is RF64, where it is WAV.
     pub rf64: Rf64,
+    /// Whether it goes to a stream, which nothing can replace bytes of afterwards. Then it has its header as it is first
+    /// written, and WAV has no sizes and no pad byte; no body is too large.
+    pub streamed: bool,
 }

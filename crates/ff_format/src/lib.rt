@@ -16,5 +16,5 @@ mod laws;
 mod writer;
 
 pub use format::{FORMATS, FileFormat, OutputOptions, Rf64, SoundTaken, Taken};
-pub use laws::the_formats_are_as_defined;
+pub use laws::{streams_are_packets, the_formats_are_as_defined};
 pub use writer::{Patch, TooLarge, Writer};

@@ -1,1 +1,2 @@
 pub mod FinishedLaws
+pub mod StreamLaws

@@ -25,5 +25,5 @@ pub use writers::{
     AnyWriter, CrcWriter, FlacWriter, HashWriter, JoinedWriter, NullWriter, RawWriter,
     StreamsWriter, SumWriter, finished_crcs_are_texts, finished_digests_are_texts,
     finished_flacs_are_streams, finished_hashes_are_texts, finished_raw_is_packets,
-    null_writes_nothing, writer_of, written_flacs_are_read_again,
+    null_writes_nothing, streams_are_streamed, writer_of, written_flacs_are_read_again,
 };

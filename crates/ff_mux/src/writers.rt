@@ -20,7 +20,7 @@ pub use frame_crc::CrcWriter;
 pub use frame_hash::HashWriter;
 pub use laws::{
     finished_crcs_are_texts, finished_digests_are_texts, finished_flacs_are_streams,
-    finished_hashes_are_texts, finished_raw_is_packets, null_writes_nothing,
+    finished_hashes_are_texts, finished_raw_is_packets, null_writes_nothing, streams_are_streamed,
     written_flacs_are_read_again,
 };
 pub use null::NullWriter;

@@ -1,5 +1,5 @@
 -- What is written is read again.
-use Rattle.std.proofs.Common.{◌≡◌, ℕ, zero, suc, suc, ◌+◌, ◌-◌, ◌*◌, ◌/◌, ◌%◌, ◌^◌, ◌<◌, ◌≤◌, Bool, true, false, cond, List, [], ◌∷◌, ◌++◌, take, drop, length, Option, Some, None, Ok, refl, sym, ap, ◌∙◌, subst, arith, append_assoc, append-nil, length-append, inl, inr, ◌⊎◌, min, map, lit<, lit≤}
+use Rattle.std.proofs.Common.{◌≡◌, ℕ, zero, suc, suc, ◌+◌, ◌-◌, ◌*◌, ◌/◌, ◌%◌, ◌^◌, ◌<◌, ◌≤◌, Bool, true, false, cond, List, [], ◌∷◌, ◌++◌, take, drop, length, Option, Some, None, Ok, refl, sym, ap, ◌∙◌, subst, arith, append_assoc, append-nil, length-append, lit<, lit≤}
 use Rattle.std.specs.Option.{option_map}
 use Rattle.std.specs.Prelude.{◌==◌, ◌&&◌, ◌||◌, not, nat_le, nat_lt, codes, if◌then◌else◌}
 use Rattle.std.specs.Str.{bytes_eq}
@@ -16,7 +16,6 @@ use Rattle.ff_format.specs.declared.format.Rf64.{Rf64 as Mode}
 use Rattle.ff_format.specs.declared.format.Rf64.TheVariants.{Never, Auto, Always}
 use Rattle.ff_reader.specs.declared.step.Step.TheVariants.{Decide, Skip}
 use Rattle.ff_reader.specs.Walks.{Grammar, agrees, walk, walked, within, head_limit, reading as read_within}
-use Rattle.ff_reader.proofs.AgreeLaws.{bool_cases}
 use Rattle.ff_reader.proofs.AnswerLaws.{head_some}
 use Rattle.ff_reader.proofs.WalkLaws.{walk-drop}
 use Rattle.ff_reader.proofs.ReadingLaws.{reading_at}
@@ -28,16 +27,15 @@ use Rattle.ff_wav.specs.declared.header.HeaderForm.TheVariants.{Riff, RiffWithRo
 use Rattle.ff_wav.specs.declared.header.Sizes.{Sizes}
 use Rattle.ff_wav.specs.Limits.{longest_of, longest_riff}
 use Rattle.ff_wav.specs.Header.{le_16, le_32, le_64, is_plain, fields_of, pcm_guid, extension, riff, rf64, wave, format_id, data_id, junk_id, zeros, junk, ds64_id, ds64, all_ones, plain_format, long_format}
-use Rattle.ff_wav.specs.Header.{opening, data_size, room_of, header, header_len, header_of, sizes_in, file_size, form_of, HasRoom}
+use Rattle.ff_wav.specs.Header.{opening, data_size, room_of, header, header_len, header_of, first_form, sizes_in, file_size, form_of, HasRoom, streamed_header, streamed_sizes}
 use Rattle.std.proofs.Math.Seq.{drop-append_seam}
-use Rattle.std.specs.List.{range_with_len}
-use Rattle.std.proofs.Math.Nat.{one-le-mul, div-mul-le_self, mul-div_cancel, mul-le-mul_right, zero-mul}
-use Rattle.std.proofs.lemmas.List.{length-take, take-append-le, take_all, take-take}
+use Rattle.std.proofs.Math.Nat.{div-mul-le_self}
+use Rattle.std.proofs.lemmas.List.{take-append-le, take_all}
 use Rattle.ff_pcm.specs.declared.body.head.PcmHead.{PcmHead as WavHead}
 use Rattle.ff_wav.specs.Codecs.{IsWavCodec, IsWavCoded}
 use Rattle.ff_wav.specs.Heads.{riff_magic, rf64_magic, riff_grammar, rf64_grammar, is_rf64, reading, early}
-use Rattle.ff_pcm.specs.body.Packets.{IsPcmSound, IsStream, block_of, body, frames, packet_at, packet_count, packets_of, demuxed}
-use Rattle.ff_wav.specs.Written.{pad_of, len_in, says, HeadersAreRead, FilesAreRead, BodiesAreRead, wav_container}
+use Rattle.ff_pcm.specs.body.Packets.{IsPcmSound, IsStream, block_of, body, packets_of, demuxed}
+use Rattle.ff_wav.specs.Written.{pad_of, len_in, says, HeadersAreRead, FilesAreRead, BodiesAreRead, StreamsAreRead, wav_container, streamed_container}
 use Rattle.ff_wav.proofs.FormatBytes.{word_32, word_64, plain_chunk, plain_length, plain_named, plain_other, plain_size, plain_tag, plain_channels, plain_rate, plain_block, plain_bits, long_chunk, long_length, long_named, long_other, long_size, long_tag, long_kind, long_channels, long_rate, long_block, long_bits}
 use Rattle.ff_pcm.specs.laws.body.Written.{BodiesComeBack, SamplesComeBack}
 use Rattle.ff_pcm.proofs.BodyLemmas.SamplesBack.{samples_come_back}
@@ -560,3 +558,33 @@ bodies_back mode head body h taken held = record {
 
 pub samples : (mode : Mode) → SamplesComeBack (wav_container mode)
 samples mode = samples_come_back (wav_container mode) (bodies_back mode)
+
+-- ---- a stream
+
+streamed_room : (mode : Mode) → HasRoom (first_form mode) (streamed_sizes mode)
+streamed_room Never = (lit< tt, lit< tt)
+streamed_room Auto = (lit< tt, lit< tt)
+streamed_room Always = (lit< tt, lit< tt)
+
+-- its size says: to the end
+to_the_end : (mode : Mode) → len_in (first_form mode) (streamed_sizes mode).body ≡ None
+to_the_end Never = refl
+to_the_end Auto = refl
+to_the_end Always = refl
+
+pub streams : StreamsAreRead
+streams mode head body h w =
+    headers (first_form mode) head (streamed_sizes mode) body h w (streamed_room mode)
+    ∙ ap (λ o. Ok (record { head = head; start = header_len (first_form mode) head; len = o })) (to_the_end mode)
+
+streamed_back : (mode : Mode) → BodiesComeBack (streamed_container mode)
+streamed_back mode head body h taken held = record {
+  found = record { head = head; start = header_len (first_form mode) head; len = None };
+  is_read = streams mode head body h taken;
+  same_stream = refl;
+  same_packets = ap (λ xs. packets_of (header_len (first_form mode) head) (block_of head) xs)
+      (past (streamed_header mode head) body (header_len (first_form mode) head) (header_length (first_form mode) head (streamed_sizes mode)));
+}
+
+pub streamed_samples : (mode : Mode) → SamplesComeBack (streamed_container mode)
+streamed_samples mode = samples_come_back (streamed_container mode) (streamed_back mode)

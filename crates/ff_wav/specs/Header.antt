@@ -151,6 +151,15 @@ first_form Always = Rf64
 abbrev pub first_header : Mode → StreamHead → List ℕ
 first_header mode head = header (first_form mode) head (record { file = 0; body = 0; frames = 0 })
 
+-- of a stream, whose sizes are never known: all ones in 32 bits, and 0 in 64 bits where it has them
+abbrev pub streamed_sizes : Mode → Sizes
+streamed_sizes Never = record { file = all_ones; body = all_ones; frames = 0 }
+streamed_sizes Auto = record { file = all_ones; body = all_ones; frames = 0 }
+streamed_sizes Always = record { file = 0; body = 0; frames = 0 }
+
+abbrev pub streamed_header : Mode → StreamHead → List ℕ
+streamed_header mode head = header (first_form mode) head (streamed_sizes mode)
+
 -- what a writer writes a header for, in which mode, and how many bytes of the body were counted
 abbrev pub written_head : WavPut → StreamHead
 written_head put = put.head

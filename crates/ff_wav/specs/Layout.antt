@@ -2,7 +2,7 @@
 use Rattle.std.proofs.Common.{◌≡◌, ℕ, ◌+◌, ◌≤◌, true, List, ◌++◌, length, Some, refl, sym, ◌∙◌, arith, length-append}
 use Rattle.std.specs.Prelude.{◌*◌, nat_le, Bool, false, ◌&&◌, if◌then◌else◌, Option}
 use Rattle.ff_format.specs.Formats.{same_order, signed_so, taken_by, takes_coding}
-use Rattle.ff_format.specs.Layouts.{Layout, bytes_in, finished}
+use Rattle.ff_format.specs.Layouts.{Layout, bytes_in, finished, stream_of}
 use Rattle.ff_format.specs.Outputs.{OutputFormat, WritesTaken, IsAlone, layout_of_first}
 use Rattle.ff_format.specs.declared.format.Rf64.{Rf64 as Mode}
 use Rattle.ff_format.specs.declared.format.Rf64.TheVariants.{Never, Auto, Always}
@@ -20,11 +20,11 @@ use Rattle.ff_frame.specs.declared.head.StreamHead.TheVariants.{Audio, Video}
 use Rattle.ff_frame.specs.declared.packet.Pkt.{Pkt}
 use Rattle.ff_frame.specs.declared.totals.Totals.{Totals}
 use Rattle.ff_wav.specs.Limits.{longest_of, longest_riff}
-use Rattle.ff_wav.specs.Header.{le_32, le_64, riff, rf64, wave, junk_id, zeros, junk, ds64_id, ds64, format_id, data_id, format_bytes, opening, data_size, header, header_of, first_header, sizes_in, file_size, all_ones}
+use Rattle.ff_wav.specs.Header.{le_32, le_64, riff, rf64, wave, junk_id, zeros, junk, ds64_id, ds64, format_id, data_id, format_bytes, opening, data_size, header, header_of, first_header, streamed_header, sizes_in, file_size, all_ones}
 use Rattle.ff_wav.specs.declared.header.HeaderForm.{HeaderForm}
 use Rattle.ff_wav.specs.declared.header.HeaderForm.TheVariants.{Riff, RiffWithRoom, Rf64}
 use Rattle.ff_wav.specs.declared.header.Sizes.{Sizes}
-use Rattle.ff_wav.specs.Written.{pad_of, file_of}
+use Rattle.ff_wav.specs.Written.{pad_of, file_of, streamed_file}
 
 -- a header without sizes, the packets as they stand, a byte 0 behind an odd number, and the header with its sizes
 abbrev pub wav_layout : Mode → StreamHead → Layout
@@ -35,6 +35,11 @@ wav_layout mode head = record {
   last = λ n totals. Some (0, header_of mode head n);
   longest = Some (longest_of mode);
 }
+
+-- to a stream: the header of one, and the packets as they stand
+abbrev pub wav_layout_in : Bool → Mode → StreamHead → Layout
+wav_layout_in true mode head = stream_of (streamed_header mode head)
+wav_layout_in false mode head = wav_layout mode head
 
 sign_taken : (depth : PcmDepth) (sign : Bool) → signed_so false depth sign ≡ true → IsWavSign depth sign
 sign_taken Bits8 true e = cc
@@ -58,7 +63,7 @@ wav_taken RawVideo rate e = cc
 
 -- one stream of WAV's linear PCM
 abbrev pub wav_format : OutputFormat
-wav_format = record { CanWrite = IsAlone IsWavCoded; layout = λ options heads. layout_of_first (wav_layout options.rf64) heads }
+wav_format = record { CanWrite = IsAlone IsWavCoded; layout = λ options heads. layout_of_first (wav_layout_in options.streamed options.rf64) heads }
 
 -- and it can write what its row takes
 pub wav_writes : WritesTaken (taken_by format.Wav) wav_format
@@ -72,6 +77,11 @@ wav_writes = record {
 abbrev pub WavsAreFiles : Type 0
 WavsAreFiles = (mode : Mode) (head : StreamHead) (totals : Option Totals) (packets : List (ℕ × Pkt)) → length (bytes_in packets) ≤ longest_of mode
     → finished (wav_layout mode head) totals packets ≡ Some (file_of mode head (bytes_in packets))
+
+-- That of a stream is its header and the packets, however many.
+abbrev pub StreamedWavsAreFiles : Type 0
+StreamedWavsAreFiles = (mode : Mode) (head : StreamHead) (totals : Option Totals) (packets : List (ℕ × Pkt))
+    → finished (wav_layout_in true mode head) totals packets ≡ Some (streamed_file mode head (bytes_in packets))
 
 -- ---- headers with other sizes
 

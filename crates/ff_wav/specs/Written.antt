@@ -1,5 +1,5 @@
 -- A whole file as a writer leaves it, and what is read of it.
-use Rattle.std.specs.Prelude.{◌≡◌, ℕ, ◌%◌, ◌==◌, ◌≤◌, if◌then◌else◌, Option, None, List, [], ◌∷◌, ◌++◌, drop, length, Ok}
+use Rattle.std.specs.Prelude.{◌≡◌, ⊤, ℕ, ◌%◌, ◌==◌, ◌≤◌, if◌then◌else◌, Option, None, List, [], ◌∷◌, ◌++◌, drop, length, Ok}
 use Rattle.ff_format.specs.declared.format.Rf64.{Rf64 as Mode}
 use Rattle.ff_frame.specs.declared.head.StreamHead.{StreamHead}
 use Rattle.ff_pcm.specs.declared.body.head.PcmHead.{PcmHead as WavHead}
@@ -7,7 +7,7 @@ use Rattle.ff_wav.specs.Chunks.{body_len, large_len}
 use Rattle.ff_wav.specs.Codecs.{IsWavCoded}
 use Rattle.ff_wav.specs.Heads.{head as head_read}
 use Rattle.ff_wav.specs.Limits.{longest_of}
-use Rattle.ff_wav.specs.Header.{header, header_of, header_len, form_of, HasRoom}
+use Rattle.ff_wav.specs.Header.{header, header_of, header_len, first_form, form_of, streamed_header, HasRoom}
 use Rattle.ff_wav.specs.declared.header.HeaderForm.{HeaderForm}
 use Rattle.ff_wav.specs.declared.header.HeaderForm.TheVariants.{Riff, RiffWithRoom, Rf64}
 use Rattle.ff_wav.specs.declared.header.Sizes.{Sizes}
@@ -21,6 +21,10 @@ pad_of size = if size % 2 == 1 then 0 ∷ [] else []
 -- the header, the body and its pad byte
 abbrev pub file_of : Mode → StreamHead → List ℕ → List ℕ
 file_of mode head body = header_of mode head (length body) ++ (body ++ pad_of (length body))
+
+-- of a stream: the header without its sizes, and the body
+abbrev pub streamed_file : Mode → StreamHead → List ℕ → List ℕ
+streamed_file mode head body = streamed_header mode head ++ body
 
 -- how many bytes of the body a header of this form says; None: to the end of the file
 abbrev pub len_in : HeaderForm → ℕ → Option ℕ
@@ -48,6 +52,15 @@ BodiesAreRead = (mode : Mode) (head : StreamHead) (body : List ℕ) → IsStream
     → let form = form_of mode head (length body) in
     demuxed (says form head (length body)) (drop (header_len form head) (file_of mode head body)) ≡ packets_of (header_len form head) (block_of head) body
 
+-- The same of a stream, whose body goes to its end.
+abbrev pub StreamsAreRead : Type 0
+StreamsAreRead = (mode : Mode) (head : StreamHead) (body : List ℕ) → IsStream head → IsWavCoded head
+    → head_read (streamed_file mode head body) ≡ Ok (record { head = head; start = header_len (first_form mode) head; len = None })
+
 -- WAV in a mode, as a container of linear PCM.
 abbrev pub wav_container : Mode → Container
 wav_container mode = record { Takes = IsWavCoded; Holds = λ n. n ≤ longest_of mode; file_of = file_of mode; read = head_read }
+
+-- and as a stream
+abbrev pub streamed_container : Mode → Container
+streamed_container mode = record { Takes = IsWavCoded; Holds = λ n. ⊤; file_of = streamed_file mode; read = head_read }

@@ -6,7 +6,7 @@ ghost use Rattle.ff_wav.specs.Codecs.{IsWavCoded};
 ghost use Rattle.ff_wav.specs.Header.{le_16, le_32, le_64, is_plain, mask_of, fields_of, pcm_guid, extension, data_id, plain_format, long_format, format_bytes};
 ghost use Rattle.ff_wav.specs.Header.{riff, rf64, wave, format_id, junk_id, zeros, junk, ds64_id, ds64, opening, data_size, header, header_len};
 ghost use Rattle.ff_wav.specs.Limits.{longest_of};
-ghost use Rattle.ff_wav.specs.Header.{HasRoom, first_form as first_form_of, form_of, sizes_in, file_size};
+ghost use Rattle.ff_wav.specs.Header.{HasRoom, first_form as first_form_of, streamed_sizes as streamed_sizes_of, form_of, sizes_in, file_size};
 
 use ff_format::Rf64;
 use ff_frame::StreamHead;
@@ -353,6 +353,25 @@ pub(crate) fn first_form(mode: Rf64) -> HeaderForm
         Rf64::Never => HeaderForm::Riff,
         Rf64::Auto => HeaderForm::RiffWithRoom,
         Rf64::Always => HeaderForm::Rf64,
+    }
+}
+
+/// The sizes in the header of a stream, where none is ever known.
+pub(crate) fn streamed_sizes(mode: Rf64) -> Sizes
+    ensures value { result ≡ streamed_sizes_of mode }
+    ensures room { HasRoom (first_form_of mode) result }
+{
+    match mode {
+        Rf64::Never | Rf64::Auto => Sizes {
+            file: 0xFFFF_FFFF,
+            body: 0xFFFF_FFFF,
+            frames: 0,
+        },
+        Rf64::Always => Sizes {
+            file: 0,
+            body: 0,
+            frames: 0,
+        },
     }
 }
 

@@ -18,6 +18,8 @@ mod writer;
 pub use chunk::{at_32, format_chunk_at, has_id};
 pub use head::{ChunkStep, WavHead};
 pub use header::{HeaderForm, Sizes};
-pub use laws::{finished_wavs_are_riff, what_is_written_is_read_again};
+pub use laws::{
+    finished_wavs_are_riff, streamed_wavs_are_read_again, what_is_written_is_read_again,
+};
 pub use put::WavPut;
 pub use walk::{BothForms, Rf64Wave, RiffWave, WavCut, WavWalk, read_head};

@@ -4,7 +4,9 @@ ghost use Rattle.ff_wav.specs.Codecs.{IsWavCoded};
 ghost use Rattle.ff_wav.specs.Limits.{longest_of};
 ghost use Rattle.ff_wav.specs.laws.Sound.{IsWavCoded-prop};
 
-use crate::header::{HeaderForm, Sizes, first_form, header_bytes, last_form, longest, sizes_of};
+use crate::header::{
+    HeaderForm, Sizes, first_form, header_bytes, last_form, longest, sizes_of, streamed_sizes,
+};
 use ff_format::{Rf64, TooLarge};
 use ff_frame::StreamHead;
 use std::alloc::{AllocError, Global};
@@ -22,7 +24,7 @@ pub struct WavPut {
 }
 
 impl WavPut {
-    ghost use Rattle.ff_wav.specs.Header.{first_header, header_of, written_head, written_mode, body_size};
+    ghost use Rattle.ff_wav.specs.Header.{first_header, streamed_header, header_of, written_head, written_mode, body_size};
 
     /// For a stream of linear PCM as WAV has it, with no byte of its body counted.
     pub fn new(alloc: Global, head: &StreamHead, mode: Rf64) -> WavPut
@@ -49,6 +51,18 @@ impl WavPut {
             frames: 0,
         };
         header_bytes(self.alloc, &self.head, first_form(self.mode), sizes)
+    }
+
+    /// The header of a stream, whose sizes are never known: of 32 bits they are all ones, and of 64 bits they are 0.
+    pub fn streamed(&self) -> Result<Vec<u8>, AllocError>
+        ensures { IfOk result (λ bytes. bytes.items ≡ streamed_header (written_mode self.now) (written_head self.now)) }
+    {
+        header_bytes(
+            self.alloc,
+            &self.head,
+            first_form(self.mode),
+            streamed_sizes(self.mode),
+        )
     }
 
     /// Counts bytes of the body. TooLarge where it would be longer than 4,294,967,200 bytes and it is never RF64, or

@@ -1,7 +1,7 @@
 -- The formats that are written, and a writer of any: a line for each.
-use Rattle.std.specs.Prelude.{◌≡◌, ⊤, ℕ, List, length, Option, refl}
+use Rattle.std.specs.Prelude.{◌≡◌, ⊤, ℕ, true, List, length, Option, refl}
 use Rattle.ff_format.specs.Formats.{taken_by}
-use Rattle.ff_format.specs.Layouts.{Layout, bytes_in}
+use Rattle.ff_format.specs.Layouts.{Layout, IsStreamed, bytes_in, stream_of}
 use Rattle.ff_format.specs.Outputs.{OutputFormat, WritesTaken, no_layout}
 use Rattle.ff_format.specs.laws.Patches.{IsInside}
 use Rattle.ff_format.specs.declared.format.FileFormat.{FileFormat}
@@ -17,10 +17,10 @@ use Rattle.ff_mux.specs.writers.DigestFiles.{joined_format, joined_layout, joine
 use Rattle.ff_mux.specs.writers.DigestFiles.{streams_format, streams_layout, streams_writes, sum_format, sum_layout, sum_writes}
 use Rattle.ff_mux.specs.writers.FlacFile.{flac_format, flac_inside, flac_layout, flac_writes}
 use Rattle.ff_mux.specs.writers.NullFile.{null_format, null_writes}
-use Rattle.ff_mux.specs.writers.RawFile.{raw_format, raw_layout, raw_writes}
+use Rattle.ff_mux.specs.writers.RawFile.{raw_format, raw_writes}
 use Rattle.ff_mux.specs.writers.Unwritten.{unwritten_format, avi_writes}
 use Rattle.ff_mux.specs.writers.HashFile.{hash_format, hash_layout, hash_writes, md5_writes}
-use Rattle.ff_mux.specs.laws.writers.Writers.{flac_head, hash_kind, hash_heads, crc_heads, joined_kind, HasJoined, HasSummed, streams_kind, streams_heads, HasStreams}
+use Rattle.ff_mux.specs.laws.writers.Writers.{flac_head, raw_header, hash_kind, hash_heads, crc_heads, joined_kind, HasJoined, HasSummed, streams_kind, streams_heads, HasStreams}
 use Rattle.ff_au.specs.Header as au
 use Rattle.ff_au.specs.Layout.{au_format, au_inside, au_layout, au_writes}
 use Rattle.ff_wav.specs.Header.{written_head, written_mode, body_size}
@@ -85,6 +85,10 @@ writes_taken format.StreamHash = streams_writes
 writes_taken format.Crc = sum_writes
 writes_taken format.Null = null_writes
 
+-- No byte of a stream is replaced, and it has no limit, in any format.
+abbrev pub StreamsAreStreamed : Type 0
+StreamsAreStreamed = (f : FileFormat) (options : OutputOptions) (heads : List StreamHead) → options.streamed ≡ true → IsStreamed (layout_of f options heads)
+
 -- ---- a writer of any
 
 abbrev pub any_layout : AnyWriter → Layout
@@ -92,7 +96,7 @@ any_layout (Wav put) = wav_layout (written_mode put) (written_head put)
 any_layout (Au put) = au_layout (au.written_head put)
 any_layout (Flac w) = flac_layout (flac_head w)
 any_layout (Y4m w) = y4m_layout (y4m_head w)
-any_layout (Raw w) = raw_layout
+any_layout (Raw w) = stream_of (raw_header w)
 any_layout (Hash w) = hash_layout (hash_kind w) (hash_heads w)
 any_layout (Crc w) = crc_layout (crc_heads w)
 any_layout (Joined w) = joined_layout (joined_kind w)

@@ -1,14 +1,14 @@
 -- How FLAC is written, and that STREAMINFO is no longer with totals than without.
-use Rattle.std.proofs.Common.{◌≡◌, ℕ, suc, ◌+◌, ◌≤◌, true, List, [], ◌++◌, length, take, Option, Some, None, refl, sym, ◌∙◌, arith, length-append, length-take}
+use Rattle.std.proofs.Common.{◌≡◌, ℕ, suc, ◌+◌, ◌≤◌, true, List, [], ◌++◌, length, take, Option, Some, None, refl, arith, length-append, length-take}
 use Rattle.std.proofs.lemmas.Bool.Decides.{nat_tests}
 use Rattle.std.specs.Coded.{Unit-prop, le_prop}
 use Rattle.std.specs.Prelude.{IfSome, unwrap_or}
-use Rattle.ff_format.specs.Formats.{taken_by, takes_coding, takes_sound}
+use Rattle.ff_format.specs.Formats.{taken_by, takes_coding}
 use Rattle.ff_format.specs.Layouts.{Layout, bytes_in, finished}
-use Rattle.ff_format.specs.Outputs.{OutputFormat, HasBits, WritesTaken, of_one}
+use Rattle.ff_format.specs.Outputs.{OutputFormat, HasBits, WritesTaken, of_one_patched}
 use Rattle.ff_format.specs.laws.Patches.{StandsIn}
 use Rattle.ff_format.specs.declared.format.FileFormat.TheVariants as format
-use Rattle.ff_frame.specs.Codecs.{IsFlacCodec, IsFlacCoding, coding_of}
+use Rattle.ff_frame.specs.Codecs.{IsFlacCoding, coding_of}
 use Rattle.ff_frame.specs.declared.coding.Coding.{Coding}
 use Rattle.ff_frame.specs.declared.coding.Coding.TheVariants.{Pcm, Flac, RawVideo}
 use Rattle.ff_frame.specs.declared.head.Codec.{Codec}
@@ -50,7 +50,7 @@ has_room codec rate bits channels some few depth taken = record {
 
 -- one stream that is coded so, where STREAMINFO has room for it
 abbrev pub flac_format : OutputFormat
-flac_format = of_one CanHold flac_layout
+flac_format = of_one_patched CanHold flac_layout
 
 -- and it can write what its row takes
 pub flac_writes : WritesTaken (taken_by format.Flac) flac_format

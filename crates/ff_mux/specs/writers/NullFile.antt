@@ -1,5 +1,5 @@
 -- How an output is written whose packets go nowhere: nothing of any packet, and nothing once every stream is whole.
-use Rattle.std.specs.Prelude.{◌≡◌, ℕ, ◌≤◌, List, [], length, Option, Some}
+use Rattle.std.specs.Prelude.{◌≡◌, ℕ, List, [], Option, Some}
 use Rattle.std.proofs.Common.{arith}
 use Rattle.ff_format.specs.Formats.{taken_by}
 use Rattle.ff_format.specs.Layouts.{finished, written}

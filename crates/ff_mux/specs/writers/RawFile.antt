@@ -1,22 +1,14 @@
 -- How raw formats are written: the bytes of the packets of one stream, and nothing else.
-use Rattle.std.specs.Prelude.{◌≡◌, ⊤, ℕ, List, [], Option, Some, None}
+use Rattle.std.specs.Prelude.{◌≡◌, ⊤, ℕ, List, [], Option, Some}
 use Rattle.std.proofs.Common.{arith}
 use Rattle.ff_frame.specs.declared.packet.Pkt.{Pkt}
 use Rattle.ff_frame.specs.declared.totals.Totals.{Totals}
-use Rattle.ff_format.specs.Formats.{taken_by}
-use Rattle.ff_format.specs.Layouts.{Layout, bytes_in, finished}
+use Rattle.ff_format.specs.Layouts.{Layout, bytes_in, finished, stream_of}
 use Rattle.ff_format.specs.Outputs.{OutputFormat, WritesTaken, of_one}
-use Rattle.ff_format.specs.declared.format.FileFormat.TheVariants as format
 use Rattle.ff_format.specs.declared.format.Taken.{Taken}
 
 abbrev pub raw_layout : Layout
-raw_layout = record {
-  header = [];
-  text = λ stream packet. packet.bytes;
-  tail = λ packets. [];
-  last = λ n totals. None;
-  longest = None;
-}
+raw_layout = stream_of []
 
 -- one stream of any kind
 abbrev pub raw_format : OutputFormat

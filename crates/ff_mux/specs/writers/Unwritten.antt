@@ -1,5 +1,4 @@
 -- A format that no output has: it can write no streams.
-use Rattle.std.specs.Prelude.{◌≡◌}
 use Rattle.std.proofs.Common.{arith}
 use Rattle.ff_format.specs.Formats.{taken_by}
 use Rattle.ff_format.specs.Outputs.{OutputFormat, WritesTaken, no_layout}

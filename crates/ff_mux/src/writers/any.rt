@@ -1,5 +1,12 @@
 //! A writer of any format: a line for each format in each match.
 ghost use Rattle.std.specs.Prelude.{◌≡◌, [], IfOk};
+ghost use Rattle.ff_au.specs.Codecs.{IsAuCoded};
+ghost use Rattle.ff_au.specs.Layout.{au_layout};
+ghost use Rattle.ff_format.specs.Layouts.{streamed_of};
+ghost use Rattle.ff_wav.specs.Codecs.{IsWavCoded};
+ghost use Rattle.ff_wav.specs.Layout.{wav_layout_in};
+ghost use Rattle.ff_mux.specs.FlacHead.{CanHold};
+ghost use Rattle.ff_mux.specs.writers.FlacFile.{flac_layout};
 ghost use Rattle.ff_mux.specs.writers.AnyWriters.{CanWrite, layout_of, any_layout, any_counts, any_inside};
 
 use crate::writers::digests::{JoinedWriter, StreamsWriter, SumWriter};
@@ -26,7 +33,7 @@ pub enum AnyWriter {
     Flac(FlacWriter),
     /// YUV4MPEG2.
     Y4m(Y4mWriter),
-    /// Samples or pictures alone.
+    /// Samples or pictures alone, or a stream.
     Raw(RawWriter),
     /// Digests.
     Hash(HashWriter),
@@ -42,6 +49,49 @@ pub enum AnyWriter {
     Null(NullWriter),
 }
 
+fn wav_writer(
+    alloc: Global,
+    head: &StreamHead,
+    options: OutputOptions,
+) -> Result<AnyWriter, AllocError>
+    requires { IsWavCoded head.now }
+    ensures layout { IfOk result (λ writer. any_layout writer ≡ wav_layout_in options.streamed options.rf64 head.now) }
+    ensures counts { IfOk result (λ writer. any_counts writer []) }
+{
+    let put = WavPut::new(alloc, head, options.rf64);
+    if !options.streamed {
+        return Ok(AnyWriter::Wav(put));
+    }
+    let header = put.streamed()?;
+    Ok(AnyWriter::Raw(RawWriter::behind(alloc, header)))
+}
+
+fn au_writer(alloc: Global, head: &StreamHead, streamed: bool) -> Result<AnyWriter, AllocError>
+    requires { IsAuCoded head.now }
+    ensures layout { IfOk result (λ writer. any_layout writer ≡ streamed_of streamed (au_layout head.now)) }
+    ensures counts { IfOk result (λ writer. any_counts writer []) }
+{
+    let put = AuPut::new(alloc, head);
+    if !streamed {
+        return Ok(AnyWriter::Au(put));
+    }
+    let header = put.first()?;
+    Ok(AnyWriter::Raw(RawWriter::behind(alloc, header)))
+}
+
+fn flac_writer(alloc: Global, head: StreamHead, streamed: bool) -> Result<AnyWriter, AllocError>
+    requires { CanHold head }
+    ensures layout { IfOk result (λ writer. any_layout writer ≡ streamed_of streamed (flac_layout head)) }
+    ensures counts { IfOk result (λ writer. any_counts writer []) }
+{
+    let writer = FlacWriter::new(alloc, head);
+    if !streamed {
+        return Ok(AnyWriter::Flac(writer));
+    }
+    let header = writer.first()?;
+    Ok(AnyWriter::Raw(RawWriter::behind(alloc, header)))
+}
+
 /// The writer of a format for the packets of streams of these heads, by what an output's options say. No packet was counted.
 pub fn writer_of(
     alloc: Global,
@@ -54,9 +104,9 @@ pub fn writer_of(
     ensures counts { IfOk result (λ writer. any_counts writer []) }
 {
     match format {
-        FileFormat::Wav => Ok(AnyWriter::Wav(WavPut::new(alloc, &heads[0], options.rf64))),
-        FileFormat::Au => Ok(AnyWriter::Au(AuPut::new(alloc, &heads[0]))),
-        FileFormat::Flac => Ok(AnyWriter::Flac(FlacWriter::new(alloc, heads[0]))),
+        FileFormat::Wav => wav_writer(alloc, &heads[0], options),
+        FileFormat::Au => au_writer(alloc, &heads[0], options.streamed),
+        FileFormat::Flac => flac_writer(alloc, heads[0], options.streamed),
         FileFormat::Y4m => Ok(AnyWriter::Y4m(Y4mWriter::new(alloc, heads[0]))),
         // No output has it.
         FileFormat::Avi => unreachable!(),

@@ -1,4 +1,5 @@
 //! Laws of finished files. Each is a function that does nothing: its clauses hold of all values.
+ghost use Rattle.ff_mux.specs.writers.AnyWriters.{StreamsAreStreamed};
 ghost use Rattle.ff_mux.specs.writers.CrcFile.{CrcsAreTexts};
 ghost use Rattle.ff_mux.specs.writers.DigestFiles.{DigestsAreTexts};
 ghost use Rattle.ff_mux.specs.writers.FlacFile.{FlacsAreStreams};
@@ -44,4 +45,9 @@ pub fn finished_raw_is_packets()
 /// Of no packets is anything written in the format null.
 pub fn null_writes_nothing()
     ensures { NullWritesNothing }
+{}
+
+/// Of an output that is streamed no byte is replaced and no body is too large, in any format.
+pub fn streams_are_streamed()
+    ensures { StreamsAreStreamed }
 {}

@@ -113,6 +113,7 @@ fn with(hash: HashKind) -> OutputOptions
     OutputOptions {
         hash,
         rf64: Rf64::Never,
+        streamed: false,
     }
 }
 

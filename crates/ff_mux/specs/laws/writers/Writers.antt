@@ -12,10 +12,15 @@ use Rattle.ff_mux.specs.declared.writers.digests.SumWriter.{SumWriter}
 use Rattle.ff_mux.specs.declared.writers.flac.FlacWriter.{FlacWriter}
 use Rattle.ff_mux.specs.declared.writers.frame_crc.CrcWriter.{CrcWriter}
 use Rattle.ff_mux.specs.declared.writers.frame_hash.HashWriter.{HashWriter}
+use Rattle.ff_mux.specs.declared.writers.raw.RawWriter.{RawWriter}
 
 -- the head of the stream of sound
 abbrev pub flac_head : FlacWriter → StreamHead
 flac_head w = w.head
+
+-- what stands before the packets
+abbrev pub raw_header : RawWriter → List ℕ
+raw_header w = w.header.items
 
 -- the digest, and the heads of the streams
 abbrev pub hash_kind : HashWriter → HashKind

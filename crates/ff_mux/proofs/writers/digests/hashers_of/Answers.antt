@@ -1,4 +1,4 @@
-use Rattle.std.proofs.Common.{◌++◌, ◌∷◌, [], ap, sym, ◌∙◌, subst, arith, length, length-append, List}
+use Rattle.std.proofs.Common.{◌∷◌, [], ap, sym, subst, arith, length, length-append, List}
 use Rattle.ff_mux.specs.laws.Hashers.{AllTaken, AreOfKind}
 use Rattle.ff_mux.specs.declared.digest.Hasher.{Hasher}
 use Rattle.ff_mux.proofs.StreamDigests.{kind_more, none_more}

@@ -1,7 +1,6 @@
-use Rattle.std.proofs.Common.{◌≡◌, ◌<◌, ◌++◌, ◌∷◌, [], ℕ, List, ap, sym, subst, arith, length}
+use Rattle.std.proofs.Common.{◌++◌, ℕ, List, subst, arith}
 use Rattle.std.proofs.lemmas.List.{length-set}
 use Rattle.ff_mux.specs.laws.Hashers.{HasTaken}
-use Rattle.ff_mux.specs.declared.digest.Hasher.{Hasher}
 use Rattle.ff_mux.proofs.StreamDigests.{kind_set, touched, untouched}
 use Rattle.ff_mux.proofs.writers.digests.take_in.Goals as goal
 

@@ -2,7 +2,7 @@ use Rattle.std.proofs.Common.{◌++◌, ◌+◌, ◌*◌, ◌%◌, ◌∙◌, �
 use Rattle.std.proofs.lemmas.Result.{IfOk-weaker}
 use Rattle.ff_lists.specs.Text.{line}
 use Rattle.ff_format.specs.Layouts.{bytes_in}
-use Rattle.ff_mux.specs.Adler.{adler32, byte_sum, sum_of_sums}
+use Rattle.ff_mux.specs.Adler.{adler32, byte_sum}
 use Rattle.ff_mux.specs.CrcTexts.{sum_text}
 use Rattle.ff_mux.specs.DigestTexts.{sum_line}
 use Rattle.ff_mux.proofs.writers.digests.SumWriterWriter.tail.Goals as goal
