@@ -16,8 +16,9 @@ use Rattle.ff_words.specs.declared.table.Named.{Named}
 use Rattle.ff_words.specs.declared.table.Rule.{Rule}
 use Rattle.ff_words.specs.declared.value.Value.{Value}
 use Rattle.ff_words.specs.declared.value.Value.TheVariants as value
+use Rattle.ff_words.specs.Names.{input_name, trace_name}
 use Rattle.ff_words.specs.Table.{option_named, format_named, format_ending, audio_codec, video_codec, is_level, is_frame_mode, is_sync_mode}
-use Rattle.ff_words.specs.Values.{Reads, ReadsWhole, ReadsTime, ReadsGraph, ReadsMap, Makes, made, switched, or_bad, format_value, codec_value, mode_value, ReadsLevel, ReadsRate, hash_value, rf64_value, pixels_value, size_value, is_spelled}
+use Rattle.ff_words.specs.Values.{Reads, ReadsWhole, ReadsTime, ReadsGraph, ReadsMap, Makes, made, switched, or_bad, format_value, codec_value, name_value, mode_value, ReadsLevel, ReadsRate, hash_value, rf64_value, pixels_value, size_value, is_spelled}
 use Rattle.ff_words.specs.Numbers.{size_of}
 use Rattle.ff_words.specs.declared.job.Size.{Size}
 use Rattle.ff_frame.specs.declared.video.Format.TheVariants.{C420, C422, C444, Mono}
@@ -59,6 +60,10 @@ codec-few : (make : Codec → Value) → ((c : Codec) → Few (make c)) → (o :
 codec-few make each (Some c) w e = (let same : make c ≡ w = cc in subst Few same (each c))
 codec-few make each None w e = absurd cc
 
+name-few : (make : List ℕ → Value) → ((name : List ℕ) → Few (make name)) → (o : Option (List ℕ)) (w : Value) → name_value make o ≡ Some w → Few w
+name-few make each (Some name) w e = (let same : make name ≡ w = cc in subst Few same (each name))
+name-few make each None w e = absurd cc
+
 size-few : (o : Option Size) (w : Value) → size_value o ≡ Some w → Few w
 size-few (Some n) w e = (let same : value.Size n ≡ w = cc in subst Few same tt)
 size-few None w e = absurd cc
@@ -87,13 +92,13 @@ reads-few kind.FrameMode text v h = mode-few v (is_frame_mode text) h
 reads-few kind.SyncMode text v h = mode-few v (is_sync_mode text) h
 reads-few kind.Complex text v h = makes-few value.Complex (ReadsGraph text) v (λ x is. tt) h
 reads-few kind.Queue text v h = makes-few value.Queue (ReadsWhole 1 1024 text) v (λ x is. tt) h
-reads-few kind.Trace text v h = (let same : value.Trace text ≡ v = cc in subst Few same tt)
+reads-few kind.Trace text v h = named-few v (name_value value.Trace (trace_name text)) (name-few value.Trace (λ name. tt) (trace_name text)) h
 reads-few kind.SelfRun text v h = makes-few (λ n. value.Solo (SelfRun n)) (ReadsWhole 0 3600 text) v (λ n is. is.2) h
 reads-few kind.Format text v h = named-few v (format_value (format_named text)) (format-few (format_named text)) h
 reads-few kind.Start text v h = makes-few value.Start (ReadsTime text) v (λ x is. tt) h
 reads-few kind.Length text v h = makes-few value.Length (ReadsTime text) v (λ x is. tt) h
 reads-few kind.End text v h = makes-few (λ us. value.End us (length text)) (ReadsTime text) v (λ x is. tt) h
-reads-few kind.Input text v h = (let same : value.Input text ≡ v = cc in subst Few same tt)
+reads-few kind.Input text v h = named-few v (name_value value.Input (input_name text)) (name-few value.Input (λ name. tt) (input_name text)) h
 reads-few kind.Map text v h = makes-few value.Map (ReadsMap text) v (λ x is. tt) h
 reads-few kind.AudioCodec text v h = named-few v (codec_value value.AudioCodec (audio_codec text)) (codec-few value.AudioCodec (λ c. tt) (audio_codec text)) h
 reads-few kind.VideoCodec text v h = named-few v (codec_value value.VideoCodec (video_codec text)) (codec-few value.VideoCodec (λ c. tt) (video_codec text)) h

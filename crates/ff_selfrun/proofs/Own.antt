@@ -25,6 +25,7 @@ use Rattle.ff_words.specs.declared.table.Kind.TheVariants as kind
 use Rattle.ff_words.specs.declared.value.Value.{Value}
 use Rattle.ff_words.specs.declared.value.Value.TheVariants as value
 use Rattle.ff_words.specs.laws.Reading.{reader, optioned, with_input, with_output}
+use Rattle.ff_words.specs.Names.{input_name, output_name}
 use Rattle.ff_words.specs.Values.{Reads}
 use Rattle.ff_words.specs.Words.{Entry, IsAnswer, written}
 use Rattle.ff_words.specs.laws.Writing.{pick_text}
@@ -125,14 +126,15 @@ none_left (w ∷ ws) zero h = cc
 none_left (w ∷ ws) (suc i) h = (let past : length ws ≤ i = none_left ws i h in omega (arith, past))
 
 made : (job : Job) × IsOwnJob job
+unfolding input_name output_name
 made =
     let ws : List Text = own_words in
     let r0 = reader [] in
     let g0 = goes-start ws in
     let r1 = with_input (codes "a.wav") r0 in
-    let g1 = goes-input ws few (codes "-i") (codes "a.wav") (drop 2 ws) r0 g0 refl line-input (omega arith) (omega arith) refl in
+    let g1 = goes-input ws few (codes "-i") (codes "a.wav") (codes "a.wav") (drop 2 ws) r0 g0 refl line-input (omega arith) (omega arith) refl refl in
     let r2 = with_input (codes "v.y4m") r1 in
-    let g2 = goes-input ws few (codes "-i") (codes "v.y4m") (drop 4 ws) r1 g1 refl line-input (omega arith) (omega arith) refl in
+    let g2 = goes-input ws few (codes "-i") (codes "v.y4m") (codes "v.y4m") (drop 4 ws) r1 g1 refl line-input (omega arith) (omega arith) refl refl in
     let r3 = optioned (entry g2.at All (value.Complex graph)) r2 in
     let g3 =
     goes-option ws few (codes "-filter_complex") (printed graph) (drop 6 ws) r2 All kind.Complex (value.Complex graph) g2 refl line-complex refl (omega arith) (omega arith) refl refl (reads-complex graph (sound, omega arith)) in
@@ -149,7 +151,7 @@ made =
     goes-option ws few (codes "-f") (codes "framehash") (drop 13 ws) r6 File kind.Format (value.Format FrameHash (is_read FrameHash) (is_written FrameHash)) g6 refl line-format refl (omega arith) (omega arith) refl refl
     (reads-format FrameHash) in
     let r8 = with_output (codes "out") FrameHash r7 in
-    let g8 = goes-output ws few (codes "out") [] r7 FrameHash g7 refl (λ e. sym e) (omega arith) (λ ending. refl) refl in
+    let g8 = goes-output ws few (codes "out") (codes "out") [] r7 FrameHash g7 refl refl (omega arith) (λ ending. refl) refl in
     let job : Job = record { queue = r8.queue; trace = r8.trace; keeps = r8.keeps; graphs = r8.graphs; inputs = r8.inputs; outputs = r8.outputs } in
     (job, ended ws g8.at r8 g8.stands (Ok (Run job)) (none_left ws g8.at g8.behind) (refl, refl))
 

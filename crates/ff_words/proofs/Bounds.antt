@@ -1,7 +1,7 @@
 -- What holds of every job that words ask for: of what one pass keeps, by each further entry.
 use Rattle.std.proofs.Common.{◌≡◌, ℕ, ◌+◌, ◌≤◌, Bool, true, false, Option, Some, None, Result, Ok, Err, List, [], ◌∷◌, ◌++◌, length, refl, sym, ap, subst, ◌∙◌, arith, length-append}
 use Rattle.std.specs.Prelude.{codes}
-use Rattle.std.specs.Prelude.{if◌then◌else◌, not, is_some, nat_le, unwrap_or, ◌==◌}
+use Rattle.std.specs.Prelude.{if◌then◌else◌, not, is_some, nat_le, unwrap_or, ◌==◌, ◌||◌}
 use Rattle.std.specs.List.{AllByRecursion}
 use Rattle.std.specs.Str.{bytes_eq}
 use Rattle.ff_lang.specs.declared.graph.Graph.{Graph}
@@ -30,12 +30,13 @@ use Rattle.ff_words.specs.declared.value.Value.{Value}
 use Rattle.ff_words.specs.declared.value.Value.TheVariants as value
 use Rattle.ff_words.specs.laws.Bounds.{HasFewMaps, IsBounded}
 use Rattle.ff_words.specs.Table.{option_named, format_named, audio_codec, video_codec, is_level, is_frame_mode, is_sync_mode}
-use Rattle.ff_words.specs.Values.{Reads, ReadsWhole, ReadsTime, ReadsGraph, ReadsMap, Makes, made, switched, or_bad, format_value, codec_value, hash_value, rf64_value, pixels_value, size_value, is_spelled, mode_value, ReadsLevel, ReadsRate}
+use Rattle.ff_words.specs.Values.{Reads, ReadsWhole, ReadsTime, ReadsGraph, ReadsMap, Makes, made, switched, or_bad, format_value, codec_value, name_value, hash_value, rf64_value, pixels_value, size_value, is_spelled, mode_value, ReadsLevel, ReadsRate}
+use Rattle.ff_words.specs.Names.{stdin, input_name, trace_name}
 use Rattle.ff_words.specs.Numbers.{size_of}
 use Rattle.ff_words.specs.declared.job.Size.{Size}
 use Rattle.ff_frame.specs.declared.video.Format.TheVariants.{C420, C422, C444, Mono}
 use Rattle.ff_words.specs.Table.{format_ending}
-use Rattle.ff_words.specs.Words.{Token, Entry, fault, early, option_fault, name_fault, given_fault, is_full, is_too_much, is_dashed, is_file, is_output, late, misplaced, bad_at, own_early, or_else, takes, placed, IsOption, IsNamed, IsToken, TokenReads, IsEntry, AreRead, IsAnswer, tokens, command, job, last, as_solo, end_fault, end_by, stands_alone, run_fault, groups, inputs, outputs, lacks_input, same_name, output_format, command_by, first_place, not_before_input, not_before_output, not_at_end, unreadable, unwritable}
+use Rattle.ff_words.specs.Words.{Token, Entry, fault, early, option_fault, given_fault, is_full, is_too_much, is_dashed, is_file, is_output, late, misplaced, bad_at, own_early, or_else, takes, placed, IsOption, IsNamed, IsToken, TokenReads, IsEntry, AreRead, IsAnswer, tokens, command, job, last, as_solo, end_fault, end_by, stands_alone, run_fault, groups, inputs, outputs, lacks_input, same_name, is_twice, shares_name, read_names, job_name, output_format, command_by, first_place, not_before_input, not_before_output, not_at_end, unreadable, unwritable}
 use Rattle.ff_words.specs.laws.Reading.{reader, optioned, with_input, with_output}
 use Rattle.ff_words.proofs.Snoc.{entry, filed-is, output-filed, reader-snoc, reader-input}
 use Rattle.ff_words.proofs.Steps.{early-option}
@@ -76,6 +77,10 @@ of-test v k is false o other w e = other w e
 of-none : (k : Kind) (w : Value) → None ≡ Some w → OfKind w k
 of-none k w e = absurd cc
 
+of-name : (make : List ℕ → Value) (k : Kind) → ((name : List ℕ) → OfKind (make name) k) → (o : Option (List ℕ)) (w : Value) → name_value make o ≡ Some w → OfKind w k
+of-name make k each (Some name) w e = (let same : make name ≡ w = cc in subst (λ x. OfKind x k) same (each name))
+of-name make k each None w e = absurd cc
+
 of-size : (o : Option Size) (w : Value) → size_value o ≡ Some w → OfKind w kind.Size
 of-size (Some s) w e = (let same : value.Size s ≡ w = cc in subst (λ x. OfKind x kind.Size) same tt)
 of-size None w e = absurd cc
@@ -104,13 +109,13 @@ reads-kind kind.FrameMode text v h = of-mode v kind.FrameMode tt (is_frame_mode 
 reads-kind kind.SyncMode text v h = of-mode v kind.SyncMode tt (is_sync_mode text) h
 reads-kind kind.Complex text v h = of-made value.Complex (ReadsGraph text) v kind.Complex (λ x is. refl) h
 reads-kind kind.Queue text v h = of-made value.Queue (ReadsWhole 1 1024 text) v kind.Queue (λ x is. (is.1, is.2)) h
-reads-kind kind.Trace text v h = (let same : value.Trace text ≡ v = cc in subst (λ x. OfKind x kind.Trace) same tt)
+reads-kind kind.Trace text v h = of-named v kind.Trace (name_value value.Trace (trace_name text)) (of-name value.Trace kind.Trace (λ name. tt) (trace_name text)) h
 reads-kind kind.SelfRun text v h = of-made (λ n. value.Solo (SelfRun n)) (ReadsWhole 0 3600 text) v kind.SelfRun (λ x is. tt) h
 reads-kind kind.Format text v h = of-named v kind.Format (format_value (format_named text)) (of-format kind.Format (format_named text)) h
 reads-kind kind.Start text v h = of-made value.Start (ReadsTime text) v kind.Start (λ x is. tt) h
 reads-kind kind.Length text v h = of-made value.Length (ReadsTime text) v kind.Length (λ x is. tt) h
 reads-kind kind.End text v h = of-made (λ us. value.End us (length text)) (ReadsTime text) v kind.End (λ x is. tt) h
-reads-kind kind.Input text v h = (let same : value.Input text ≡ v = cc in subst (λ x. OfKind x kind.Input) same tt)
+reads-kind kind.Input text v h = of-named v kind.Input (name_value value.Input (input_name text)) (of-name value.Input kind.Input (λ name. tt) (input_name text)) h
 reads-kind kind.Map text v h = of-made value.Map (ReadsMap text) v kind.Map (λ x is. refl) h
 reads-kind kind.AudioCodec text v h = of-named v kind.AudioCodec (codec_value value.AudioCodec (audio_codec text)) (of-codec value.AudioCodec kind.AudioCodec (λ c. tt) (audio_codec text)) h
 reads-kind kind.VideoCodec text v h = of-named v kind.VideoCodec (codec_value value.VideoCodec (video_codec text)) (of-codec value.VideoCodec kind.VideoCodec (λ c. tt) (video_codec text)) h
@@ -225,7 +230,7 @@ given-room es at k (Some v) e = (none-of (is_full es k) (fault at TooMany) (if i
 has-room : (es : List Entry) (token : Token) (rule : Rule) → early es token ≡ None → is_dashed token.word ≡ true → option_named token.word ≡ Some rule → takes (Some rule) ≡ true
     → is_full es rule.kind ≡ false
 has-room es token rule fine dashed named valued =
-    let short : is_too_much token.at token.word ≡ false = (none-of (is_too_much token.at token.word) (fault token.at TooMany) (if is_dashed token.word then option_fault es token (option_named token.word) else name_fault es token) fine).0 in
+    let short : is_too_much token.at token.word ≡ false = (none-of (is_too_much token.at token.word) (fault token.at TooMany) (if is_dashed token.word then option_fault es token (option_named token.word) else None) fine).0 in
     let given : given_fault es token.at rule.kind token.value ≡ None =
     ap (λ b. if b then given_fault es token.at rule.kind token.value else None) (sym valued) ∙ (sym (early-option es token rule short dashed named) ∙ fine) in
     given-room es token.at rule.kind token.value given
@@ -304,9 +309,9 @@ small-input es at name fine s =
       few_waiting = omega arith;
     }
 
-small-output : (es : List Entry) (at : ℕ) (name : List ℕ) (ending : Option FileFormat) (format : FileFormat) → late es at (value.Output name ending) ≡ None → Small (reader es) → Small (with_output name format (reader es))
-small-output es at name ending format fine s =
-    let behind : Option Fault = or_else (own_early (groups es).behind) (or_else (bad_at (unwritable (groups es).behind)) (if is_output name (output_format (groups es).behind ending) then None else Some (fault at BadValue))) in
+small-output : (es : List Entry) (at : ℕ) (word name : List ℕ) (ending : Option FileFormat) (format : FileFormat) → late es at (value.Output word ending) ≡ None → Small (reader es) → Small (with_output name format (reader es))
+small-output es at word name ending format fine s =
+    let behind : Option Fault = or_else (own_early (groups es).behind) (or_else (bad_at (unwritable (groups es).behind)) (if is_output word (output_format (groups es).behind ending) then None else Some (fault at BadValue))) in
     let room : nat_le 16 (length (outputs es)) ≡ false = (none-of (nat_le 16 (length (outputs es))) (fault at TooMany) behind (none-behind (first_place not_before_output (groups es).behind) (if nat_le 16 (length (outputs es)) then Some (fault at TooMany) else behind) fine)).0 in
     record {
       some_queue = s.some_queue;
@@ -330,7 +335,7 @@ along P step es (token ∷ ts) all read p = along P step (es ++ read.0 ∷ []) t
 by-value : (P : Reader → Type 0) (es : List Entry) (token : Token) (at : ℕ) (concern : Concern) (v : Value) → early es token ≡ None → TokenReads token concern (Ok v) → late es token.at v ≡ None
     → (is_file v ≡ false → HasRule token v → P (optioned (entry at concern v) (reader es)))
     → ((name : List ℕ) → late es token.at (value.Input name) ≡ None → P (with_input name (reader es)))
-    → ((name : List ℕ) (ending : Option FileFormat) (format : FileFormat) → late es token.at (value.Output name ending) ≡ None → P (with_output name format (reader es)))
+    → ((word name : List ℕ) (ending : Option FileFormat) (format : FileFormat) → late es token.at (value.Output word ending) ≡ None → P (with_output name format (reader es)))
     → P (reader (es ++ entry at concern v ∷ []))
 by-value P es token at concern value.Nothing before reads fine option ins outs = subst P (sym (reader-snoc es (entry at concern value.Nothing) refl)) (option refl (token-rule token (is_dashed token.word) concern value.Nothing refl refl reads))
 by-value P es token at concern (value.Keeps b) before reads fine option ins outs = subst P (sym (reader-snoc es (entry at concern (value.Keeps b)) refl)) (option refl (token-rule token (is_dashed token.word) concern (value.Keeps b) refl refl reads))
@@ -359,14 +364,14 @@ by-value P es token at concern (value.FrameRate base) before reads fine option i
 by-value P es token at concern (value.Size s) before reads fine option ins outs = subst P (sym (reader-snoc es (entry at concern (value.Size s)) refl)) (option refl (token-rule token (is_dashed token.word) concern (value.Size s) refl refl reads))
 by-value P es token at concern (value.Hash h) before reads fine option ins outs = subst P (sym (reader-snoc es (entry at concern (value.Hash h)) refl)) (option refl (token-rule token (is_dashed token.word) concern (value.Hash h) refl refl reads))
 by-value P es token at concern (value.Rf64 mode) before reads fine option ins outs = subst P (sym (reader-snoc es (entry at concern (value.Rf64 mode)) refl)) (option refl (token-rule token (is_dashed token.word) concern (value.Rf64 mode) refl refl reads))
-by-value P es token at concern (value.Output n x) before reads fine option ins outs = subst P (sym (filed-is es (entry at concern (value.Output n x)) refl ∙ output-filed n x es)) (outs n x (unwrap_or (output_format (groups es).behind x) FrameHash) fine)
+by-value P es token at concern (value.Output n x) before reads fine option ins outs = subst P (sym (filed-is es (entry at concern (value.Output n x)) refl ∙ output-filed n x es)) (outs n (job_name (unwrap_or (output_format (groups es).behind x) FrameHash) n) x (unwrap_or (output_format (groups es).behind x) FrameHash) fine)
 
 small-step : (es : List Entry) (token : Token) (e : Entry) → IsEntry es token e → Small (reader es) → Small (reader (es ++ e ∷ []))
 small-step es token e is s =
     by-value Small es token e.at e.concern e.value is.0 is.1 is.3
     (λ plain has. small-option es token e.at e.concern e.value plain is.0 has s)
     (λ name fine. small-input es token.at name fine s)
-    (λ name ending format fine. small-output es token.at name ending format fine s)
+    (λ word name ending format fine. small-output es token.at word name ending format fine s)
 
 small-none : Small (reader [])
 small-none = record { some_queue = omega arith; short_queue = omega arith; few_graphs = omega arith; few_inputs = omega arith; few_outputs = omega arith; few_maps = tt; few_waiting = omega arith }
@@ -379,11 +384,16 @@ small-all es ts read = along (λ xs. Small (reader xs)) small-step [] ts es read
 not-none : (n : ℕ) → (n == 0) ≡ false → 1 ≤ n
 not-none n e = grind arith
 
+neither : (a b : Bool) → (a || b) ≡ false → (a ≡ false) × (b ≡ false)
+neither true b e = absurd cc
+neither false b e = (refl, e)
+
 bounded-job : (es : List Entry) (count : ℕ) → Small (reader es) → run_fault count (job es) ≡ None → IsBounded (job es)
 bounded-job es count s fine =
-    let ins = none-of (lacks_input (job es).inputs (job es).graphs) (fault count NoInput) (if length (job es).outputs == 0 then Some (fault count NoOutput) else (if same_name (job es) then Some (fault count SameName) else None)) fine in
-    let outs = none-of (length (job es).outputs == 0) (fault count NoOutput) (if same_name (job es) then Some (fault count SameName) else None) ins.1 in
-    let names = none-of (same_name (job es)) (fault count SameName) None outs.1 in
+    let ins = none-of (lacks_input (job es).inputs (job es).graphs) (fault count NoInput) (if length (job es).outputs == 0 then Some (fault count NoOutput) else (if shares_name (job es) then Some (fault count SameName) else None)) fine in
+    let outs = none-of (length (job es).outputs == 0) (fault count NoOutput) (if shares_name (job es) then Some (fault count SameName) else None) ins.1 in
+    let names = none-of (shares_name (job es)) (fault count SameName) None outs.1 in
+    let apart = neither (same_name (job es)) (is_twice stdin (read_names (job es))) names.0 in
     record {
       some_queue = s.some_queue;
       short_queue = s.short_queue;
@@ -393,7 +403,8 @@ bounded-job es count s fine =
       some_outputs = not-none (length (job es).outputs) outs.0;
       few_outputs = s.few_outputs;
       few_maps = s.few_maps;
-      names = names.0;
+      names = apart.0;
+      one_stdin = apart.1;
     }
 
 stands-not : (count : ℕ) (o : Option Solo) → o ≡ None → stands_alone count o ≡ false

@@ -14,7 +14,7 @@ use Rattle.ff_words.specs.declared.job.Asked.{Asked}
 use Rattle.ff_words.specs.Words.{none_asked}
 use Rattle.ff_frame.specs.Codecs.{codec_name}
 use Rattle.ff_format.specs.Formats.{format_name}
-use Rattle.ff_words.specs.laws.Writing.{given, micros_text, where_some, where_true, format_words, start_words, length_words, frames_words, asked_words, input_words, map_words, audio_words, video_words, vf_words, af_words, hash_words, rf64_words, output_words, graph_words, trace_words, keeps_words, queue_words, job_words, IsFineOutput, IsFineJob, IsPlainOutput}
+use Rattle.ff_words.specs.laws.Writing.{given, input_text, output_text, trace_text, micros_text, where_some, where_true, format_words, start_words, length_words, frames_words, asked_words, input_words, map_words, audio_words, video_words, vf_words, af_words, hash_words, rf64_words, output_words, graph_words, trace_words, keeps_words, queue_words, job_words, IsFineOutput, IsFineJob, IsPlainOutput}
 
 abbrev Words : Type 0
 Words = List (List ℕ)
@@ -49,7 +49,7 @@ joined xs ys m n h k = omega (arith, length-append xs ys, h, k)
 
 input-count : (i : InputJob) → length (input_words i) ≤ 8
 input-count i =
-    let y3 : Words = given (codes "-i") i.name in
+    let y3 : Words = given (codes "-i") (input_text i.name) in
     let y2 : Words = length_words i.cut.length ++ y3 in
     let y1 : Words = start_words i.cut.start ++ y2 in
     let h2 : length y2 ≤ 2 + 2 = joined (length_words i.cut.length) y3 2 2 (some-count (codes "-t") micros_text i.cut.length) (omega arith) in
@@ -62,7 +62,7 @@ inputs-count (i ∷ is) = omega (arith, length-append (input_words i) (flat_map 
 
 output-count : (o : OutputJob) → length o.maps ≤ 16 → IsPlainOutput o → length (output_words o) ≤ 52
 output-count o few plain =
-    let y13 : Words = o.name ∷ [] in
+    let y13 : Words = output_text o.format o.name ∷ [] in
     let y12 : Words = format_words o.format ++ y13 in
     let y11 : Words = rf64_words o.rf64 ++ y12 in
     let y10 : Words = hash_words o.hash ++ y11 in
@@ -108,5 +108,5 @@ few j fine plain =
     let h3 : length y3 ≤ 960 = omega (arith, length-append (flat_map input_words j.inputs) y4, inputs-count j.inputs, fine.few_inputs, h4) in
     let h2 : length y2 ≤ 992 = omega (arith, length-append (flat_map graph_words j.graphs) y3, graphs-count j.graphs, fine.few_graphs, h3) in
     let h1 : length y1 ≤ 993 = joined (keeps_words j.keeps) y2 1 992 (true-count (codes "-n") j.keeps) h2 in
-    let h0 : length y0 ≤ 995 = joined (trace_words j.trace) y1 2 993 (some-count (codes "-sched_trace") (λ name. name) j.trace) h1 in
+    let h0 : length y0 ≤ 995 = joined (trace_words j.trace) y1 2 993 (some-count (codes "-sched_trace") trace_text j.trace) h1 in
     omega (arith, length-append (queue_words j.queue) y0, h0)

@@ -1,6 +1,6 @@
 -- Reading goes on over an option and over a file.
-use Rattle.std.proofs.Common.{zero, suc, ◌≡◌, ℕ, ◌+◌, ◌<◌, ◌≤◌, Bool, true, false, ◌||◌, ◌&&◌, not, Option, Some, None, Ok, List, [], ◌∷◌, length, refl, sym, ap, subst, ◌∙◌, arith}
-use Rattle.std.specs.Prelude.{if◌then◌else◌, drop, slice_get, nat_le, nat_lt}
+use Rattle.std.proofs.Common.{zero, suc, ◌≡◌, ℕ, ◌+◌, ◌<◌, ◌≤◌, Bool, true, false, ◌||◌, Option, Some, None, Ok, List, [], ◌∷◌, length, refl, sym, ap, subst, ◌∙◌, arith}
+use Rattle.std.specs.Prelude.{if◌then◌else◌, drop, slice_get, nat_le, nat_lt, unwrap_or}
 use Rattle.std.proofs.lemmas.Bool.{lt-leb}
 use Rattle.ff_words.specs.declared.table.Concern.{Concern}
 use Rattle.ff_words.specs.declared.table.Concern.TheVariants.{Itself}
@@ -11,12 +11,12 @@ use Rattle.ff_words.specs.declared.value.Value.{Value}
 use Rattle.ff_words.specs.declared.value.Value.TheVariants as value
 use Rattle.ff_words.specs.declared.reader.Reader.{Reader}
 use Rattle.ff_format.specs.declared.format.FileFormat.{FileFormat}
-use Rattle.ff_format.specs.Formats.{has_file}
+use Rattle.ff_words.specs.Names.{input_name}
 use Rattle.ff_words.specs.Table.{option_named, format_ending}
 use Rattle.ff_words.specs.Values.{Reads, switched}
-use Rattle.ff_words.specs.Words.{Entry, takes, takes_value, is_too_much, is_dashed, is_lone, is_no_name, goes_nowhere, groups, last, as_format, is_file, or_else}
+use Rattle.ff_words.specs.Words.{Entry, takes, takes_value, is_too_much, is_dashed, name_as, job_name, is_file, or_else}
 use Rattle.ff_words.specs.laws.Reading.{reader, Stands, Taken, Steps, full, word_at, token_at, width, optioned, with_input, with_output, input_wrong, output_wrong, pending_format}
-use Rattle.ff_words.proofs.Known.{rule, no-option}
+use Rattle.ff_words.proofs.Known.{rule, no-option, reads-input}
 use Rattle.ff_words.proofs.Snoc.{taken-option, taken-input, taken-output}
 use Rattle.ff_words.proofs.Steps.{given-ok, given-fine}
 use Rattle.ff_words.proofs.Tokens.{token-given, token-switch, token-output, value-is, get_there, drop_at, stands-on, stands-start}
@@ -103,10 +103,10 @@ goes-option ws few w v rest r c k x g dashed named valued short small room plain
     given-step ws few g.at w v rest r (optioned (entry g.at c x) r) (rule c k) x g.stands g.behind dashed named valued short small room reads
     (taken-option g.stands.es g.at c x r (optioned (entry g.at c x) r) plain g.stands.kept refl)
 
-pub goes-input : (ws : List Text) (few : length ws ≤ 1024) (w name : Text) (rest : List Text) (r : Reader) (g : Goes ws (w ∷ name ∷ rest) r) → is_dashed w ≡ true
-    → option_named w ≡ Some (rule Itself kind.Input) → length w ≤ 65536 → length name ≤ 65536 → None ≡ input_wrong g.at r → Goes ws rest (with_input name r)
-goes-input ws few w name rest r g dashed named short small fine =
-    given-step ws few g.at w name rest r (with_input name r) (rule Itself kind.Input) (value.Input name) g.stands g.behind dashed named refl short small refl refl
+pub goes-input : (ws : List Text) (few : length ws ≤ 1024) (w v name : Text) (rest : List Text) (r : Reader) (g : Goes ws (w ∷ v ∷ rest) r) → is_dashed w ≡ true
+    → option_named w ≡ Some (rule Itself kind.Input) → length w ≤ 65536 → length v ≤ 65536 → input_name v ≡ Some name → None ≡ input_wrong g.at r → Goes ws rest (with_input name r)
+goes-input ws few w v name rest r g dashed named short small read fine =
+    given-step ws few g.at w v rest r (with_input name r) (rule Itself kind.Input) (value.Input name) g.stands g.behind dashed named refl short small refl (reads-input v name read)
     (taken-input g.stands.es g.at Itself (value.Input name) name r (with_input name r) refl g.stands.kept fine refl)
 
 -- ---- a word without a value
@@ -136,27 +136,17 @@ goes-switch ws few w rest r c k x g dashed named valued no_value short plain =
     (token-switch g.stands.es ws g.at (rule c k) x (Ok tt) (optioned (entry g.at c x) r) (ap (is_too_much g.at) is ∙ fits g.at w (omega (arith, there, few)) short)
     (ap is_dashed is ∙ dashed) (ap option_named is ∙ named) valued (taken-option g.stands.es g.at c x r (optioned (entry g.at c x) r) plain g.stands.kept refl))
 
--- `-` alone is a name of what goes nowhere
-can-name : (name : Text) (f : FileFormat) (lone : Bool) → is_lone name ≡ lone → (is_lone name ≡ true → has_file f ≡ false) → is_no_name name (Some f) ≡ false
-can-name name f false e h = ap (λ b. b && not (goes_nowhere (Some f))) e
-can-name name f true e h = ap (λ b. is_lone name && not (not b)) (h e) ∙ both-false (is_lone name)
-  where
-    both-false : (b : Bool) → (b && false) ≡ false
-    both-false true = refl
-    both-false false = refl
-
-pub goes-output : (ws : List Text) (few : length ws ≤ 1024) (name : Text) (rest : List Text) (r : Reader) (f : FileFormat) (g : Goes ws (name ∷ rest) r) → is_dashed name ≡ false
-    → (is_lone name ≡ true → has_file f ≡ false) → length name ≤ 65536
-    → ((ending : Option FileFormat) → None ≡ output_wrong g.at name ending r) → r.pending.format ≡ Some f → Goes ws rest (with_output name f r)
-goes-output ws few name rest r f g plain lone short fine told =
-    let there : g.at < length ws = some-there ws g.at name rest g.behind in
-    let is : word_at ws g.at ≡ name = word-is ws g.at name rest g.behind in
+pub goes-output : (ws : List Text) (few : length ws ≤ 1024) (word name : Text) (rest : List Text) (r : Reader) (f : FileFormat) (g : Goes ws (word ∷ rest) r) → is_dashed word ≡ false
+    → name_as f word ≡ Some name → length word ≤ 65536
+    → ((ending : Option FileFormat) → None ≡ output_wrong g.at word ending r) → r.pending.format ≡ Some f → Goes ws rest (with_output name f r)
+goes-output ws few word name rest r f g plain read short fine told =
+    let there : g.at < length ws = some-there ws g.at word rest g.behind in
+    let is : word_at ws g.at ≡ word = word-is ws g.at word rest g.behind in
     let ending : Option FileFormat = format_ending (word_at ws g.at) in
-    let same : value.Output (word_at ws g.at) ending ≡ value.Output name ending = ap (λ n. value.Output n ending) is in
+    let same : value.Output (word_at ws g.at) ending ≡ value.Output word ending = ap (λ n. value.Output n ending) is in
     let has : Some f ≡ pending_format r.pending ending = ap (λ o. or_else o ending) (sym told) in
-    one-step ws few g.at name rest r (with_output name f r) g.stands g.behind (ap takes (no-option name plain))
-    (token-output g.stands.es ws g.at (Ok tt) (with_output name f r) (ap (is_too_much g.at) is ∙ fits g.at name (omega (arith, there, few)) short)
+    let made : with_output name f r ≡ with_output (job_name f word) f r = ap (λ o. with_output (unwrap_or o word) f r) (sym read) in
+    one-step ws few g.at word rest r (with_output name f r) g.stands g.behind (ap takes (no-option word plain))
+    (token-output g.stands.es ws g.at (Ok tt) (with_output name f r) (ap (is_too_much g.at) is ∙ fits g.at word (omega (arith, there, few)) short)
     (ap is_dashed is ∙ plain)
-    (ap (λ n. is_no_name n (last as_format (groups g.stands.es).behind)) is
-    ∙ (ap (λ (x : Reader). is_no_name name x.pending.format) (sym g.stands.kept) ∙ (ap (is_no_name name) told ∙ can-name name f (is_lone name) refl lone)))
-    (taken-output g.stands.es g.at Itself (value.Output (word_at ws g.at) ending) name ending f r (with_output name f r) same g.stands.kept (fine ending) has refl))
+    (taken-output g.stands.es g.at Itself (value.Output (word_at ws g.at) ending) word ending f r (with_output name f r) same g.stands.kept (fine ending) has made))

@@ -26,7 +26,8 @@ use Rattle.ff_words.specs.declared.value.Micros.{Micros}
 use Rattle.ff_words.specs.declared.value.Value.TheVariants as value
 use Rattle.ff_format.specs.Formats.{file_formats, format_name, found, is_read, is_written, line_named}
 use Rattle.ff_words.specs.Table.{rule_in, option_named, format_in, format_named, named, audio_codec, video_codec}
-use Rattle.ff_words.specs.Values.{Reads, or_bad, format_value, codec_value, hash_value, rf64_value, pixels_value, size_value}
+use Rattle.ff_words.specs.Values.{Reads, or_bad, format_value, codec_value, name_value, hash_value, rf64_value, pixels_value, size_value}
+use Rattle.ff_words.specs.Names.{input_name, trace_name}
 use Rattle.ff_words.specs.Words.{is_dashed}
 use Rattle.ff_words.specs.Options.{options, hash_name, rf64_name, pixels_name}
 use Rattle.ff_words.specs.laws.Writing.{micros_text, map_text, rate_text, size_text, IsFineMap, IsFineGraph, IsFineSize, IsSoundCodec}
@@ -254,6 +255,12 @@ reads-base f h = (Ok f, is-rate f h, refl)
 
 pub reads-size : (s : Size) → IsFineSize s → Reads kind.Size (size_text s) (Ok (value.Size s))
 reads-size s h = sym (ap (λ o. or_bad (size_value o)) (is-size s h))
+
+pub reads-input : (text name : List ℕ) → input_name text ≡ Some name → Reads kind.Input text (Ok (value.Input name))
+reads-input text name h = sym (ap (λ o. or_bad (name_value value.Input o)) h)
+
+pub reads-trace : (text name : List ℕ) → trace_name text ≡ Some name → Reads kind.Trace text (Ok (value.Trace name))
+reads-trace text name h = sym (ap (λ o. or_bad (name_value value.Trace o)) h)
 
 pub reads-map : (m : MapSpec) → IsFineMap m → Reads kind.Map (map_text m) (Ok (value.Map m))
 reads-map m h = (Ok m, is-map m h, refl)

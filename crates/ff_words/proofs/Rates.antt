@@ -1,7 +1,7 @@
 -- Rates of frames as time bases: which there is, that there is one at most, and how it is written.
-use Rattle.std.proofs.Common.{◌≡◌, ℕ, zero, suc, ◌+◌, ◌-◌, ◌*◌, ◌^◌, ◌<◌, ◌≤◌, ◌⊎◌, inl, inr, ℤ, pos, ◌<ℤ◌, Result, Err, Bool, true, false, cond, Option, Some, None, List, [], ◌∷◌, ◌++◌, take, drop, length, refl, sym, ap, subst, ◌∙◌, arith, length-append, decimal}
-use Rattle.std.specs.Prelude.{◌↔◌, IsErrOf, not, unwrap_or, nat_le, nat_lt, ◌==◌, ◌&&◌, if◌then◌else◌}
-use Rattle.std.specs.Int.{IsGcd, ◌∣◌}
+use Rattle.std.proofs.Common.{◌≡◌, ℕ, suc, ◌+◌, ◌-◌, ◌*◌, ◌^◌, ◌<◌, ◌≤◌, ◌⊎◌, inl, inr, ℤ, pos, true, false, cond, Option, Some, None, List, [], ◌∷◌, ◌++◌, take, drop, length, refl, sym, ap, subst, ◌∙◌, arith, length-append, decimal}
+use Rattle.std.specs.Prelude.{not, unwrap_or, nat_le, nat_lt, ◌==◌, ◌&&◌, if◌then◌else◌}
+use Rattle.std.specs.Int.{◌∣◌}
 use Rattle.std.specs.List.{position_or_len, before_first, after_first}
 use Rattle.std.proofs.lemmas.Bool.Decides.{nat_tests}
 use Rattle.std.proofs.Math.Nat.{one-dvd}
@@ -10,10 +10,10 @@ use Rattle.std.proofs.lemmas.Str.Parse.{digit_from_value}
 use Rattle.std.proofs.lemmas.Str.{digit_value_digit}
 use Rattle.std.specs.Str.Parse.{AllDigits, digits_value_after}
 use Rattle.std.specs.Char.{digit_value}
-use Rattle.ff_frame.specs.Sizes.{is_x, sides_of, is_side}
-use Rattle.ff_time.specs.Digits.{is_digit, digits_from, number_of, is_slash, over_one, both, ratio_of, IsRate}
-use Rattle.ff_time.specs.Fraction.{Fraction, IsBase, IsLowestOf, IsBelowOne, IsTooBig, IsReduced}
-use Rattle.ff_time.proofs.Lowest.{IsLowestOf-small, IsReduced-num, IsReduced-den}
+use Rattle.ff_frame.specs.Sizes.{sides_of, is_side}
+use Rattle.ff_time.specs.Digits.{is_digit, digits_from, number_of, over_one, both, IsRate}
+use Rattle.ff_time.specs.Fraction.{Fraction, IsBase, IsLowestOf, IsReduced}
+use Rattle.ff_time.proofs.Lowest.{IsReduced-num, IsReduced-den}
 use Rattle.ff_words.specs.declared.job.Size.{Size}
 use Rattle.ff_words.specs.Numbers.{sized, size_of}
 use Rattle.ff_words.specs.laws.Writing.{rate_text, size_text, IsFineSize, IsFineText}

@@ -1,9 +1,11 @@
 -- The words of a command are read as that command.
-use Rattle.std.proofs.Common.{zero, suc, ◌≡◌, ℕ, ◌+◌, ◌<◌, ◌≤◌, ◌^◌, Bool, true, false, ◌&&◌, Option, Some, None, Ok, List, [], ◌∷◌, ◌++◌, length, refl, sym, ap, subst, ◌∙◌, append_assoc, length-append, arith}
+use Rattle.std.proofs.Common.{zero, suc, ◌≡◌, ℕ, ◌+◌, ◌<◌, ◌≤◌, ◌^◌, Bool, true, false, ◌&&◌, ◌||◌, Option, Some, None, Ok, List, [], ◌∷◌, ◌++◌, length, refl, sym, ap, subst, ◌∙◌, append_assoc, length-append, arith}
 use Rattle.std.specs.Prelude.{if◌then◌else◌, unwrap_or, drop, not, nat_le, ◌==◌, flat_map, codes}
 use Rattle.std.specs.List.{AllByRecursion}
 use Rattle.std.specs.Option.{ForSome}
 use Rattle.std.specs.Fmt.{decimal}
+use Rattle.std.specs.Str.{bytes_eq}
+use Rattle.std.proofs.lemmas.Slice.Eq.{bytes_eq-Decides}
 use Rattle.std.proofs.Props.{props}
 use Rattle.std.proofs.lemmas.Bool.{lt-leb, ne_eqb}
 use Rattle.std.proofs.lemmas.List.{append-nil}
@@ -35,19 +37,20 @@ use Rattle.ff_words.specs.declared.value.Micros.{Micros}
 use Rattle.ff_words.specs.declared.value.Value.TheVariants as value
 use Rattle.ff_words.specs.laws.Reading.{pending, reader, place_unless, end_wrong}
 use Rattle.ff_words.specs.declared.error.Fault.{Fault}
-use Rattle.ff_words.specs.Words.{IsAnswer, or_else, cut_of, start_of, length_of, ends_early, fault, bad_at, lacks_input, same_name}
-use Rattle.ff_format.specs.Formats.{format_name, is_read, is_written, short_name}
+use Rattle.ff_words.specs.Words.{IsAnswer, or_else, cut_of, length_of, ends_early, fault, bad_at, lacks_input, is_dashed, name_as, is_some_name, is_twice, shares_name, read_names}
+use Rattle.ff_format.specs.Formats.{format_name, has_file, is_read, is_written, short_name}
 use Rattle.ff_words.specs.Options.{hash_name, rf64_name, pixels_name}
 use Rattle.ff_words.specs.declared.job.Asked.{Asked}
 use Rattle.ff_words.specs.declared.job.Size.{Size}
+use Rattle.ff_words.specs.Names.{stdin, input_name, output_name, trace_name}
 use Rattle.ff_words.specs.Words.{none_asked}
 use Rattle.ff_words.proofs.Rates.{rate-short, size-short}
 use Rattle.ff_time.specs.Fraction.{Fraction, IsBase}
 use Rattle.ff_frame.specs.declared.video.Format.{Format}
 use Rattle.ff_frame.specs.declared.video.Format.TheVariants.{C420, C422, C444, Mono}
-use Rattle.ff_words.specs.laws.Writing.{given, micros_text, map_text, format_words, start_words, length_words, frames_words, rate_words, channels_words, pixels_words, base_words, size_words, asked_words, rate_text, size_text, input_words, map_words, audio_words, video_words, vf_words, af_words, hash_words, rf64_words, where_some, where_true, output_words, graph_words, trace_words, keeps_words, queue_words, job_words, IsFineText, IsFineGraph, IsFineMap, IsReadFormat, IsSoundCodec, WhereSome, IsFineSize, IsFineAsked, IsFineInput, IsFineOutput, IsFineJob, IsFineSolo, IsFineCommand, solo_words, command_words}
+use Rattle.ff_words.specs.laws.Writing.{given, micros_text, map_text, format_words, start_words, length_words, frames_words, rate_words, channels_words, pixels_words, base_words, size_words, asked_words, rate_text, size_text, input_words, map_words, audio_words, video_words, vf_words, af_words, hash_words, rf64_words, where_some, where_true, output_words, graph_words, trace_words, keeps_words, queue_words, job_words, is_itself, spelled, input_text, trace_text, as_it_stands, output_text, IsFineText, IsFineGraph, IsFineMap, IsReadFormat, IsSoundCodec, WhereSome, IsFineSize, IsFineAsked, IsFineInput, IsFineOutput, IsFineJob, IsFineSolo, IsFineCommand, solo_words, command_words}
 use Rattle.ff_words.proofs.Spellings.{is-number, number-short, micros-short, map-short}
-use Rattle.ff_words.proofs.Known.{line-queue, line-keeps, line-help, line-version, line-self_run, line-trace, line-complex, line-format, line-start, line-length, line-input, line-map, line-audio, line-video, line-vf, line-af, line-no_audio, line-no_video, line-shortest, line-frames, line-rate, line-channels, line-pixels, line-base, line-size, line-hash, line-rf64, reads-format, reads-audio, reads-video, reads-hash, reads-rf64, reads-pixels, reads-base, reads-size, reads-map, reads-complex, reads-vf, reads-af, reads-start, reads-length}
+use Rattle.ff_words.proofs.Known.{line-queue, line-keeps, line-help, line-version, line-self_run, line-trace, line-complex, line-format, line-start, line-length, line-input, line-map, line-audio, line-video, line-vf, line-af, line-no_audio, line-no_video, line-shortest, line-frames, line-rate, line-channels, line-pixels, line-base, line-size, line-hash, line-rf64, reads-format, reads-audio, reads-video, reads-hash, reads-rf64, reads-pixels, reads-base, reads-size, reads-map, reads-trace, reads-complex, reads-vf, reads-af, reads-start, reads-length}
 use Rattle.ff_words.proofs.Goes.{Goes, goes-start, goes-by, goes-option, goes-input, goes-switch, goes-output}
 use Rattle.ff_words.proofs.Tokens.{ended}
 
@@ -440,9 +443,9 @@ made_output o =
     own o.maps o.audio o.video o.vf o.af o.no_audio o.no_video (Some (start_in o.cut)) (micros_in o.cut.length o.cut.length_bound) o.frames o.asked o.shortest (Some o.hash) (mode_in o.rf64) (Some o.format)
 
 output-options : (ws : List Text) (few : length ws ≤ 1024) (rest : List Text) (r : Reader) (o : OutputJob) → IsFineOutput o → Goes ws (output_words o ++ rest) (in_hand r (pending []))
-    → Out ws (o.name ∷ rest) r (made_output o)
+    → Out ws (output_text o.format o.name ∷ rest) r (made_output o)
 output-options ws few rest r o fine g =
-    let y14 : List Text = o.name ∷ [] in
+    let y14 : List Text = output_text o.format o.name ∷ [] in
     let y13 : List Text = format_words o.format ++ y14 in
     let y12 : List Text = rf64_words o.rf64 ++ y13 in
     let y11 : List Text = hash_words o.hash ++ y12 in
@@ -477,16 +480,64 @@ output-options ws few rest r o fine g =
     let h13 : Out ws (y13 ++ rest) r (own o.maps o.audio o.video o.vf o.af o.no_audio o.no_video s l o.frames o.asked o.shortest (Some o.hash) (mode_in o.rf64) None) = rf64-read ws few y13 rest r (own o.maps o.audio o.video o.vf o.af o.no_audio o.no_video s l o.frames o.asked o.shortest (Some o.hash) None None) o.rf64 h12 in
     format-read ws few y14 rest r (own o.maps o.audio o.video o.vf o.af o.no_audio o.no_video s l o.frames o.asked o.shortest (Some o.hash) (mode_in o.rf64) None) o.format fine.format h13
 
+-- ---- names, as they are written
+
+itself : (o : Option Text) (name : Text) → is_itself o name ≡ true → o ≡ Some name
+itself None name h = cc
+itself (Some read) name h = ap Some ((bytes_eq-Decides read name).0 h)
+
+input-names : (name : Text) (b : Bool) → is_itself (input_name name) name ≡ b → input_name (spelled b name) ≡ Some name
+unfolding input_name
+input-names name true h = itself (input_name name) name h
+input-names name false h = refl
+
+trace-names : (name : Text) (b : Bool) → is_itself (trace_name name) name ≡ b → trace_name (spelled b name) ≡ Some name
+unfolding trace_name
+trace-names name true h = itself (trace_name name) name h
+trace-names name false h = refl
+
+both-true : (a b : Bool) → (a && b) ≡ true → (a ≡ true) × (b ≡ true)
+both-true true b h = (refl, h)
+both-true false b h = cc
+
+undashed : (b : Bool) → not b ≡ true → b ≡ false
+undashed false h = refl
+undashed true h = cc
+
+output-behind : (name : Text) → output_name (spelled false name) ≡ Some name
+unfolding output_name
+output-behind name = refl
+
+-- the name of what goes nowhere stands as it is
+stands-so : (f : FileFormat) (name : Text) → has_file f ≡ false → is_dashed name ≡ false → as_it_stands f name ≡ true
+stands-so f name none plain =
+    let same : bytes_eq name name ≡ true = (bytes_eq-Decides name name).1 refl in
+    ap (λ b. not b && is_itself (name_as f name) name) plain
+    ∙ (ap (λ b. is_itself (if b then output_name name else Some name) name) none ∙ same)
+
+behind : (f : FileFormat) (name : Text) (filed : Bool) → has_file f ≡ filed → as_it_stands f name ≡ false → (has_file f ≡ false → is_dashed name ≡ false)
+    → (if filed then output_name (spelled false name) else Some (spelled false name)) ≡ Some name
+behind f name true h s plain = output-behind name
+behind f name false h s plain = absurd (let so : as_it_stands f name ≡ true = stands-so f name h (plain h) in cc)
+
+output-names : (f : FileFormat) (name : Text) (b : Bool) → as_it_stands f name ≡ b → (has_file f ≡ false → is_dashed name ≡ false) → name_as f (spelled b name) ≡ Some name
+output-names f name true h plain = itself (name_as f name) name (both-true (not (is_dashed name)) (is_itself (name_as f name) name) h).1
+output-names f name false h plain = behind f name (has_file f) refl h plain
+
+output-plain : (f : FileFormat) (name : Text) (b : Bool) → as_it_stands f name ≡ b → is_dashed (spelled b name) ≡ false
+output-plain f name true h = undashed (is_dashed name) (both-true (not (is_dashed name)) (is_itself (name_as f name) name) h).0
+output-plain f name false h = refl
+
 -- without an end no cut ends early
 never_early : (start : ℕ) (length : Option Micros) → ends_early start length None ≡ None
 never_early start None = refl
 never_early start (Some m) = refl
 
-in_bounds : (full empty : Bool) (at : ℕ) (early : Option Fault) → full ≡ false → empty ≡ false → early ≡ None
-    → None ≡ (if full then Some (fault at TooMany) else or_else early (or_else (bad_at None) (if not empty && true then None else Some (fault at BadValue))))
-in_bounds false false at None h k e = refl
-in_bounds false false at (Some f) h k e = cc
-in_bounds false true at early h k e = cc
+in_bounds : (full named : Bool) (at : ℕ) (early : Option Fault) → full ≡ false → named ≡ true → early ≡ None
+    → None ≡ (if full then Some (fault at TooMany) else or_else early (or_else (bad_at None) (if named then None else Some (fault at BadValue))))
+in_bounds false true at None h k e = refl
+in_bounds false true at (Some f) h k e = cc
+in_bounds false false at early h k e = cc
 in_bounds true b at early h k e = cc
 
 output-same : (o : OutputJob) (c : TimeCut) (mode : Rf64) → c ≡ o.cut → mode ≡ o.rf64 → record o { cut = c; rf64 = mode } ≡ o
@@ -495,15 +546,18 @@ output-same o c mode e f = ap (λ x. record o { cut = x; rf64 = mode }) e ∙ ap
 output-read : (ws : List Text) (few : length ws ≤ 1024) (rest : List Text) (r : Reader) (o : OutputJob) → IsFineOutput o → length r.outputs < 16 → Goes ws (output_words o ++ rest) (in_hand r (pending []))
     → Goes ws rest (record r { outputs = r.outputs ++ o ∷ []; pending = pending [] })
 output-read ws few rest r o fine room g =
-    let h : Out ws (o.name ∷ rest) r (made_output o) = output-options ws few rest r o fine g in
+    let h : Out ws (output_text o.format o.name ∷ rest) r (made_output o) = output-options ws few rest r o fine g in
     let full : nat_le 16 (length r.outputs) ≡ false = lt-leb 16 (length r.outputs) room in
     let empty : (length o.name == 0) ≡ false = ne_eqb (length o.name) 0 (λ e. omega (arith, e, fine.some_name)) in
+    let read : name_as o.format (output_text o.format o.name) ≡ Some o.name = output-names o.format o.name (as_it_stands o.format o.name) refl fine.plain_name in
+    let named : is_some_name (name_as o.format (output_text o.format o.name)) ≡ true = ap is_some_name read ∙ ap not empty in
     let old : Reader = in_hand r (held h.0 h.1 h.2 (made_output o)) in
     let l : Option Micros = micros_in o.cut.length o.cut.length_bound in
     let early : ends_early o.cut.start l None ≡ None = never_early o.cut.start l in
     subst (λ x. Goes ws rest (record r { outputs = r.outputs ++ x ∷ []; pending = pending [] }))
     (output-same o (cut_of (Some (start_in o.cut)) (micros_in o.cut.length o.cut.length_bound) None) (unwrap_or (mode_in o.rf64) Never) (cut-same o.cut) (mode-is o.rf64))
-    (goes-output ws few o.name rest old o.format h.3 fine.plain_name fine.lone_name fine.name (λ ending. in_bounds (nat_le 16 (length r.outputs)) (length o.name == 0) h.3.at (ends_early o.cut.start l None) full empty early) refl)
+    (goes-output ws few (output_text o.format o.name) o.name rest old o.format h.3 (output-plain o.format o.name (as_it_stands o.format o.name) refl) read fine.name
+    (λ ending. in_bounds (nat_le 16 (length r.outputs)) (is_some_name (name_as o.format (output_text o.format o.name))) h.3.at (ends_early o.cut.start l None) full named early) refl)
 
 outputs-read : (ws : List Text) (few : length ws ≤ 1024) (rest : List Text) (os : List OutputJob) (r : Reader) → AllByRecursion IsFineOutput os → length r.outputs + length os ≤ 16
     → Goes ws (flat_map output_words os ++ rest) (in_hand r (pending [])) → Goes ws rest (record r { outputs = r.outputs ++ os; pending = pending [] })
@@ -560,7 +614,7 @@ input-same i c e = ap (λ x. record i { cut = x }) e
 input-read : (ws : List Text) (few : length ws ≤ 1024) (rest : List Text) (r : Reader) (i : InputJob) → IsFineInput i → length r.inputs < 16 → Goes ws (input_words i ++ rest) (in_hand r (pending []))
     → Goes ws rest (record r { inputs = r.inputs ++ i ∷ []; pending = pending [] })
 input-read ws few rest r i fine room g =
-    let y3 : List Text = given (codes "-i") i.name in
+    let y3 : List Text = given (codes "-i") (input_text i.name) in
     let y2 : List Text = length_words i.cut.length ++ y3 in
     let y1 : List Text = start_words i.cut.start ++ y2 in
     let s : Option Micros = Some (start_in i.cut) in
@@ -572,7 +626,7 @@ input-read ws few rest r i fine room g =
     let old : Reader = in_hand r (held_in h3.0 h3.1 (own [] None None None None false false s l None none_asked false None None i.format)) in
     let full : nat_le 16 (length r.inputs) ≡ false = lt-leb 16 (length r.inputs) room in
     subst (λ x. Goes ws rest (record r { inputs = r.inputs ++ x ∷ []; pending = pending [] })) (input-same i (cut_of s l None) (cut-same i.cut))
-    (goes-input ws few (codes "-i") i.name rest old h3.2 refl line-input (omega arith) fine.name (in_room (nat_le 16 (length r.inputs)) (h3.2.at + 1) (ends_early i.cut.start l None) full (never_early i.cut.start l)))
+    (goes-input ws few (codes "-i") (input_text i.name) i.name rest old h3.2 refl line-input (omega arith) fine.name (input-names i.name (is_itself (input_name i.name) i.name) refl) (in_room (nat_le 16 (length r.inputs)) (h3.2.at + 1) (ends_early i.cut.start l None) full (never_early i.cut.start l)))
 
 inputs-read : (ws : List Text) (few : length ws ≤ 1024) (rest : List Text) (is : List InputJob) (r : Reader) → AllByRecursion IsFineInput is → length r.inputs + length is ≤ 16
     → Goes ws (flat_map input_words is ++ rest) (in_hand r (pending [])) → Goes ws rest (record r { inputs = r.inputs ++ is; pending = pending [] })
@@ -598,11 +652,12 @@ graphs-read ws few rest (x ∷ gs) r fine room g =
     subst (λ t. Goes ws rest (record r { graphs = t; pending = pending [] })) (append_assoc r.graphs (x ∷ []) gs)
     (graphs-read ws few rest gs after fine.1 (omega (arith, room, length-append r.graphs (x ∷ []))) one)
 
-trace-read : (ws : List Text) (few : length ws ≤ 1024) (rest : List Text) (o : Option Text) (r : Reader) → WhereSome IsFineText o
+trace-read : (ws : List Text) (few : length ws ≤ 1024) (rest : List Text) (o : Option Text) (r : Reader) → WhereSome (λ name. IsFineText (trace_text name)) o
     → Goes ws (trace_words o ++ rest) (in_hand (record r { trace = None }) (pending [])) → Goes ws rest (in_hand (record r { trace = o }) (pending []))
 trace-read ws few rest None r fine g = g
 trace-read ws few rest (Some name) r fine g =
-    goes-option ws few (codes "-sched_trace") name rest (in_hand (record r { trace = None }) (pending [])) All kind.Trace (value.Trace name) g refl line-trace refl (omega arith) fine refl refl refl
+    goes-option ws few (codes "-sched_trace") (trace_text name) rest (in_hand (record r { trace = None }) (pending [])) All kind.Trace (value.Trace name) g refl line-trace refl (omega arith) fine refl refl
+    (reads-trace (trace_text name) name (trace-names name (is_itself (trace_name name) name) refl))
 
 keeps-read : (ws : List Text) (few : length ws ≤ 1024) (rest : List Text) (b : Bool) (r : Reader)
     → Goes ws (keeps_words b ++ rest) (in_hand (record r { keeps = false }) (pending [])) → Goes ws rest (in_hand (record r { keeps = b }) (pending []))
@@ -657,7 +712,8 @@ job-read j fine few =
     let g : Goes (job_words j) [] (done j) = all-read j fine few in
     let no_output : (length j.outputs == 0) ≡ false = ne_eqb (length j.outputs) 0 (λ e. omega (arith, e, fine.some_outputs)) in
     let right : end_wrong (length (job_words j)) (done j) ≡ None =
-    fine_end (lacks_input j.inputs j.graphs) (length j.outputs == 0) (same_name j) (length (job_words j)) fine.some_inputs no_output fine.names in
+    fine_end (lacks_input j.inputs j.graphs) (length j.outputs == 0) (shares_name j) (length (job_words j)) fine.some_inputs no_output
+    (ap (λ b. b || is_twice stdin (read_names j)) fine.names ∙ fine.one_stdin) in
     ended (job_words j) g.at (done j) g.stands (Ok (asked.Run j)) (none_left (job_words j) g.at g.behind) (right, refl)
 
 -- a word that stands alone

@@ -11,7 +11,7 @@ use Rattle.ff_format.specs.declared.format.FileFormat.{FileFormat}
 use Rattle.ff_format.specs.declared.format.FileFormat.TheVariants.{FrameHash}
 use Rattle.ff_words.specs.Words.{not_before_input, not_before_output, not_at_end, as_format, as_start, as_length, as_end, as_map, as_audio, as_video, as_vf, as_af, as_no_audio, as_no_video, as_shortest, as_frames, as_rate, as_channels, as_pixels, as_base, as_size, as_hash, as_rf64, as_queue, as_trace, as_keeps, as_graph, as_solo, Entry, Group, Groups, groups, led, is_file, or_else, last, each, first_place, last_place, unread_place, unwritten_place, inputs, outputs, group_input, group_output}
 use Rattle.std.specs.Prelude.{flat_map}
-use Rattle.ff_words.specs.Words.{output_format, late}
+use Rattle.ff_words.specs.Words.{output_format, job_name, late}
 use Rattle.ff_words.specs.laws.Reading.{with_input, with_output, input_wrong, output_wrong, pending_format, valued, noted, whole, pending, reader, waiting, optioned, kept}
 
 or_else_assoc : {X : Type 0} (a b c : Option X) → or_else (or_else a b) c ≡ or_else a (or_else b c)
@@ -290,17 +290,19 @@ input-filed : (name : List ℕ) (es : List Entry) → filed (value.Input name) e
 input-filed name es = ap (λ t. record (with_input name (reader es)) { outputs = t }) (append-nil (outputs es))
 
 pub output-filed : (name : List ℕ) (ending : Option FileFormat) (es : List Entry)
-    → filed (value.Output name ending) es ≡ with_output name (unwrap_or (output_format (groups es).behind ending) FrameHash) (reader es)
+    → filed (value.Output name ending) es
+    ≡ with_output (job_name (unwrap_or (output_format (groups es).behind ending) FrameHash) name) (unwrap_or (output_format (groups es).behind ending) FrameHash) (reader es)
 output-filed name ending es =
-    ap (λ t. record (with_output name (unwrap_or (output_format (groups es).behind ending) FrameHash) (reader es)) { inputs = t }) (append-nil (inputs es))
+    let f : FileFormat = unwrap_or (output_format (groups es).behind ending) FrameHash in
+    ap (λ t. record (with_output (job_name f name) f (reader es)) { inputs = t }) (append-nil (inputs es))
 
 pub reader-input : (es : List Entry) (at : ℕ) (concern : Concern) (name : List ℕ) → reader (es ++ entry at concern (value.Input name) ∷ []) ≡ with_input name (reader es)
 reader-input es at concern name = filed-is es (entry at concern (value.Input name)) refl ∙ input-filed name es
 
 pub reader-output : (es : List Entry) (at : ℕ) (concern : Concern) (name : List ℕ) (ending : Option FileFormat) (format : FileFormat) → output_format (groups es).behind ending ≡ Some format
-    → reader (es ++ entry at concern (value.Output name ending) ∷ []) ≡ with_output name format (reader es)
+    → reader (es ++ entry at concern (value.Output name ending) ∷ []) ≡ with_output (job_name format name) format (reader es)
 reader-output es at concern name ending format is =
-    filed-is es (entry at concern (value.Output name ending)) refl ∙ (output-filed name ending es ∙ ap (λ o. with_output name (unwrap_or o FrameHash) (reader es)) is)
+    filed-is es (entry at concern (value.Output name ending)) refl ∙ (output-filed name ending es ∙ ap (λ o. with_output (job_name (unwrap_or o FrameHash) name) (unwrap_or o FrameHash) (reader es)) is)
 
 -- ---- what was taken
 
@@ -377,10 +379,10 @@ not_file (value.Rf64 mode) i o = refl
 not_file (value.Output n x) i o = absurd (o n x refl)
 
 pub taken-output : (es : List Entry) (at : ℕ) (concern : Concern) (v : Value) (name : List ℕ) (ending : Option FileFormat) (format : FileFormat) (old new : Reader) → v ≡ value.Output name ending
-    → old ≡ reader es → None ≡ output_wrong at name ending old → Some format ≡ pending_format old.pending ending → new ≡ with_output name format old
+    → old ≡ reader es → None ≡ output_wrong at name ending old → Some format ≡ pending_format old.pending ending → new ≡ with_output (job_name format name) format old
     → (late es at v ≡ None) × (new ≡ reader (es ++ entry at concern v ∷ []))
 taken-output es at concern v name ending format old new is stands fine told made = (
   ap (late es at) is ∙ (ap (output_wrong at name ending) (sym stands) ∙ sym fine),
-  made ∙ (ap (with_output name format) stands ∙ (sym (reader-output es at concern name ending format (ap (λ r. pending_format r.pending ending) (sym stands) ∙ sym told))
+  made ∙ (ap (with_output (job_name format name) format) stands ∙ (sym (reader-output es at concern name ending format (ap (λ r. pending_format r.pending ending) (sym stands) ∙ sym told))
       ∙ ap (λ w. reader (es ++ entry at concern w ∷ [])) (sym is))),
 )

@@ -16,7 +16,7 @@ use Rattle.ff_words.specs.declared.value.Value.TheVariants as value
 use Rattle.ff_words.specs.declared.reader.Reader.{Reader}
 use Rattle.ff_words.specs.Table.{option_named, format_ending}
 use Rattle.ff_words.specs.Values.{Reads, switched}
-use Rattle.ff_words.specs.Words.{Entry, Token, groups, last, as_format, is_no_name, name_fault, option_fault, fault, early, given_fault, value_fault, is_full, takes, placed, is_too_much, is_dashed, IsToken, IsNamed, IsOption, TokenReads, IsFaultAt}
+use Rattle.ff_words.specs.Words.{Entry, Token, option_fault, fault, early, given_fault, value_fault, is_full, takes, placed, is_too_much, is_dashed, IsToken, IsNamed, IsOption, TokenReads, IsFaultAt}
 use Rattle.ff_words.specs.laws.Reading.{reader, full, Taken, Steps}
 
 -- an option's early fault, once its word and its rule are known
@@ -24,18 +24,10 @@ pub early-option : (es : List Entry) (t : Token) (rule : Rule) → is_too_much t
     → early es t ≡ (if takes (Some rule) then given_fault es t.at rule.kind t.value else None)
 early-option es t rule short dashed named = simp (short, dashed, named) refl
 
-early-name : (es : List Entry) (t : Token) → is_too_much t.at t.word ≡ false → is_dashed t.word ≡ false → early es t ≡ name_fault es t
-early-name es t short dashed =
-    ap (λ b. if b then Some (fault t.at TooMany) else (if is_dashed t.word then option_fault es t (option_named t.word) else name_fault es t)) short
-    ∙ ap (λ b. if b then option_fault es t (option_named t.word) else name_fault es t) dashed
-
-pub early-output : (es : List Entry) (t : Token) → is_too_much t.at t.word ≡ false → is_dashed t.word ≡ false
-    → is_no_name t.word (last as_format (groups es).behind) ≡ false → early es t ≡ None
-early-output es t short dashed named = early-name es t short dashed ∙ ap (λ b. if b then Some (fault t.at UnknownOption) else None) named
-
-pub early-lone : (es : List Entry) (t : Token) → is_too_much t.at t.word ≡ false → is_dashed t.word ≡ false
-    → is_no_name t.word (last as_format (groups es).behind) ≡ true → early es t ≡ Some (fault t.at UnknownOption)
-early-lone es t short dashed named = early-name es t short dashed ∙ ap (λ b. if b then Some (fault t.at UnknownOption) else None) named
+pub early-output : (es : List Entry) (t : Token) → is_too_much t.at t.word ≡ false → is_dashed t.word ≡ false → early es t ≡ None
+early-output es t short dashed =
+    ap (λ b. if b then Some (fault t.at TooMany) else (if is_dashed t.word then option_fault es t (option_named t.word) else None)) short
+    ∙ ap (λ b. if b then option_fault es t (option_named t.word) else None) dashed
 
 pub early-far : (es : List Entry) (t : Token) → is_too_much t.at t.word ≡ true → early es t ≡ Some (fault t.at TooMany)
 early-far es t far = simp far refl

@@ -15,18 +15,14 @@ use Rattle.ff_words.specs.Values.{switched}
 use Rattle.ff_words.specs.declared.job.Command.{Command}
 use Rattle.ff_words.specs.declared.job.Solo.{Solo}
 use Rattle.std.proofs.lemmas.List.{append-nil}
-use Rattle.ff_words.specs.Words.{AreRead, IsEntry, command_by, end_fault, end_by, stands_alone, misplaced, first_place, not_at_end, groups, last, as_format, is_no_name, as_solo, Entry, Token, tokens, takes, takes_value, fault, is_too_much, is_dashed, IsFaultAt}
+use Rattle.ff_words.specs.Words.{AreRead, IsEntry, command_by, end_fault, end_by, stands_alone, misplaced, first_place, not_at_end, groups, last, as_solo, Entry, Token, tokens, takes, takes_value, fault, is_too_much, is_dashed, IsFaultAt}
 use Rattle.ff_words.specs.laws.Reading.{reader, Stands, Answers, Ended, end_wrong, command_of, word_at, token_at, width, Taken, Steps, Given}
-use Rattle.ff_words.proofs.Steps.{early-output, early-lone, early-unknown, early-switch, early-missing, reads-output, reads-switch, taken-steps}
-
-pub token-lone : (es : List Entry) (ws : List (List ℕ)) (at : ℕ) → is_too_much at (word_at ws at) ≡ false → is_dashed (word_at ws at) ≡ false
-    → is_no_name (word_at ws at) (last as_format (groups es).behind) ≡ true → IsFaultAt es (token_at ws at) (fault at UnknownOption)
-token-lone es ws at short dashed named = inl (early-lone es (token_at ws at) short dashed named)
+use Rattle.ff_words.proofs.Steps.{early-output, early-unknown, early-switch, early-missing, reads-output, reads-switch, taken-steps}
 
 pub token-output : (es : List Entry) (ws : List (List ℕ)) (at : ℕ) (result : Result (Unit {0}) WordError) (new : Reader) → is_too_much at (word_at ws at) ≡ false → is_dashed (word_at ws at) ≡ false
-    → is_no_name (word_at ws at) (last as_format (groups es).behind) ≡ false → Taken es at Itself (value.Output (word_at ws at) (format_ending (word_at ws at))) result new → Steps es (token_at ws at) result new
-token-output es ws at result new short dashed named taken =
-    taken-steps es (token_at ws at) Itself (value.Output (word_at ws at) (format_ending (word_at ws at))) result new (early-output es (token_at ws at) short dashed named) (reads-output (token_at ws at) dashed) taken
+    → Taken es at Itself (value.Output (word_at ws at) (format_ending (word_at ws at))) result new → Steps es (token_at ws at) result new
+token-output es ws at result new short dashed taken =
+    taken-steps es (token_at ws at) Itself (value.Output (word_at ws at) (format_ending (word_at ws at))) result new (early-output es (token_at ws at) short dashed) (reads-output (token_at ws at) dashed) taken
 
 pub token-unknown : (es : List Entry) (ws : List (List ℕ)) (at : ℕ) → is_too_much at (word_at ws at) ≡ false → is_dashed (word_at ws at) ≡ true → option_named (word_at ws at) ≡ None
     → IsFaultAt es (token_at ws at) (fault at UnknownOption)

@@ -26,6 +26,7 @@ use Rattle.ff_words.specs.declared.table.Kind.TheVariants as kind
 use Rattle.ff_words.specs.declared.value.Micros.{Micros}
 use Rattle.ff_words.specs.declared.value.Value.{Value}
 use Rattle.ff_words.specs.declared.value.Value.TheVariants as value
+use Rattle.ff_words.specs.Names.{input_name, trace_name}
 use Rattle.ff_words.specs.Numbers.{size_of}
 use Rattle.ff_words.specs.Options.{hash_name, rf64_name, pixels_name}
 use Rattle.ff_words.specs.Table.{format_named, audio_codec, video_codec, is_level, is_frame_mode, is_sync_mode}
@@ -68,6 +69,10 @@ pixels_value text =
     (if bytes_eq text (pixels_name C422) then Some (value.Pixels C422) else
     (if bytes_eq text (pixels_name C444) then Some (value.Pixels C444) else
     (if bytes_eq text (pixels_name Mono) then Some (value.Pixels Mono) else None)))
+
+abbrev pub name_value : (List ℕ → Value) → Option (List ℕ) → Option Value
+name_value make None = None
+name_value make (Some name) = Some (make name)
 
 abbrev pub size_value : Option Size → Option Value
 size_value None = None
@@ -184,13 +189,13 @@ Reads kind.FrameMode text r = r ≡ or_bad (value_named kind.FrameMode text)
 Reads kind.SyncMode text r = r ≡ or_bad (value_named kind.SyncMode text)
 Reads kind.Complex text r = Makes value.Complex (ReadsGraph text) r
 Reads kind.Queue text r = Makes value.Queue (ReadsWhole 1 1024 text) r
-Reads kind.Trace text r = r ≡ Ok (value.Trace text)
+Reads kind.Trace text r = r ≡ or_bad (name_value value.Trace (trace_name text))
 Reads kind.SelfRun text r = Makes (λ n. value.Solo (SelfRun n)) (ReadsWhole 0 3600 text) r
 Reads kind.Format text r = r ≡ or_bad (value_named kind.Format text)
 Reads kind.Start text r = Makes value.Start (ReadsTime text) r
 Reads kind.Length text r = Makes value.Length (ReadsTime text) r
 Reads kind.End text r = Makes (λ us. value.End us (length text)) (ReadsTime text) r
-Reads kind.Input text r = r ≡ Ok (value.Input text)
+Reads kind.Input text r = r ≡ or_bad (name_value value.Input (input_name text))
 Reads kind.Map text r = Makes value.Map (ReadsMap text) r
 Reads kind.AudioCodec text r = r ≡ or_bad (value_named kind.AudioCodec text)
 Reads kind.VideoCodec text r = r ≡ or_bad (value_named kind.VideoCodec text)

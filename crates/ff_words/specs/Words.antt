@@ -41,6 +41,7 @@ use Rattle.ff_words.specs.declared.table.Concern.{Concern}
 use Rattle.ff_words.specs.declared.table.Concern.TheVariants.{All, Alone, Output, Itself}
 use Rattle.ff_words.specs.declared.value.Value.{Value}
 use Rattle.ff_words.specs.declared.value.Value.TheVariants as value
+use Rattle.ff_words.specs.Names.{stdin, output_name}
 use Rattle.ff_words.specs.Table.{option_named, format_ending}
 use Rattle.ff_words.specs.Values.{Reads, switched}
 
@@ -64,12 +65,6 @@ abbrev pub is_dashed : List ℕ → Bool
 is_dashed [] = false
 is_dashed (b ∷ []) = false
 is_dashed (b ∷ c ∷ bs) = b == 45
-
--- it is `-` alone
-abbrev pub is_lone : List ℕ → Bool
-is_lone [] = false
-is_lone (b ∷ []) = b == 45
-is_lone (b ∷ c ∷ bs) = false
 
 abbrev pub takes : Option Rule → Bool
 takes None = false
@@ -308,10 +303,17 @@ input_job own name = record { name = name; format = last as_format own; cut = ow
 abbrev pub output_format : List Entry → Option FileFormat → Option FileFormat
 output_format own ending = or_else (last as_format own) ending
 
+-- the name of an output of this format; where it goes nowhere the word isn't looked at
+abbrev pub name_as : FileFormat → List ℕ → Option (List ℕ)
+name_as f word = if has_file f then output_name word else Some word
+
+abbrev pub job_name : FileFormat → List ℕ → List ℕ
+job_name f word = unwrap_or (name_as f word) word
+
 abbrev pub output_job : List Entry → List ℕ → Option FileFormat → OutputJob
-output_job own name ending =
+output_job own word ending =
     record {
-      name = name;
+      name = job_name (unwrap_or (output_format own ending) FrameHash) word;
       format = unwrap_or (output_format own ending) FrameHash;
       maps = each as_map own;
       audio = last as_audio own;
@@ -333,7 +335,7 @@ group_input own (value.Input name) = input_job own name ∷ []
 group_input own _ = []
 
 abbrev pub group_output : List Entry → Value → List OutputJob
-group_output own (value.Output name ending) = output_job own name ending ∷ []
+group_output own (value.Output word ending) = output_job own word ending ∷ []
 group_output own _ = []
 
 abbrev pub inputs : List Entry → List InputJob
@@ -385,24 +387,12 @@ abbrev pub option_fault : List Entry → Token → Option Rule → Option Fault
 option_fault es t None = Some (fault t.at UnknownOption)
 option_fault es t (Some rule) = if takes (Some rule) then given_fault es t.at rule.kind t.value else None
 
--- the format is given, and what it takes goes nowhere
-abbrev pub goes_nowhere : Option FileFormat → Bool
-goes_nowhere None = false
-goes_nowhere (Some f) = not (has_file f)
-
--- `-` alone names nothing but an output that goes nowhere
-abbrev pub is_no_name : List ℕ → Option FileFormat → Bool
-is_no_name word format = is_lone word && not (goes_nowhere format)
-
-abbrev pub name_fault : List Entry → Token → Option Fault
-name_fault es t = if is_no_name t.word (last as_format (groups es).behind) then Some (fault t.at UnknownOption) else None
-
 -- What is wrong with a token behind those that were read, before its value is looked at: the word is too much, it is no
--- option, its value is missing, it is one too many, or its value is too much; or it is `-` alone and can't be a name.
+-- option, its value is missing, it is one too many, or its value is too much.
 abbrev pub early : List Entry → Token → Option Fault
 early es t =
     if is_too_much t.at t.word then Some (fault t.at TooMany) else
-    (if is_dashed t.word then option_fault es t (option_named t.word) else name_fault es t)
+    (if is_dashed t.word then option_fault es t (option_named t.word) else None)
 
 abbrev pub placed : ℕ → Result Value WordKind → Result Value Fault
 placed at (Ok v) = Ok v
@@ -469,9 +459,14 @@ abbrev pub bad_at : Option ℕ → Option Fault
 bad_at None = None
 bad_at (Some at) = Some (fault at BadValue)
 
--- an output has a name and a format
+abbrev pub is_some_name : Option (List ℕ) → Bool
+is_some_name None = false
+is_some_name (Some name) = not (length name == 0)
+
+-- an output has a format, and a name that isn't empty
 abbrev pub is_output : List ℕ → Option FileFormat → Bool
-is_output name format = not (length name == 0) && is_some format
+is_output word None = false
+is_output word (Some f) = is_some_name (name_as f word)
 
 -- an end that isn't after the start, where no length is given
 abbrev pub ends_early : ℕ → Option Micros → Option CutEnd → Option Fault
@@ -491,16 +486,16 @@ input_fault es at =
     or_else (own_early (groups es).behind) (bad_at (unreadable (groups es).behind)))
 
 abbrev pub output_fault : List Entry → ℕ → List ℕ → Option FileFormat → Option Fault
-output_fault es at name ending =
+output_fault es at word ending =
     misplaced (first_place not_before_output (groups es).behind)
     (if nat_le 16 (length (outputs es)) then Some (fault at TooMany) else
     or_else (own_early (groups es).behind)
     (or_else (bad_at (unwritable (groups es).behind))
-    (if is_output name (output_format (groups es).behind ending) then None else Some (fault at BadValue))))
+    (if is_output word (output_format (groups es).behind ending) then None else Some (fault at BadValue))))
 
 abbrev pub late : List Entry → ℕ → Value → Option Fault
 late es at (value.Input name) = input_fault es at
-late es at (value.Output name ending) = output_fault es at name ending
+late es at (value.Output word ending) = output_fault es at word ending
 late es at _ = None
 
 -- ---- reading
@@ -544,6 +539,15 @@ repeats (n ∷ ns) others = list_any (λ m. bytes_eq m n) (ns ++ others) || repe
 abbrev pub same_name : Job → Bool
 same_name j = repeats (file_names j.outputs ++ option_to_list j.trace) (read_names j)
 
+-- the name stands twice
+abbrev pub is_twice : List ℕ → List (List ℕ) → Bool
+is_twice name [] = false
+is_twice name (n ∷ ns) = if bytes_eq n name then list_any (λ m. bytes_eq m name) ns else is_twice name ns
+
+-- standard input is read once
+abbrev pub shares_name : Job → Bool
+shares_name j = same_name j || is_twice stdin (read_names j)
+
 -- it reads no file, and none of its graphs makes a stream
 abbrev pub lacks_input : List InputJob → List Graph → Bool
 lacks_input inputs graphs = (length inputs == 0) && not (list_any has_source graphs)
@@ -552,7 +556,7 @@ abbrev pub run_fault : ℕ → Job → Option Fault
 run_fault count j =
     if lacks_input j.inputs j.graphs then Some (fault count NoInput) else
     (if length j.outputs == 0 then Some (fault count NoOutput) else
-    (if same_name j then Some (fault count SameName) else None))
+    (if shares_name j then Some (fault count SameName) else None))
 
 abbrev pub end_by : ℕ → Command → Option Fault
 end_by count (asked.Solo s) = None

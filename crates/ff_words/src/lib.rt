@@ -22,6 +22,7 @@ mod job;
 mod laws;
 /// Stream choices: maps, what they name, and the choice without one.
 pub mod maps;
+mod naming;
 mod numbers;
 mod read;
 mod read_value;

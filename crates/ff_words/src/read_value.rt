@@ -9,6 +9,7 @@ ghost use Rattle.ff_words.specs.Table.{is_level as level_named};
 use crate::error::WordKind;
 use crate::job::Solo;
 use crate::maps::{MapError, MapSpec, read_map};
+use crate::naming::{input_name, trace_name};
 use crate::numbers::{rate_of, size_of};
 use crate::table::{
     Kind, audio_codec, format_of, is_frame_mode, is_level, is_sync_mode, video_codec,
@@ -224,8 +225,14 @@ pub(crate) fn read_value(
             Ok(map) => Ok(Ok(Value::Map(map))),
             Err(kind) => Ok(Err(kind)),
         },
-        Kind::Input => Ok(Ok(Value::Input(text_of(alloc, text)?))),
-        Kind::Trace => Ok(Ok(Value::Trace(text_of(alloc, text)?))),
+        Kind::Input => match input_name(text) {
+            Some(name) => Ok(Ok(Value::Input(text_of(alloc, name)?))),
+            None => Ok(Err(WordKind::BadValue)),
+        },
+        Kind::Trace => match trace_name(text) {
+            Some(name) => Ok(Ok(Value::Trace(text_of(alloc, name)?))),
+            None => Ok(Err(WordKind::BadValue)),
+        },
         kind => Ok(read_small(kind, text)),
     }
 }

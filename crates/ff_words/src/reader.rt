@@ -3,11 +3,12 @@ ghost use Rattle.std.specs.Prelude.{◌≡◌, ◌<◌, ◌≤◌, ◌+◌, OnOk
 ghost use Rattle.ff_words.specs.laws.Reading.{Ended, written_names, word_at, Steps, token_at, width, full, Given, pending_format, with_output, repeats_from};
 ghost use Rattle.ff_words.specs.laws.Reading.{output_wrong as wrong_output, input_wrong as wrong_input, with_input, Taken, pending, reader, noted, valued};
 ghost use Rattle.ff_words.specs.laws.Reading.{optioned, place_unless, early_in};
-ghost use Rattle.ff_words.specs.Words.{none_asked, repeats, texts, is_too_much as never_too_much, is_dashed as dashed, is_lone as lone};
-ghost use Rattle.ff_words.specs.Words.{goes_nowhere, lacks_input, is_no_name as no_name, file_names, output_file, Entry};
+ghost use Rattle.ff_words.specs.Words.{none_asked, repeats, texts, is_too_much as never_too_much, is_dashed as dashed};
+ghost use Rattle.ff_words.specs.Words.{is_twice, lacks_input, name_as as name_by_format, job_name as name_of_job, is_output as can_be_output, file_names, output_file, Entry};
+ghost use Rattle.ff_words.specs.Names.{stdin};
 ghost use Rattle.ff_words.specs.Words.{not_before_input as never_before_input, not_before_output as never_before_output, not_at_end as never_at_end, word_count};
 ghost use Rattle.ff_words.specs.Values.{switched};
-ghost use Rattle.std.specs.Prelude.{map, option_to_list, ◌&&◌};
+ghost use Rattle.std.specs.Prelude.{map, option_map, option_to_list, ◌&&◌, ◌||◌};
 ghost use Rattle.ff_format.specs.Formats.{has_file};
 ghost use Rattle.std.specs.List.{list_any};
 ghost use Rattle.std.specs.Str.{bytes_eq};
@@ -19,6 +20,7 @@ use crate::cuts::{CutEnd, cut, early_end};
 use crate::error::{Fault, WordError, WordKind};
 use crate::job::{Asked, Command, InputJob, Job, OutputJob, Solo};
 use crate::maps::MapSpec;
+use crate::naming::output_name;
 use crate::read_value::{read_value, text_of};
 use crate::table::{Concern, Kind, Rule, find_option, format_ending};
 use crate::value::{Micros, Value};
@@ -299,26 +301,9 @@ impl Reader {
         }
     }
 
-    // Whether the output that waits for its name goes nowhere.
-    fn goes_nowhere(&self) -> bool
-        ensures { result ≡ goes_nowhere self.now.pending.format }
-    {
-        match self.pending.format {
-            Some(format) => !format.has_file(),
-            None => false,
-        }
-    }
-
-    // Whether an argument that isn't dashed can't be the name of the output that waits for it.
-    fn is_no_name(&self, word: &str) -> bool
-        ensures { result ≡ no_name word.now self.now.pending.format }
-    {
-        is_lone(word) && !self.goes_nowhere()
-    }
-
     // What is wrong with an output here.
-    fn output_wrong(&self, at: u32, name: &str, ending: Option<FileFormat>) -> Option<Fault>
-        ensures { result ≡ wrong_output at name.now ending self.now }
+    fn output_wrong(&self, at: u32, word: &str, ending: Option<FileFormat>) -> Option<Fault>
+        ensures { result ≡ wrong_output at word.now ending self.now }
     {
         if let Some(word) = self.pending.before_output {
             return Some(Fault {
@@ -341,7 +326,7 @@ impl Reader {
                 kind: WordKind::BadValue,
             });
         }
-        if name.len() != 0 && self.output_format(ending).is_some() {
+        if is_output(word, self.output_format(ending)) {
             None
         } else {
             Some(Fault {
@@ -355,11 +340,12 @@ impl Reader {
     fn add_output(
         &mut self,
         alloc: Global,
-        name: Text,
+        word: Text,
         format: FileFormat,
     ) -> Result<(), AllocError>
-        ensures { OnOk result (self.new ≡ with_output name format self.old) }
+        ensures { OnOk result (self.new ≡ with_output (name_of_job format word) format self.old) }
     {
+        let name = text_of(alloc, job_name(format, word.as_str()))?;
         let own = mem::replace(&mut self.pending, Pending::new(alloc));
         self.outputs.push(OutputJob {
             name,
@@ -400,13 +386,13 @@ impl Reader {
                 self.add_input(alloc, name)?;
                 Ok(())
             }
-            Value::Output(name, ending) => {
-                match self.output_wrong(at, name.as_str(), ending) {
+            Value::Output(word, ending) => {
+                match self.output_wrong(at, word.as_str(), ending) {
                     Some(fault) => return Err(fault.error()),
                     None => {}
                 }
                 match self.output_format(ending) {
-                    Some(format) => self.add_output(alloc, name, format)?,
+                    Some(format) => self.add_output(alloc, word, format)?,
                     None => {}
                 }
                 Ok(())
@@ -473,12 +459,6 @@ impl Reader {
             });
         }
         if !is_dashed(word) {
-            if self.is_no_name(word) {
-                return Err(WordError::At {
-                    word: at as u32,
-                    kind: WordKind::UnknownOption,
-                });
-            }
             let ending = format_ending(word);
             let name = text_of(alloc, word)?;
             return self.take(
@@ -531,6 +511,14 @@ impl Reader {
             at += 1;
         }
         self.trace_is_read()
+    }
+
+    // The same, or that standard input is read twice.
+    fn shares_name(&self) -> bool
+        ensures { result ≡ (repeats (written_names self.now) (map (λ (i : InputJob). i.name) self.now.inputs)
+            || is_twice stdin (map (λ (i : InputJob). i.name) self.now.inputs)) }
+    {
+        self.same_name() || is_input_twice(self.inputs.as_slice(), "/dev/stdin")
     }
 
     fn trace_is_read(&self) -> bool
@@ -600,7 +588,7 @@ impl Reader {
                 kind: WordKind::NoOutput,
             });
         }
-        if self.same_name() {
+        if self.shares_name() {
             return Err(WordError::At {
                 word: count as u32,
                 kind: WordKind::SameName,
@@ -668,6 +656,56 @@ fn is_input_name(inputs: &[InputJob], name: &str) -> bool
     false
 }
 
+// Whether two inputs have this name.
+fn is_input_twice(inputs: &[InputJob], name: &str) -> bool
+    ensures { result ≡ is_twice name.now (map (λ (i : InputJob). i.name) inputs.now) }
+{
+    let mut seen = false;
+    for input in inputs.iter() {
+        if input.name.as_str() == name {
+            if seen {
+                return true;
+            }
+            seen = true;
+        }
+    }
+    false
+}
+
+// The name of an output of this format, of its word.
+fn name_as(format: FileFormat, word: &str) -> Option<&str>
+    ensures { option_map (λ s. s.now) result ≡ name_by_format format word.now }
+{
+    if format.has_file() {
+        output_name(word)
+    } else {
+        Some(word)
+    }
+}
+
+// The same, and where the word gives no name the word.
+fn job_name(format: FileFormat, word: &str) -> &str
+    ensures { result.now ≡ name_of_job format word.now }
+{
+    match name_as(format, word) {
+        Some(name) => name,
+        None => word,
+    }
+}
+
+// Whether the word is an output of this format.
+fn is_output(word: &str, format: Option<FileFormat>) -> bool
+    ensures { result ≡ can_be_output word.now format }
+{
+    match format {
+        Some(format) => match name_as(format, word) {
+            Some(name) => name.len() != 0,
+            None => false,
+        },
+        None => false,
+    }
+}
+
 fn word_text(words: &[String], place: usize) -> &str
     requires { place < length words.now }
     ensures { result.now ≡ word_at (texts words.now) place }
@@ -708,16 +746,6 @@ fn is_dashed(word: &str) -> bool
         [] => false,
         [_] => false,
         [first, ..] => *first == b'-',
-    }
-}
-
-// Whether an argument is `-` alone.
-fn is_lone(word: &str) -> bool
-    ensures { result ≡ lone word.now }
-{
-    match word.as_bytes() {
-        [first] => *first == b'-',
-        _ => false,
     }
 }
 

@@ -80,6 +80,6 @@ pub enum Value {
     Hash(HashKind),
     /// When an output is RF64.
     Rf64(Rf64),
-    /// A name of an output, and the format that its ending tells.
+    /// The word that names an output, and the format that its ending tells.
     Output(Text, Option<FileFormat>),
 }

@@ -1,7 +1,8 @@
 -- Words that ask for a command: of a job its options one by one, then its inputs and its outputs, each behind its own options.
-use Rattle.std.specs.Prelude.{◌≡◌, ℕ, ◌<◌, ◌≤◌, ◌^◌, Bool, true, false, Option, Some, None, List, ◌∷◌, [], ◌++◌, length, flat_map, codes}
+use Rattle.std.specs.Prelude.{◌≡◌, ℕ, ◌<◌, ◌≤◌, ◌^◌, Bool, true, false, not, ◌&&◌, Option, Some, None, List, ◌∷◌, [], ◌++◌, length, flat_map, codes}
 use Rattle.std.specs.List.{AllByRecursion}
 use Rattle.std.specs.Fmt.{decimal}
+use Rattle.std.specs.Str.{bytes_eq}
 use Rattle.ff_frame.specs.Codecs.{codec_name, coding_of}
 use Rattle.ff_frame.specs.declared.coding.Coding.{Coding}
 use Rattle.ff_frame.specs.declared.coding.Coding.TheVariants.{Pcm, Flac, RawVideo}
@@ -28,8 +29,9 @@ use Rattle.ff_words.specs.declared.job.Command.TheVariants as asked
 use Rattle.ff_words.specs.declared.job.Solo.{Solo}
 use Rattle.ff_words.specs.declared.job.Solo.TheVariants.{Help, Version, SelfRun}
 use Rattle.ff_format.specs.Formats.{format_name, is_read, is_written, has_file}
+use Rattle.ff_words.specs.Names.{stdin, input_name, trace_name}
 use Rattle.ff_words.specs.Options.{hash_name, rf64_name, pixels_name}
-use Rattle.ff_words.specs.Words.{is_dashed, is_lone, lacks_input, same_name, none_asked}
+use Rattle.ff_words.specs.Words.{is_dashed, is_twice, lacks_input, name_as, none_asked, read_names, same_name}
 use Rattle.ff_words.specs.declared.job.Asked.{Asked}
 use Rattle.ff_words.specs.declared.job.Size.{Size}
 use Rattle.ff_time.specs.Fraction.{Fraction, IsBase}
@@ -59,6 +61,30 @@ rate_text base = decimal base.den ++ 47 ∷ decimal base.num
 
 abbrev pub size_text : Size → List ℕ
 size_text s = decimal s.width ++ 120 ∷ decimal s.height
+
+-- ---- names
+
+abbrev pub is_itself : Option (List ℕ) → List ℕ → Bool
+is_itself None name = false
+is_itself (Some read) name = bytes_eq read name
+
+-- a name that isn't read as itself stands behind `file:`
+abbrev pub spelled : Bool → List ℕ → List ℕ
+spelled true name = name
+spelled false name = codes "file:" ++ name
+
+abbrev pub input_text : List ℕ → List ℕ
+input_text name = spelled (is_itself (input_name name) name) name
+
+abbrev pub trace_text : List ℕ → List ℕ
+trace_text name = spelled (is_itself (trace_name name) name) name
+
+-- it is no option, and is read as itself
+abbrev pub as_it_stands : FileFormat → List ℕ → Bool
+as_it_stands f name = not (is_dashed name) && is_itself (name_as f name) name
+
+abbrev pub output_text : FileFormat → List ℕ → List ℕ
+output_text f name = spelled (as_it_stands f name) name
 
 -- ---- words
 
@@ -93,7 +119,7 @@ all_of [] = []
 all_of (first ∷ others) = first ++ all_of others
 
 abbrev pub input_words : InputJob → List (List ℕ)
-input_words i = all_of (where_some format_words i.format ∷ start_words i.cut.start ∷ length_words i.cut.length ∷ given (codes "-i") i.name ∷ [])
+input_words i = all_of (where_some format_words i.format ∷ start_words i.cut.start ∷ length_words i.cut.length ∷ given (codes "-i") (input_text i.name) ∷ [])
 
 abbrev pub map_words : MapSpec → List (List ℕ)
 map_words m = given (codes "-map") (map_text m)
@@ -155,7 +181,7 @@ output_words o =
     hash_words o.hash ∷
     rf64_words o.rf64 ∷
     format_words o.format ∷
-    (o.name ∷ []) ∷
+    (output_text o.format o.name ∷ []) ∷
     []
     )
 
@@ -163,7 +189,7 @@ abbrev pub graph_words : Graph → List (List ℕ)
 graph_words g = given (codes "-filter_complex") (printed g)
 
 abbrev pub trace_words : Option (List ℕ) → List (List ℕ)
-trace_words trace = where_some (given (codes "-sched_trace")) trace
+trace_words trace = where_some (λ name. given (codes "-sched_trace") (trace_text name)) trace
 
 abbrev pub keeps_words : Bool → List (List ℕ)
 keeps_words keeps = where_true (codes "-n") keeps
@@ -231,7 +257,7 @@ WhereSome Is None = Unit {0}
 WhereSome Is (Some x) = Is x
 
 pub record IsFineInput (i : InputJob) : Type 0 where
-  pub name : IsFineText i.name
+  pub name : IsFineText (input_text i.name)
   pub format : WhereSome IsReadFormat i.format
 
 abbrev pub IsFineSize : Size → Type 0
@@ -244,10 +270,9 @@ pub record IsFineAsked (a : Asked) : Type 0 where
   pub size : WhereSome IsFineSize a.size
 
 pub record IsFineOutput (o : OutputJob) : Type 0 where
-  pub name : IsFineText o.name
+  pub name : IsFineText (output_text o.format o.name)
   pub some_name : 0 < length o.name
-  pub plain_name : is_dashed o.name ≡ false
-  pub lone_name : is_lone o.name ≡ true → has_file o.format ≡ false
+  pub plain_name : has_file o.format ≡ false → is_dashed o.name ≡ false
   pub format : is_written o.format ≡ true
   pub few_maps : length o.maps ≤ 16
   pub maps : AllByRecursion IsFineMap o.maps
@@ -263,11 +288,12 @@ abbrev pub IsPlainOutput : OutputJob → Type 0
 IsPlainOutput o = (o.rf64 ≡ Never) × (o.frames ≡ None) × (o.asked ≡ none_asked)
 
 -- Each number is in its range, each name and text is short enough, the names of outputs are names of outputs, each format can be read or
--- written, there are at most sixteen of what there may be sixteen of, an output, and an input or a graph that makes a stream. No written name stands twice.
+-- written, there are at most sixteen of what there may be sixteen of, an output, and an input or a graph that makes a stream. No written name stands twice,
+-- and standard input is one input at most.
 pub record IsFineJob (j : Job) : Type 0 where
   pub some_queue : 1 ≤ j.queue
   pub short_queue : j.queue ≤ 1024
-  pub trace : WhereSome IsFineText j.trace
+  pub trace : WhereSome (λ name. IsFineText (trace_text name)) j.trace
   pub few_graphs : length j.graphs ≤ 16
   pub graphs : AllByRecursion IsFineGraph j.graphs
   pub some_inputs : lacks_input j.inputs j.graphs ≡ false
@@ -277,6 +303,7 @@ pub record IsFineJob (j : Job) : Type 0 where
   pub few_outputs : length j.outputs ≤ 16
   pub outputs : AllByRecursion IsFineOutput j.outputs
   pub names : same_name j ≡ false
+  pub one_stdin : is_twice stdin (read_names j) ≡ false
 
 abbrev pub IsFineSolo : Solo → Type 0
 IsFineSolo Help = Unit {0}

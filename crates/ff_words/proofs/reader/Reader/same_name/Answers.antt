@@ -1,4 +1,4 @@
-use Rattle.std.proofs.Common.{sym, ◌∙◌, ap, map, arith}
+use Rattle.std.proofs.Common.{◌∙◌, map, arith}
 use Rattle.std.specs.Prelude.{option_to_list}
 use Rattle.ff_words.specs.declared.job.InputJob.{InputJob}
 use Rattle.ff_words.proofs.Names.{name-fresh}

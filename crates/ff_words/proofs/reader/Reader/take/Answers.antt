@@ -13,5 +13,5 @@ returns-in_ok-add-in_default c es h =
 
 pub returns-in_ok-add_output-in-Some-output_format : goal.returns-in_ok-add_output-in-Some-output_format
 returns-in_ok-add_output-in-Some-output_format c es h =
-    taken-output es c.args.at c.args.concern c.args.value c.in-Output.name c.in-Output.ending c.in-Some-output_format.format c.args.self.now c.add_output.new.self c.in-Output.is h
+    taken-output es c.args.at c.args.concern c.args.value c.in-Output.word c.in-Output.ending c.in-Some-output_format.format c.args.self.now c.add_output.new.self c.in-Output.is h
     (sym c.in-None-output_wrong.is ∙ (c.output_wrong.ensures ∙ ap (λ n. output_wrong c.args.at n c.in-Output.ending c.args.self.now) c.as_str.ensures)) (sym c.in-Some-output_format.is ∙ c.output_format.ensures) c.in_ok-add_output-in-Some-output_format.ensures
