@@ -1,5 +1,6 @@
 -- What the nodes of a plan are there for, by the definitions of formats and codecs.
 use Rattle.std.specs.Prelude.{◌≡◌, ℕ, ◌≤◌, Bool, true, false, List, length, map}
+use Rattle.std.specs.Str.{bytes_eq}
 use Rattle.ff_trim.specs.declared.counted.OutputCut.{OutputCut}
 use Rattle.ff_frame.specs.Heads.{base_of_head}
 use Rattle.ff_frame.specs.Codecs.{coding_of}
@@ -35,6 +36,7 @@ use Rattle.ff_plan_rules.specs.Rules.{graph_rules}
 use Rattle.ff_run_plan.specs.Kinds.{KindsOf}
 use Rattle.ff_node_sync.specs.JointTask.{joint_task}
 use Rattle.ff_source.specs.Sources.{CanGive}
+use Rattle.ff_words.specs.Names.{stdout}
 use Rattle.ff_words.specs.declared.job.OutputJob.{OutputJob}
 
 abbrev pub is_flac_coding : Coding → Bool
@@ -78,7 +80,7 @@ told_graph g text heads cuts = record (graph_task text heads cuts) { tells = bes
 
 -- what the options of an output say to its format
 abbrev pub options_of : OutputJob → OutputOptions
-options_of out = record { hash = out.hash; rf64 = out.rf64 }
+options_of out = record { hash = out.hash; rf64 = out.rf64; streamed = bytes_eq out.name stdout }
 
 -- what a demuxer of an input with this head is there for, where the streams of these numbers are used, by the input's bytes
 abbrev pub demux_task_of : ℕ → InputHead → List ℕ → List ℕ → Task

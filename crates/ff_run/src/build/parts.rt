@@ -55,6 +55,7 @@ fn options_of(out: &OutputJob) -> OutputOptions
     OutputOptions {
         hash: out.hash,
         rf64: out.rf64,
+        streamed: out.name.as_str() == "/dev/stdout",
     }
 }
 

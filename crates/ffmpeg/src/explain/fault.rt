@@ -45,9 +45,10 @@ fn name_in<'a>(line: &CommandLine<'a>, words: usize, status: &Status) -> Option<
             first: 0,
             name: words,
         };
-        return line.last_value(all, Kind::Trace);
+        let name = line.last_value(all, Kind::Trace)?;
+        return Some(name.strip_prefix("file:").unwrap_or(name));
     }
-    file_of(line, status).map(|file| line.word(file.name))
+    file_of(line, status).map(|file| line.named(file.name))
 }
 
 /// The name of the file that a status names, if it names one.

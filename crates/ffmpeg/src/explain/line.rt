@@ -51,6 +51,23 @@ impl<'a> CommandLine<'a> {
         }
     }
 
+    /// The name of the file that the word at a place stands for.
+    pub(crate) fn named(&self, place: usize) -> &'a str {
+        let word = self.word(place);
+        let name = word.strip_prefix("file:").unwrap_or(word);
+        match self.role(place) {
+            Some(Role::Value(Kind::Input)) => match word {
+                "-" | "pipe:" | "pipe:0" => "/dev/stdin",
+                _ => name,
+            },
+            Some(Role::Output) => match word {
+                "-" | "pipe:" | "pipe:1" => "/dev/stdout",
+                _ => name,
+            },
+            _ => name,
+        }
+    }
+
     /// What the word at a place is.
     pub(crate) fn role(&self, place: usize) -> Option<Role> {
         self.roles.get(place).copied()
@@ -61,7 +78,7 @@ impl<'a> CommandLine<'a> {
         if self.role(place) != Some(Role::Output) || self.goes_nowhere(place) {
             return None;
         }
-        Some(self.word(place))
+        Some(self.named(place))
     }
 
     /// Whether files that are there are kept: the last of `-n` and `-y` counts.
@@ -168,7 +185,7 @@ impl<'a> CommandLine<'a> {
             if is_name
                 && other != place
                 && !self.goes_nowhere(other)
-                && self.word(other) == self.word(place)
+                && self.named(other) == self.named(place)
             {
                 return true;
             }

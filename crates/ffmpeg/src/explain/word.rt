@@ -17,9 +17,6 @@ fn option_names(told: &mut Told) -> Vec<&'static str> {
 }
 
 fn tell_unknown(told: &mut Told, word: &str) {
-    if word == "-" {
-        return told.text("- alone names no file: only an output with -f null has such a name");
-    }
     let names = option_names(told);
     tell_clipped(told, word);
     told.text(" isn't an option");
@@ -65,13 +62,25 @@ fn tell_bad_value(told: &mut Told, line: &CommandLine, place: usize, kind: Kind)
     }
 }
 
-// The name of an output that has no format.
-fn tell_bad_output(told: &mut Told, name: &str) {
+// Whether a word begins with `pipe:` or a protocol, and names no file.
+fn is_foreign(word: &str) -> bool {
+    match word.split_once("://") {
+        Some((scheme, _)) => !scheme.is_empty() && !scheme.contains('/'),
+        None => word.starts_with("pipe:"),
+    }
+}
+
+// The name of an output that is no file, or has no format.
+fn tell_bad_output(told: &mut Told, line: &CommandLine, place: usize) {
+    let (word, name) = (line.word(place), line.named(place));
     if name.is_empty() {
         return told.text("an output has an empty name");
     }
     told.text("output ");
-    tell_quoted(told, name);
+    tell_quoted(told, word);
+    if name == word && is_foreign(word) {
+        return told.text(" is no file: an output is a file, or - for standard output");
+    }
     told.text(" tells no format: it doesn't end in ");
     let endings = endings(told);
     tell_listed(told, endings.as_slice(), " or ");
@@ -81,7 +90,7 @@ fn tell_bad_output(told: &mut Told, name: &str) {
 fn tell_bad(told: &mut Told, line: &CommandLine, place: usize) {
     match line.role(place) {
         Some(Role::Value(kind)) => tell_bad_value(told, line, place, kind),
-        _ => tell_bad_output(told, line.word(place)),
+        _ => tell_bad_output(told, line, place),
     }
 }
 
@@ -145,7 +154,7 @@ fn tell_same_name(told: &mut Told, line: &CommandLine) {
             tell_quoted(told, name);
             told.text(" would be written, and it is the name of another file of this command");
         }
-        None => told.text("a file that is written has the name of another one"),
+        None => told.text("standard input is read by one input alone"),
     }
 }
 
