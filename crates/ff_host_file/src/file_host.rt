@@ -11,7 +11,7 @@ use ff_host::{Failed, Host, HostError, Marks, Table, make_room, marks_of, set_ma
 use std::alloc::{AllocError, Global};
 use std::collections::BTreeMap;
 use std::fs;
-use std::fs::OpenFile;
+use std::fs::{OpenFile, OpenOptions};
 use std::io::{BufReader, BufWriter, Eprint, ErrorKind};
 use std::rt::Files;
 use std::time::Clock;
@@ -89,7 +89,7 @@ impl<R: Files + Drop> FileHost<R> {
         Ok(Opened { file, id, size })
     }
 
-    // Makes a file empty that nothing reads or writes.
+    // Makes a file empty that nothing reads or writes. Standard output keeps what was written there before.
     fn create_other(&self, name: &str) -> Result<(R::File, Option<FileId>), Cause> {
         if let Ok(there) = fs::metadata(&self.files, name) {
             let id = id_of(&there);
@@ -97,7 +97,13 @@ impl<R: Files + Drop> FileHost<R> {
                 return Err(Cause::InUse);
             }
         }
-        let file = fs::create(&self.files, name)?;
+        let file = if name == "/dev/stdout" {
+            let mut options = OpenOptions::new();
+            options.append(true);
+            options.open(&self.files, name)?
+        } else {
+            fs::create(&self.files, name)?
+        };
         let id = id_of(&file.metadata()?);
         Ok((file, id))
     }
